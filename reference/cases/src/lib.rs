@@ -1,0 +1,6 @@
+//! Random calls for the comparisons and the benchmark: a seeded generator, and
+//! builders that know document 01's formats by themselves, apart from the
+//! reference, so that a slip in the reference can't hide here.
+
+pub mod random;
+pub mod tapes;

@@ -1,0 +1,17 @@
+//! The quote store once more, written from document 01 alone, in the plainest
+//! way. It is no part of the proved store: the proved one is compared with it.
+
+pub mod device;
+
+/// Document 01, 'Each call and when it says no': "A refusal gives its number
+/// and edit number from 0 (0 unless 5 to 11 in a transaction)."
+#[derive(Clone, Copy, Debug, PartialEq, Eq)]
+pub struct Refusal {
+    pub number: u8,
+    pub edit: usize,
+}
+
+/// A refusal that names no edit.
+pub fn refuse<T>(number: u8) -> Result<T, Refusal> {
+    Err(Refusal { number, edit: 0 })
+}

@@ -58,7 +58,7 @@ impl Command {
 /// "An image has N pages, 8 to 64." Refusal 1 of every call.
 pub fn check_length(image: &[u8]) -> Result<(), Refusal> {
     let pages = image.len() / PAGE;
-    if image.len() % PAGE != 0 || pages < 8 || pages > 64 {
+    if !image.len().is_multiple_of(PAGE) || !(8..=64).contains(&pages) {
         return refuse(1);
     }
     Ok(())

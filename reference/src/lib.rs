@@ -2,6 +2,8 @@
 //! way. It is no part of the proved store: the proved one is compared with it.
 
 pub mod device;
+pub mod image;
+pub mod page;
 
 /// Document 01, 'Each call and when it says no': "A refusal gives its number
 /// and edit number from 0 (0 unless 5 to 11 in a transaction)."

@@ -23,7 +23,11 @@ fn number(answer: Result<(), reference::Refusal>) -> u8 {
 }
 
 fn reference_run(call: &mut DeviceCall) -> u8 {
-    number(reference::device::run(&call.image, &mut call.work, &call.tape))
+    number(reference::device::run(
+        &call.image,
+        &mut call.work,
+        &call.tape,
+    ))
 }
 
 fn proved_run(call: &mut DeviceCall) -> u8 {
@@ -62,9 +66,9 @@ fn compare(
     let mut right = call.clone();
     let wanted = reference(&mut left);
     let given = proved(&mut right);
-    assert_eq!(given, wanted, "answer of call {which}, seed {SEED}");
+    assert_eq!(given, wanted, "answer of call {which}");
     // Not assert_eq: that would print whole images.
-    assert!(left == right, "buffers of call {which}, answer {wanted}, seed {SEED}");
+    assert!(left == right, "buffers of call {which}, answer {wanted}");
     if wanted != 0 {
         assert!(left == *call, "the reference's refused call {which}");
     }
@@ -73,11 +77,12 @@ fn compare(
 
 fn print(name: &str, answers: &Answers) {
     let total: usize = answers.values().sum();
-    println!("{name}: {total} calls; times each answer was given (0 is accepted): {answers:?}");
+    println!("{name}: {total} calls; how often each answer came (0 is accepted): {answers:?}");
 }
 
 #[test]
 fn run_is_the_references() {
+    println!("seed {SEED}");
     let mut random = Random::new(SEED);
     let mut answers = Answers::new();
     let mut changed = 0;
@@ -87,7 +92,6 @@ fn run_is_the_references() {
         *answers.entry(answer).or_default() += 1;
         changed += usize::from(answer == 0 && after.work != call.image);
     }
-    println!("seed {SEED}");
     print("run", &answers);
     println!("run: {changed} accepted calls whose stores changed the image");
     assert_eq!(answers.keys().copied().collect::<Vec<u8>>(), [0, 1, 2, 14]);
@@ -97,6 +101,7 @@ fn run_is_the_references() {
 
 #[test]
 fn cut_is_the_references() {
+    println!("seed {}", SEED + 1);
     let mut random = Random::new(SEED + 1);
     let mut answers = Answers::new();
     let mut partial = 0;
@@ -110,10 +115,12 @@ fn cut_is_the_references() {
             partial += usize::from(after.work != call.image && after.work != whole.work);
         }
     }
-    println!("seed {}", SEED + 1);
     print("cut", &answers);
     println!("cut: {partial} accepted calls that kept some stores and lost some");
-    assert_eq!(answers.keys().copied().collect::<Vec<u8>>(), [0, 1, 2, 14, 15, 16]);
+    assert_eq!(
+        answers.keys().copied().collect::<Vec<u8>>(),
+        [0, 1, 2, 14, 15, 16]
+    );
     assert!(answers.values().all(|&times| times > CALLS / 200));
     assert!(partial > CALLS / 8);
 }

@@ -6,7 +6,7 @@ use mathlib.Core.List.{List, [], _∷_, _++_, append-assoc, append-nil, map}
 use mathlib.Core.Logic.{_⊎_, inl, inr}
 use native.Mathlib.Omega.{arith}
 use native.Mathlib.Numerals.{add-one}
-use native.Mathlib.Nat.{add-zero, not-suc-le-zero, sub-zero}
+use native.Mathlib.Nat.{add-zero, add-suc, not-suc-le-zero, sub-zero}
 use lib.ListN.{length, getD, take, drop, set, replicate, length-append, length-take, length-drop, length-set, length-replicate, take-append-drop, drop-of-length-le}
 use lib.Seq.{sets, sets-eq, length-sets, take-at, drop-at, take-append-le, drop-append-le, drop-append-add, take-take, drop-drop, take-length, drop-cons, getD-take, getD-drop, getD-set-other, ext-getD, set-comm}
 use Rattle.codec.specs.Lists.{part, splice, insertAt, removeAt}
@@ -86,6 +86,10 @@ module _ (l : List ℕ) (o : ℕ) (new : List ℕ) (fits : o + length new ≤ le
       ∙ sym (part-append-left (take o l) (drop o l) a n k)
       ∙ ap (λ (x : List ℕ). part x a n) (take-append-drop o l)
 
+-- what is written at the front of a list is read back from there
+pub part-front : (z x l : List ℕ) (n : ℕ) → l ≡ splice z 0 x → length x ≡ n → n ≤ length z → part l 0 n ≡ x
+part-front z x l n e k h = ap (λ (m : List ℕ). part m 0 n) e ∙ part-splice-same z 0 x (omega arith) n k
+
 -- ---- stores one by one: where the region fits, they are a part written over
 
 pub splice-sets : (l : List ℕ) (o : ℕ) (vs : List ℕ) → o + length vs ≤ length l → splice l o vs ≡ sets l o vs
@@ -147,12 +151,50 @@ unfolding splice
 sets-over l vs h =
     sym (splice-sets l 0 vs (omega arith)) ∙ ap (λ (r : List ℕ). vs ++ r) (drop-of-length-le l {i = 0 + length vs} (omega arith)) ∙ append-nil vs
 
+pub splice-over : (l vs : List ℕ) → length vs ≡ length l → splice l 0 vs ≡ vs
+splice-over l vs h = splice-sets l 0 vs (omega arith) ∙ sets-over l vs h
+
 -- what is left to store, one element less: for a loop that stores T from the front
 pub sets-next : (l T : List ℕ) (j v : ℕ) → j < length T → v ≡ getD T j 0 → sets l j (drop j T) ≡ sets (set l j v) (j + 1) (drop (j + 1) T)
 sets-next l T j v h e = rw (drop-cons T j 0 h, e, add-one)
 
 pub sets-done : (l T : List ℕ) (j : ℕ) → length T ≤ j → sets l j (drop j T) ≡ l
 sets-done l T j h = rw (drop-of-length-le T {i = j} h)
+
+-- the same from place `at` on
+pub sets-on : (l T : List ℕ) (at i v : ℕ) → i < length T → v ≡ getD T i 0 → sets l (at + i) (drop i T) ≡ sets (set l (at + i) v) (at + (i + 1)) (drop (i + 1) T)
+sets-on l T at i v h e = rw (drop-cons T i 0 h, e, add-one, add-suc)
+
+-- once all is stored, T is written over what was there
+pub sets-whole : (l l₀ T : List ℕ) (at i : ℕ) → length T ≤ i → at + length T ≤ length l₀ → sets l (at + i) (drop i T) ≡ sets l₀ at T → l ≡ splice l₀ at T
+sets-whole l l₀ T at i h fits e =
+    sym (ap (sets l (at + i)) (drop-of-length-le T {i = i} h)) ∙ e ∙ sym (splice-sets l₀ at T fits)
+
+-- ---- eight elements, one by one
+
+pub splice-eight : (l : List ℕ) (at b0 b1 b2 b3 b4 b5 b6 b7 : ℕ) → at + 8 ≤ length l →
+    set (set (set (set (set (set (set (set l at b0) (at + 1) b1) (at + 2) b2) (at + 3) b3) (at + 4) b4) (at + 5) b5) (at + 6) b6) (at + 7) b7 ≡ splice l at (b0 ∷ b1 ∷ b2 ∷ b3 ∷ b4 ∷ b5 ∷ b6 ∷ b7 ∷ [])
+splice-eight l at b0 b1 b2 b3 b4 b5 b6 b7 fits =
+    let e1 : at + 1 ≡ suc at = omega arith in
+    let e2 : at + 2 ≡ suc (suc at) = omega arith in
+    let e3 : at + 3 ≡ suc (suc (suc at)) = omega arith in
+    let e4 : at + 4 ≡ suc (suc (suc (suc at))) = omega arith in
+    let e5 : at + 5 ≡ suc (suc (suc (suc (suc at)))) = omega arith in
+    let e6 : at + 6 ≡ suc (suc (suc (suc (suc (suc at))))) = omega arith in
+    let e7 : at + 7 ≡ suc (suc (suc (suc (suc (suc (suc at)))))) = omega arith in
+    rw (e1, e2, e3, e4, e5, e6, e7) (sym (splice-sets l at (b0 ∷ b1 ∷ b2 ∷ b3 ∷ b4 ∷ b5 ∷ b6 ∷ b7 ∷ []) fits))
+
+pub part-eight : (l : List ℕ) (o : ℕ) → o + 8 ≤ length l → part l o 8 ≡ getD l o 0 ∷ getD l (o + 1) 0 ∷ getD l (o + 2) 0 ∷ getD l (o + 3) 0 ∷ getD l (o + 4) 0 ∷ getD l (o + 5) 0 ∷ getD l (o + 6) 0 ∷ getD l (o + 7) 0 ∷ []
+unfolding part
+part-eight l o h =
+    let e1 : o + 1 ≡ suc o = omega arith in
+    let e2 : o + 2 ≡ suc (suc o) = omega arith in
+    let e3 : o + 3 ≡ suc (suc (suc o)) = omega arith in
+    let e4 : o + 4 ≡ suc (suc (suc (suc o))) = omega arith in
+    let e5 : o + 5 ≡ suc (suc (suc (suc (suc o)))) = omega arith in
+    let e6 : o + 6 ≡ suc (suc (suc (suc (suc (suc o))))) = omega arith in
+    let e7 : o + 7 ≡ suc (suc (suc (suc (suc (suc (suc o)))))) = omega arith in
+    rw (e1, e2, e3, e4, e5, e6, e7, drop-cons l o 0 (omega arith), drop-cons l (suc o) 0 (omega arith), drop-cons l (suc (suc o)) 0 (omega arith), drop-cons l (suc (suc (suc o))) 0 (omega arith), drop-cons l (suc (suc (suc (suc o)))) 0 (omega arith), drop-cons l (suc (suc (suc (suc (suc o))))) 0 (omega arith), drop-cons l (suc (suc (suc (suc (suc (suc o)))))) 0 (omega arith), drop-cons l (suc (suc (suc (suc (suc (suc (suc o))))))) 0 (omega arith))
 
 -- ---- one element put in or taken out
 

@@ -2,5 +2,7 @@
 //! builders that know document 01's formats by themselves, apart from the
 //! reference, so that a slip in the reference can't hide here.
 
+pub mod damage;
+pub mod images;
 pub mod random;
 pub mod tapes;

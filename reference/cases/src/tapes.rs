@@ -15,8 +15,27 @@ pub struct DeviceCall {
 
 /// The lengths about each limit, and some that are no whole pages.
 const LENGTHS: [usize; 21] = [
-    0, 1, 63, 64, 1023, 1024, 7 * 1024, 8191, 8192, 8193, 8200, 8256, 9 * 1024, 9 * 1024 + 512,
-    63 * 1024, 65535, 65536, 65537, 65536 + 64, 65536 + 1024, 72 * 1024,
+    0,
+    1,
+    63,
+    64,
+    1023,
+    1024,
+    7 * 1024,
+    8191,
+    8192,
+    8193,
+    8200,
+    8256,
+    9 * 1024,
+    9 * 1024 + 512,
+    63 * 1024,
+    65535,
+    65536,
+    65537,
+    65536 + 64,
+    65536 + 1024,
+    72 * 1024,
 ];
 
 /// What kinds of commands a tape has.
@@ -41,7 +60,13 @@ pub fn any_call(random: &mut Random) -> DeviceCall {
     let tape = any_tape(random, &commands, image_length);
     let c = any_count(random, commands.len());
     let choices = any_choices(random, image_length / 64);
-    DeviceCall { image, work, tape, c, choices }
+    DeviceCall {
+        image,
+        work,
+        tape,
+        c,
+        choices,
+    }
 }
 
 /// A tape of good commands of the given sort, each command on its own.
@@ -94,7 +119,14 @@ fn any_commands(random: &mut Random, image_length: usize) -> Vec<Vec<u8>> {
         1 => return long_commands(random, lines),
         _ => random.between(1, 40),
     };
-    let mix = random.pick(&[Mix::All, Mix::All, Mix::All, Mix::Words, Mix::Lines, Mix::Flushes]);
+    let mix = random.pick(&[
+        Mix::All,
+        Mix::All,
+        Mix::All,
+        Mix::Words,
+        Mix::Lines,
+        Mix::Flushes,
+    ]);
     (0..count).map(|_| command(random, mix, &places)).collect()
 }
 

@@ -28,6 +28,22 @@ mod interface {
             choices: *mut u8,
             choices_length: usize,
         ) -> u8;
+        pub fn quote_format(image: *mut u8, image_length: usize) -> u8;
+        pub fn quote_check(image: *mut u8, image_length: usize) -> u8;
+        pub fn quote_lookup(
+            image: *mut u8,
+            image_length: usize,
+            key: u64,
+            answer: *mut u64,
+            answer_length: usize,
+        ) -> u8;
+        pub fn quote_next_key(
+            image: *mut u8,
+            image_length: usize,
+            key: u64,
+            answer: *mut u64,
+            answer_length: usize,
+        ) -> u8;
     }
 }
 
@@ -47,13 +63,7 @@ pub fn run(image: &mut [u8], work: &mut [u8], tape: &mut [u8]) -> u8 {
 }
 
 #[inline]
-pub fn cut(
-    image: &mut [u8],
-    work: &mut [u8],
-    tape: &mut [u8],
-    c: usize,
-    choices: &mut [u8],
-) -> u8 {
+pub fn cut(image: &mut [u8], work: &mut [u8], tape: &mut [u8], c: usize, choices: &mut [u8]) -> u8 {
     // Sound: each pointer is lent with its own length, for this call alone.
     unsafe {
         interface::quote_cut(
@@ -66,6 +76,50 @@ pub fn cut(
             c,
             choices.as_mut_ptr(),
             choices.len(),
+        )
+    }
+}
+
+#[inline]
+pub fn format(image: &mut [u8]) -> u8 {
+    // Sound: the pointer is lent with its own length, for this call alone.
+    unsafe { interface::quote_format(image.as_mut_ptr(), image.len()) }
+}
+
+#[inline]
+pub fn check(image: &mut [u8]) -> u8 {
+    // Sound: the pointer is lent with its own length, for this call alone.
+    unsafe { interface::quote_check(image.as_mut_ptr(), image.len()) }
+}
+
+/// The answer is 1, offset and length if the key is found, 0, 0 and 0 if it is
+/// missing; it stays as it was on a refusal.
+#[inline]
+pub fn lookup(image: &mut [u8], key: u64, answer: &mut [u64; 3]) -> u8 {
+    // Sound: each pointer is lent with its own length, for this call alone.
+    unsafe {
+        interface::quote_lookup(
+            image.as_mut_ptr(),
+            image.len(),
+            key,
+            answer.as_mut_ptr(),
+            answer.len(),
+        )
+    }
+}
+
+/// The answer is 1 and the next key, or 0 and 0 if there is none; it stays as
+/// it was on a refusal.
+#[inline]
+pub fn next_key(image: &mut [u8], key: u64, answer: &mut [u64; 2]) -> u8 {
+    // Sound: each pointer is lent with its own length, for this call alone.
+    unsafe {
+        interface::quote_next_key(
+            image.as_mut_ptr(),
+            image.len(),
+            key,
+            answer.as_mut_ptr(),
+            answer.len(),
         )
     }
 }

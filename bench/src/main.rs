@@ -1,0 +1,20 @@
+//! Times of the proved store beside the reference and beside `lean`, a version
+//! optimised by hand and not verified: the floor of cost when nothing is
+//! wasted. All three must first agree on random calls.
+
+mod device;
+mod image;
+mod lean;
+mod measure;
+
+fn main() {
+    device::check();
+    image::check();
+    println!(
+        "Times in nanoseconds a call: medians of {} repetitions,",
+        measure::REPETITIONS
+    );
+    println!("the three taking turns; all buffers warm, work not cleared before a call.");
+    device::measure();
+    image::measure();
+}

@@ -1,0 +1,68 @@
+//! Medians of interleaved repetitions, and the table's rows.
+
+use std::time::Instant;
+
+pub const REPETITIONS: usize = 301;
+/// A turn lasts about this long, so that the clock's own cost is small.
+const TURN: f64 = 40_000.0;
+
+/// The calls to be timed: lean, proved, reference.
+pub type Three<'a> = [&'a mut dyn FnMut(); 3];
+
+/// Nanoseconds a call of each of the three. They take turns within each
+/// repetition, so that noise of the machine hits all alike.
+pub fn medians(three: &mut Three) -> [f64; 3] {
+    let mut calls = [1; 3];
+    for (candidate, calls) in three.iter_mut().zip(&mut calls) {
+        turn(*candidate, 3);
+        let once = turn(*candidate, 10);
+        *calls = ((TURN / once) as usize).clamp(1, 100_000);
+    }
+    let mut times = [const { Vec::new() }; 3];
+    for repetition in 0..REPETITIONS {
+        for i in 0..3 {
+            let which = (repetition + i) % 3;
+            times[which].push(turn(three[which], calls[which]));
+        }
+    }
+    times.map(median)
+}
+
+/// Nanoseconds a call over so many calls.
+fn turn(candidate: &mut dyn FnMut(), calls: usize) -> f64 {
+    let start = Instant::now();
+    for _ in 0..calls {
+        candidate();
+    }
+    start.elapsed().as_nanos() as f64 / calls as f64
+}
+
+fn median(mut times: Vec<f64>) -> f64 {
+    times.sort_by(f64::total_cmp);
+    times[times.len() / 2]
+}
+
+pub fn heading(first: &str) {
+    println!();
+    println!(
+        "{first:<34}{:>9}{:>9}{:>11}{:>13}{:>16}",
+        "lean", "proved", "reference", "proved/lean", "reference/lean"
+    );
+}
+
+pub fn row(name: &str, [lean, proved, reference]: [f64; 3]) {
+    let proved_ratio = proved / lean;
+    let reference_ratio = reference / lean;
+    println!(
+        "{name:<34}{lean:>9.0}{proved:>9.0}{reference:>11.0}{proved_ratio:>13.2}{reference_ratio:>16.2}"
+    );
+}
+
+/// As `row`, for times a command, which are short.
+pub fn fine_row(name: &str, [lean, proved, reference]: [f64; 3]) {
+    let proved_ratio = proved / lean;
+    let reference_ratio = reference / lean;
+    println!(
+        "{name:<34}{lean:>9.2}{proved:>9.2}{reference:>11.2}{proved_ratio:>13.2}{reference_ratio:>16.2}"
+    );
+}

@@ -1,0 +1,94 @@
+-- The image after commands, and the image that a cut leaves (document 01, "The device").
+-- Assumes nothing.
+use Prim.Native.Nat.{ℕ, _+_, _-_, _/_}
+use mathlib.Core.Path.{_≡_}
+use mathlib.Core.Bool.{Bool, true, false, _&&_, _||_}
+use mathlib.Core.List.{List, [], _∷_}
+use lib.ListN.{length, take}
+use lib.Seq.{sets}
+use lib.Dec.{ltb, leb, eqb}
+use Rattle.codec.specs.Lists.{pick}
+use Rattle.device.specs.Tape.{Op, store, flush, malformed}
+
+-- ---- the image after all stores
+
+abbrev pub apply : List ℕ → Op → List ℕ
+apply image (store p vs) = sets image p vs
+apply image (flush l) = image
+apply image malformed = image
+
+unfoldable pub after : List ℕ → List Op → List ℕ
+after image [] = image
+after image (o ∷ cs) = after (apply image o) cs
+
+-- ---- the image that a cut leaves
+
+-- "a line 64 bytes at a multiple of 64": the line that a byte lies in
+abbrev pub lineOf : ℕ → ℕ
+lineOf p = p / 64
+
+-- "Once done, every earlier store to that line is durable": whether a store to line l is, with these commands done after it
+unfoldable pub flushed : ℕ → List Op → Bool
+flushed l [] = false
+flushed l (store p vs ∷ cs) = flushed l cs
+flushed l (flush m ∷ cs) = eqb m l || flushed l cs
+flushed l (malformed ∷ cs) = flushed l cs
+
+-- the choices with one less at line l
+abbrev pub less : (ℕ → ℕ) → ℕ → ℕ → ℕ
+less f l m = pick (eqb m l) (f m - 1) (f m)
+
+abbrev pub consIf : Bool → Op → List Op → List Op
+consIf true o cs = o ∷ cs
+consIf false o cs = cs
+
+-- "A cut [..] keeps all flushed stores and, for each line on its own, some first part of its pending stores":
+-- the stores kept of these commands, all of them done, where f says how many pending ones of each line
+unfoldable pub kept : (ℕ → ℕ) → List Op → List Op
+kept f [] = []
+kept f (store p vs ∷ cs) =
+    consIf (flushed (lineOf p) cs || ltb 0 (f (lineOf p))) (store p vs)
+    (kept (pick (flushed (lineOf p) cs) f (less f (lineOf p))) cs)
+kept f (flush l ∷ cs) = kept f cs
+kept f (malformed ∷ cs) = kept f cs
+
+-- "A cut after c commands"
+unfoldable pub cutImage : List ℕ → (ℕ → ℕ) → ℕ → List Op → List ℕ
+cutImage image f c cs = after image (kept f (take c cs))
+
+-- ---- what the laws for the crates above speak of
+
+-- whether a command stores byte i
+abbrev pub hits : Op → ℕ → Bool
+hits (store p vs) i = leb p i && ltb i (p + length vs)
+hits (flush l) i = false
+hits malformed i = false
+
+-- whether a store of the list writes byte i
+unfoldable pub touches : List Op → ℕ → Bool
+touches [] i = false
+touches (o ∷ cs) i = hits o i || touches cs i
+
+-- every store of the list is flushed later in it
+unfoldable pub Closed : List Op → Type 0
+Closed [] = Unit {0}
+Closed (store p vs ∷ cs) = (flushed (lineOf p) cs ≡ true) × Closed cs
+Closed (flush l ∷ cs) = Closed cs
+Closed (malformed ∷ cs) = Closed cs
+
+-- whether a command stores to line l or flushes it
+abbrev pub concerns : ℕ → Op → Bool
+concerns l (store p vs) = eqb (lineOf p) l
+concerns l (flush m) = eqb m l
+concerns l malformed = false
+
+-- the commands that concern line l
+unfoldable pub ofLine : ℕ → List Op → List Op
+ofLine l [] = []
+ofLine l (o ∷ cs) = consIf (concerns l o) o (ofLine l cs)
+
+-- a store to line l
+abbrev pub To : ℕ → Op → Type 0
+To l (store p vs) = lineOf p ≡ l
+To l (flush m) = ⊥
+To l malformed = ⊥

@@ -1,0 +1,4 @@
+pub mod Tape
+pub mod Cut
+pub mod Calls
+pub mod Counts

@@ -1,0 +1,101 @@
+-- The tape (document 01, "The device"): what a command says, the commands of a tape, and the bytes of a command.
+-- Assumes nothing.
+use Prim.Native.Nat.{ℕ, zero, suc, _+_, _*_}
+use mathlib.Core.Bool.{Bool, true, false}
+use mathlib.Core.List.{List, [], _∷_, _++_}
+use lib.ListN.{length, getD}
+use lib.Dec.{leb, eqb}
+use Rattle.codec.specs.Lists.{pick, part, every}
+use Rattle.codec.specs.Numbers.{number, bytesOf}
+
+-- a command: bytes stored from a byte of the image on (a word or a line), a line flushed, or what is no command
+pub data Op : Type 0 where
+  store : ℕ → List ℕ → Op
+  flush : ℕ → Op
+  malformed : Op
+
+-- ---- reading
+
+-- "A command starts with its kind (1 byte), a zero byte and its place (2 bytes)."
+abbrev pub kindOf : List ℕ → ℕ
+kindOf t = getD t 0 0
+
+abbrev pub placeOf : List ℕ → ℕ
+placeOf t = number (part t 2 2)
+
+-- "place is the word number", "the line number": the bytes that a place of this kind counts by
+unfoldable pub unit : ℕ → ℕ
+unit kind = pick (eqb kind 1) 8 64
+
+-- "8 bytes follow", "64 bytes follow", "nothing follows"
+unfoldable pub follows : ℕ → ℕ
+follows kind = pick (eqb kind 1) 8 (pick (eqb kind 2) 64 0)
+
+-- whether t starts with a whole command of a known kind, at a place of an image of n bytes
+unfoldable pub isCommand : ℕ → List ℕ → Bool
+isCommand n t =
+    every
+    (leb 4 (length t)
+    ∷ leb 1 (kindOf t)
+    ∷ leb (kindOf t) 3
+    ∷ eqb (getD t 1 0) 0
+    ∷ leb (4 + follows (kindOf t)) (length t)
+    ∷ leb (unit (kindOf t) * (placeOf t + 1)) n
+    ∷ [])
+
+-- "Kind 1, word store"; "Kind 2, line store"; "Kind 3, flush"
+unfoldable pub front : ℕ → List ℕ → Op
+front n t =
+    pick (isCommand n t)
+    (pick (eqb (kindOf t) 3) (flush (placeOf t)) (store (unit (kindOf t) * placeOf t) (part t 4 (follows (kindOf t)))))
+    malformed
+
+-- the bytes that a command takes on the tape
+abbrev pub extent : Op → ℕ
+extent (store p vs) = 4 + length vs
+extent (flush l) = 4
+extent malformed = 0
+
+-- those past its first one; past what is no command, all that are left
+abbrev pub beyond : Op → ℕ → ℕ
+beyond (store p vs) left = 3 + length vs
+beyond (flush l) left = 3
+beyond malformed left = left
+
+-- the commands of t, after skipping k bytes
+unfoldable pub scan : ℕ → ℕ → List ℕ → List Op
+scan n k [] = []
+scan n zero (b ∷ t) = front n (b ∷ t) ∷ scan n (beyond (front n (b ∷ t)) (length t)) t
+scan n (suc k) (b ∷ t) = scan n k t
+
+-- "A tape is commands end to end": those of the tape t over an image of n bytes; what is no command is the last of them
+unfoldable pub decode : ℕ → List ℕ → List Op
+decode n t = scan n 0 t
+
+-- "malformed tape or a place outside": not so
+unfoldable pub wellFormed : List Op → Bool
+wellFormed [] = true
+wellFormed (store p vs ∷ cs) = wellFormed cs
+wellFormed (flush l ∷ cs) = wellFormed cs
+wellFormed (malformed ∷ cs) = false
+
+-- "the number of flush commands on the tape"
+unfoldable pub flushCount : List Op → ℕ
+flushCount [] = 0
+flushCount (store p vs ∷ cs) = flushCount cs
+flushCount (flush l ∷ cs) = suc (flushCount cs)
+flushCount (malformed ∷ cs) = flushCount cs
+
+-- ---- writing
+
+unfoldable pub headBytes : ℕ → ℕ → List ℕ
+headBytes kind place = kind ∷ 0 ∷ bytesOf 2 place
+
+abbrev pub wordBytes : ℕ → List ℕ → List ℕ
+wordBytes word vs = headBytes 1 word ++ vs
+
+abbrev pub lineBytes : ℕ → List ℕ → List ℕ
+lineBytes line vs = headBytes 2 line ++ vs
+
+abbrev pub flushBytes : ℕ → List ℕ
+flushBytes line = headBytes 3 line

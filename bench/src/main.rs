@@ -3,12 +3,14 @@
 //! wasted. All three must first agree on random calls.
 
 mod device;
+#[cfg(feature = "image")]
 mod image;
 mod lean;
 mod measure;
 
 fn main() {
     device::check();
+    #[cfg(feature = "image")]
     image::check();
     println!(
         "Times in nanoseconds a call: medians of {} repetitions,",
@@ -16,5 +18,6 @@ fn main() {
     );
     println!("the three taking turns; all buffers warm, work not cleared before a call.");
     device::measure();
+    #[cfg(feature = "image")]
     image::measure();
 }

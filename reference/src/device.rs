@@ -145,28 +145,23 @@ pub fn cut(
         return refuse(15);
     }
     work.copy_from_slice(image);
-    for (line, choice) in choices.iter().enumerate() {
-        cut_line(work, &commands[..c], line, *choice as usize);
+    // "A store is pending until its line is flushed."
+    let mut pending: Vec<Vec<&Command>> = vec![Vec::new(); choices.len()];
+    for command in &commands[..c] {
+        match command {
+            Command::Flush { line } => apply_all(work, pending[*line].drain(..)),
+            store => pending[store.line()].push(store),
+        }
+    }
+    // "For each line on its own, some first part of its pending stores."
+    for (stores, &choice) in pending.iter().zip(choices) {
+        apply_all(work, stores.iter().copied().take(choice as usize));
     }
     Ok(())
 }
 
-/// One line of a cut, "each line on its own": its flushed stores, and the
-/// first `choice` of its pending ones. "A store is pending until its line is
-/// flushed."
-fn cut_line(work: &mut [u8], done: &[Command], line: usize, choice: usize) {
-    let mut pending: Vec<&Command> = Vec::new();
-    for command in done.iter().filter(|command| command.line() == line) {
-        match command {
-            Command::Flush { .. } => {
-                for store in pending.drain(..) {
-                    store.apply(work);
-                }
-            }
-            store => pending.push(store),
-        }
-    }
-    for store in pending.iter().take(choice) {
+fn apply_all<'a>(work: &mut [u8], stores: impl Iterator<Item = &'a Command>) {
+    for store in stores {
         store.apply(work);
     }
 }

@@ -5,6 +5,7 @@
 use crate::device::{check_length, PAGE};
 use crate::page::{read_page, two_bytes, Header, Record, INDEX, LAST_KEY, LEAF};
 use crate::{refuse, Refusal};
+use std::collections::BTreeSet;
 
 /// "Byte 0 = 1, byte 1 = k (1 to 15 logged headers), bytes 2-3 = the new root
 /// page (1 to N-1), bytes 4-7 zero."
@@ -70,6 +71,15 @@ pub fn read_page_zero(image: &[u8]) -> Option<PageZero> {
         mark,
         root: root as usize,
     })
+}
+
+/// "A page is reached if it is the root or is named by a root record." Of a
+/// sound image.
+pub fn reached(image: &[u8]) -> BTreeSet<usize> {
+    let root = image[8] as usize;
+    let index = read_page(page_of(image, root), root, INDEX).expect("the image is sound");
+    let named = index.iter().map(|record| record.page());
+    named.chain([root]).collect()
 }
 
 /// The leaves, in the order of the root's records, if all that the root

@@ -2,8 +2,13 @@
 //! way. It is no part of the proved store: the proved one is compared with it.
 
 pub mod device;
+pub mod edits;
 pub mod image;
+pub mod ledger;
 pub mod page;
+pub mod recovery;
+pub mod tape;
+pub mod transaction;
 
 /// Document 01, 'Each call and when it says no': "A refusal gives its number
 /// and edit number from 0 (0 unless 5 to 11 in a transaction)."

@@ -2,6 +2,7 @@
 //! number (0 is accepted) and the same buffers as the proved one.
 
 pub mod device;
+#[cfg(feature = "image")]
 pub mod image;
 
 pub const PAGE: usize = 1024;

@@ -5,10 +5,11 @@ use mathlib.Core.Path.{_≡_, refl, sym, ap, _∙_}
 use mathlib.Core.List.{List, [], _∷_, _++_, append-assoc, append-nil, map}
 use mathlib.Core.Logic.{_⊎_, inl, inr}
 use native.Mathlib.Omega.{arith}
+use native.Mathlib.Decide.{decLt}
 use native.Mathlib.Numerals.{add-one}
 use native.Mathlib.Nat.{add-zero, add-suc, not-suc-le-zero, sub-zero}
-use lib.ListN.{length, getD, take, drop, set, replicate, length-append, length-take, length-drop, length-set, length-replicate, take-append-drop, drop-of-length-le}
-use lib.Seq.{sets, sets-eq, length-sets, take-at, drop-at, take-append-le, drop-append-le, drop-append-add, take-take, drop-drop, take-length, drop-cons, getD-take, getD-drop, getD-set-other, ext-getD, set-comm}
+use lib.ListN.{length, getD, take, drop, set, replicate, length-append, length-take, length-drop, length-set, length-replicate, take-append-drop, drop-of-length-le, List·getD-eq-default}
+use lib.Seq.{sets, sets-eq, length-sets, take-at, drop-at, take-append-le, drop-append-le, drop-append-add, take-take, drop-drop, take-length, drop-cons, getD-take, getD-drop, getD-set-same, getD-set-other, set-comm}
 use Rattle.codec.specs.Lists.{part, splice, insertAt, removeAt}
 
 -- ---- a part
@@ -37,6 +38,10 @@ part-append-left x y a n h =
     let h1 : a ≤ length x = omega arith in
     let h2 : n ≤ length (drop a x) = simp length-drop (omega arith) in
     rw (drop-append-le, take-append-le)
+
+pub part-drop : (l : List ℕ) (o a n : ℕ) → part (drop o l) a n ≡ part l (o + a) n
+unfolding part
+part-drop l o a n = ap (take n) (drop-drop a o l)
 
 -- what stands at the front of the rest
 pub part-rest : (l : List ℕ) (o n : ℕ) → drop o l ≡ part l o n ++ drop (o + n) l
@@ -118,6 +123,27 @@ pub sets-apart : (l : List ℕ) (p : ℕ) (vs : List ℕ) (i : ℕ) → (i < p) 
 sets-apart l p [] i h = refl
 sets-apart l p (v ∷ vs) i (inl h) = sets-apart (set l p v) (suc p) vs i (inl (omega arith)) ∙ getD-set-other l p i v 0 (omega arith)
 sets-apart l p (v ∷ vs) i (inr h) = sets-apart (set l p v) (suc p) vs i (inr (omega arith)) ∙ getD-set-other l p i v 0 (omega arith)
+
+-- equally long lists agree where the same is stored over them
+set-both : (a b : List ℕ) (p v : ℕ) → length a ≡ length b → getD (set a p v) p 0 ≡ getD (set b p v) p 0
+set-both a b p v e = go (decLt p (length a))
+  where
+    go : Dec (p < length a) → getD (set a p v) p 0 ≡ getD (set b p v) p 0
+    go (yes h) = getD-set-same a p v 0 h ∙ sym (getD-set-same b p v 0 (omega arith))
+    go (no h) =
+        List·getD-eq-default (set a p v) 0 {n = p} (omega (arith, length-set a p v)) ∙ sym (List·getD-eq-default (set b p v) 0 {n = p} (omega (arith, length-set b p v)))
+
+pub sets-both : (a b : List ℕ) (p : ℕ) (vs : List ℕ) (i : ℕ) → length a ≡ length b → p ≤ i → i < p + length vs → getD (sets a p vs) i 0 ≡ getD (sets b p vs) i 0
+sets-both a b p [] i e h k = absurd (omega arith)
+sets-both a b p (v ∷ vs) i e h k = go (decLt p i) (λ q. sets-both (set a p v) (set b p v) (suc p) vs i (length-set a p v ∙ e ∙ sym (length-set b p v)) q (omega arith))
+  where
+    go : Dec (p < i) → (p < i → getD (sets a p (v ∷ vs)) i 0 ≡ getD (sets b p (v ∷ vs)) i 0) → getD (sets a p (v ∷ vs)) i 0 ≡ getD (sets b p (v ∷ vs)) i 0
+    go (yes q) f = f q
+    go (no q) f =
+        let same : i ≡ p = omega arith in
+        sets-apart (set a p v) (suc p) vs i (inl (omega arith))
+        ∙ rw same (set-both a b p v e)
+        ∙ sym (sets-apart (set b p v) (suc p) vs i (inl (omega arith)))
 
 -- one element stored apart from a region commutes with the region
 sets-set : (l : List ℕ) (p : ℕ) (vs : List ℕ) (i v : ℕ) → (i < p) ⊎ (p + length vs ≤ i) → sets (set l i v) p vs ≡ set (sets l p vs) i v

@@ -1,1 +1,9 @@
 pub mod Decode
+pub mod Encode
+pub mod Counts
+pub mod Turns
+pub mod Calls
+pub mod Clauses
+pub mod Cuts
+pub mod Lines
+pub mod Segments

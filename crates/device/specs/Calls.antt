@@ -100,13 +100,18 @@ runCall image work tape =
     (unless (wellFormed (decode (length image) tape)) badTape work
     (accepted (after image (decode (length image) tape)))))
 
--- "cut only: 16 if the choices aren't one byte a line; 14 [..]; cut only: 15 if c exceeds the commands."
--- "Cut's work keeps, per line, as many pending stores as its choice byte says, or all if fewer."
+-- "14 malformed tape or a place outside; cut only: 15 if c exceeds the commands."
+-- "Cut's work keeps, per line, as many pending stores as its choice byte says": here as f says
+unfoldable pub cutTape : List ℕ → List ℕ → List ℕ → ℕ → (ℕ → ℕ) → Ran
+cutTape image work tape c f =
+    unless (wellFormed (decode (length image) tape)) badTape work
+    (unless (leb c (length (decode (length image) tape))) pastEnd work
+    (accepted (cutImage image f c (decode (length image) tape))))
+
+-- "Run and cut: 1; 2; cut only: 16 if the choices aren't one byte a line", and then the tape
 unfoldable pub cutCall : List ℕ → List ℕ → List ℕ → ℕ → List ℕ → Ran
 cutCall image work tape c choices =
     unless (isImageSize (length image)) imageSize work
     (unless (eqb (length work) (length image)) workSize work
     (unless (eqb (length choices) (length image / 64)) badChoices work
-    (unless (wellFormed (decode (length image) tape)) badTape work
-    (unless (leb c (length (decode (length image) tape))) pastEnd work
-    (accepted (cutImage image (λ l. getD choices l 0) c (decode (length image) tape)))))))
+    (cutTape image work tape c (λ l. getD choices l 0))))

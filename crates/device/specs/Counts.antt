@@ -1,13 +1,14 @@
--- What the code of run and cut counts: sizes by a command's head, the commands of a tape, and of each line the stores that a cut keeps.
+-- What the code of run and cut keeps count of: a command's size by its head, the commands of a tape, and each line's last flush.
 -- Assumes nothing.
-use Prim.Native.Nat.{ℕ, _+_}
-use mathlib.Core.Bool.{Bool, _&&_}
+use Prim.Native.Nat.{ℕ, _+_, _-_}
+use mathlib.Core.Path.{_≡_}
+use mathlib.Core.Bool.{_||_}
 use mathlib.Core.List.{List, [], _∷_}
-use lib.ListN.{length}
+use lib.ListN.{length, getD, set}
 use lib.Dec.{ltb, eqb}
-use Rattle.codec.specs.Lists.{pick}
+use Rattle.codec.specs.Lists.{pick, splice}
 use Rattle.device.specs.Tape.{Op, store, flush, malformed, wellFormed}
-use Rattle.device.specs.Cut.{lineOf, flushed, less, consIf}
+use Rattle.device.specs.Cut.{flushed}
 use Rattle.device.specs.declared.Scan.{Scan}
 use Rattle.device.specs.declared.Scan.the-variants.{Commands, Broken}
 
@@ -19,23 +20,15 @@ sizeOf head = pick (eqb head 1) 12 (pick (eqb head 2) 68 (pick (eqb head 3) 4 0)
 abbrev pub scanned : List Op → Scan
 scanned cs = pick (wellFormed cs) (Commands (length cs)) Broken
 
--- the stores to line l
-unfoldable pub onLine : ℕ → List Op → List Op
-onLine l [] = []
-onLine l (store p vs ∷ cs) = consIf (eqb (lineOf p) l) (store p vs) (onLine l cs)
-onLine l (flush m ∷ cs) = onLine l cs
-onLine l (malformed ∷ cs) = onLine l cs
+-- where the last flush of line l ends on the tape, on which these commands start at `at`; 0 if there is none
+unfoldable pub flushEnd : ℕ → ℕ → List Op → ℕ
+flushEnd l at [] = 0
+flushEnd l at (store p vs ∷ cs) = flushEnd l (at + (4 + length vs)) cs
+flushEnd l at (flush m ∷ cs) = pick (flushed l cs) (flushEnd l (at + 4) cs) (pick (eqb m l) (at + 4) 0)
+flushEnd l at (malformed ∷ cs) = flushEnd l at cs
 
--- how many of them are durable once all of the commands are done
-unfoldable pub settled : ℕ → List Op → ℕ
-settled l [] = 0
-settled l (store p vs ∷ cs) = pick (eqb (lineOf p) l && flushed l cs) 1 0 + settled l cs
-settled l (flush m ∷ cs) = settled l cs
-settled l (malformed ∷ cs) = settled l cs
-
--- the first g l stores to each line l
-unfoldable pub firsts : (ℕ → ℕ) → List Op → List Op
-firsts g [] = []
-firsts g (store p vs ∷ cs) = consIf (ltb 0 (g (lineOf p))) (store p vs) (firsts (less g (lineOf p)) cs)
-firsts g (flush l ∷ cs) = firsts g cs
-firsts g (malformed ∷ cs) = firsts g cs
+-- a store at `at` of the tape, of these bytes at p in `line`: it is made if the line is flushed later or its choice is not used up,
+-- of which it takes one in the second case
+pub record Kept (work left last : List ℕ) (at line p : ℕ) (vs : List ℕ) (work′ left′ : List ℕ) : Type 0 where
+  pub made : work′ ≡ pick (ltb at (getD last line 0) || ltb 0 (getD left line 0)) (splice work p vs) work
+  pub counted : left′ ≡ pick (ltb at (getD last line 0)) left (set left line (getD left line 0 - 1))

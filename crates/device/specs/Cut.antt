@@ -76,6 +76,20 @@ Closed (store p vs ∷ cs) = (flushed (lineOf p) cs ≡ true) × Closed cs
 Closed (flush l ∷ cs) = Closed cs
 Closed (malformed ∷ cs) = Closed cs
 
+-- every store of the first list is flushed in the second
+unfoldable pub Sealed : List Op → List Op → Type 0
+Sealed [] ds = Unit {0}
+Sealed (store p vs ∷ cs) ds = (flushed (lineOf p) ds ≡ true) × Sealed cs ds
+Sealed (flush l ∷ cs) ds = Sealed cs ds
+Sealed (malformed ∷ cs) ds = Sealed cs ds
+
+-- the stores alone
+unfoldable pub stores : List Op → List Op
+stores [] = []
+stores (store p vs ∷ cs) = store p vs ∷ stores cs
+stores (flush l ∷ cs) = stores cs
+stores (malformed ∷ cs) = stores cs
+
 -- whether a command stores to line l or flushes it
 abbrev pub concerns : ℕ → Op → Bool
 concerns l (store p vs) = eqb (lineOf p) l
@@ -86,6 +100,13 @@ concerns l malformed = false
 unfoldable pub ofLine : ℕ → List Op → List Op
 ofLine l [] = []
 ofLine l (o ∷ cs) = consIf (concerns l o) o (ofLine l cs)
+
+-- how many of the stores to line l are durable once all of the commands are done
+unfoldable pub settled : ℕ → List Op → ℕ
+settled l [] = 0
+settled l (store p vs ∷ cs) = pick (eqb (lineOf p) l && flushed l cs) 1 0 + settled l cs
+settled l (flush m ∷ cs) = settled l cs
+settled l (malformed ∷ cs) = settled l cs
 
 -- a store to line l
 abbrev pub To : ℕ → Op → Type 0

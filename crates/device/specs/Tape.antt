@@ -1,6 +1,8 @@
 -- The tape (document 01, "The device"): what a command says, the commands of a tape, and the bytes of a command.
 -- Assumes nothing.
-use Prim.Native.Nat.{ℕ, zero, suc, _+_, _*_}
+use Prim.Native.Nat.{ℕ, zero, suc, _+_, _*_, _/_, _%_, _≤_}
+use mathlib.Core.Path.{_≡_}
+use mathlib.Core.Logic.{_⊎_}
 use mathlib.Core.Bool.{Bool, true, false}
 use mathlib.Core.List.{List, [], _∷_, _++_}
 use lib.ListN.{length, getD}
@@ -40,7 +42,7 @@ isCommand n t =
     ∷ leb (kindOf t) 3
     ∷ eqb (getD t 1 0) 0
     ∷ leb (4 + follows (kindOf t)) (length t)
-    ∷ leb (unit (kindOf t) * (placeOf t + 1)) n
+    ∷ leb (unit (kindOf t) * placeOf t + unit (kindOf t)) n
     ∷ [])
 
 -- "Kind 1, word store"; "Kind 2, line store"; "Kind 3, flush"
@@ -99,3 +101,20 @@ lineBytes line vs = headBytes 2 line ++ vs
 
 abbrev pub flushBytes : ℕ → List ℕ
 flushBytes line = headBytes 3 line
+
+-- a command's bytes: a store of eight is a word's, another a line's
+unfoldable pub commandBytes : Op → List ℕ
+commandBytes (store p vs) = pick (eqb (length vs) 8) (wordBytes (p / 8) vs) (lineBytes (p / 64) vs)
+commandBytes (flush l) = flushBytes l
+commandBytes malformed = []
+
+-- "A tape is commands end to end."
+unfoldable pub tapeBytes : List Op → List ℕ
+tapeBytes [] = []
+tapeBytes (o ∷ cs) = commandBytes o ++ tapeBytes cs
+
+-- a command that a tape over an image of n bytes can hold
+abbrev pub Writable : ℕ → Op → Type 0
+Writable n (store p vs) = ((length vs ≡ 8) × (p % 8 ≡ 0) × (p + 8 ≤ n)) ⊎ ((length vs ≡ 64) × (p % 64 ≡ 0) × (p + 64 ≤ n))
+Writable n (flush l) = 64 * l + 64 ≤ n
+Writable n malformed = ⊥

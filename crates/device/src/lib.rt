@@ -1,15 +1,15 @@
 // The device: words, lines and flushes on a tape, run over an image, whole or cut.
 ghost use mathlib.Core.Path.{_≡_};
-ghost use mathlib.Core.Bool.{true};
-ghost use mathlib.Core.List.{_++_};
+ghost use mathlib.Core.Bool.{true, _||_};
 ghost use Prim.Native.Nat.{ℕ, _+_, _-_, _*_, _/_, _≤_, _<_};
 ghost use lib.Dec.{eqb, ltb};
 ghost use lib.ListN.{length, take, drop, getD, set};
 ghost use Rattle.codec.specs.Lists.{pick, part, splice};
+ghost use Rattle.codec.specs.Numbers.{number};
 ghost use Rattle.device.specs.Tape.{decode, front, extent, unit, wellFormed, headBytes, wordBytes, lineBytes, flushBytes};
 ghost use Rattle.device.specs.Cut.{after, cutImage};
-ghost use Rattle.device.specs.Counts.{sizeOf, scanned, settled, firsts};
-ghost use Rattle.device.specs.Calls.{refusal, isImageSize, unless, accepted, runCall, cutCall};
+ghost use Rattle.device.specs.Counts.{sizeOf, scanned, flushEnd, Kept};
+ghost use Rattle.device.specs.Calls.{refusal, isImageSize, runCall, cutTape, cutCall};
 
 // A refusal: its number, and the number of the edit that it names.
 pub struct Refusal {
@@ -19,20 +19,35 @@ pub struct Refusal {
 
 impl Refusal {
     pub const IMAGE_SIZE: u8 = 1;
+
     pub const WORK_SIZE: u8 = 2;
+
     pub const MARK_WAITS: u8 = 3;
+
     pub const UNSOUND: u8 = 4;
+
     pub const BAD_LIST: u8 = 5;
+
     pub const KEY_RANGE: u8 = 6;
+
     pub const LONG_VALUE: u8 = 7;
+
     pub const KEY_PRESENT: u8 = 8;
+
     pub const KEY_MISSING: u8 = 9;
+
     pub const INDEX_FULL: u8 = 10;
+
     pub const PAGES_OUT: u8 = 11;
+
     pub const LOG_FULL: u8 = 12;
+
     pub const TAPE_SHORT: u8 = 13;
+
     pub const BAD_TAPE: u8 = 14;
+
     pub const PAST_END: u8 = 15;
+
     pub const BAD_CHOICES: u8 = 16;
 
     // A refusal that names no edit.
@@ -58,17 +73,6 @@ pub enum Scan {
     Broken,
 }
 
-// One of two numbers; the compiler makes no branch of it.
-fn either(test: bool, a: usize, b: usize) -> usize
-    ensures { λ r. ⌜ r ≡ pick test a b ⌝ }
-{
-    if test {
-        a
-    } else {
-        b
-    }
-}
-
 // The bytes of a command by the two bytes that it starts with; 0 if it is none.
 fn size_of(head: usize) -> usize
     ensures { λ r. ⌜ (r ≡ sizeOf head) × (r ≤ 68) ⌝ }
@@ -78,6 +82,18 @@ fn size_of(head: usize) -> usize
         2 => 68,
         3 => 4,
         _ => 0,
+    }
+}
+
+// Where the word or line that a command names ends in the image.
+fn end_of(head: usize, place: usize) -> usize
+    requires { ⌜ place < 65536 ⌝ }
+    ensures { λ r. ⌜ r ≡ unit head * place + unit head ⌝ }
+{
+    if head == 1 {
+        8 * place + 8
+    } else {
+        64 * place + 64
     }
 }
 
@@ -96,7 +112,7 @@ fn size_at(tape: &[u8], at: usize, n: usize) -> usize
     if left < size {
         return 0;
     }
-    if n < either(head == 1, 8, 64) * (place + 1) {
+    if n < end_of(head, place) {
         return 0;
     }
     size
@@ -169,4 +185,215 @@ pub fn run(image: &[u8], work: &mut [u8], tape: &[u8]) -> Answer
     codec::copy_all(work, image);
     play(work, tape);
     Answer::Accepted
+}
+
+// Notes where a flush at `at` of the tape ends.
+fn note(last: &mut [usize], tape: &[u8], at: usize)
+    requires { ⌜ (at + 4 ≤ length (now tape)) × (getD (now tape) at 0 ≡ 3 → number (part (now tape) (at + 2) 2) < length (now last)) ⌝ }
+    ensures { λ _. ⌜ now (last .exit) ≡ pick (eqb (getD (now (tape .entry)) at 0) 3) (set (now (last .entry)) (number (part (now (tape .entry)) (at + 2) 2)) (at + 4)) (now (last .entry)) ⌝ }
+{
+    if tape[at] != 3 {
+        return;
+    }
+    let line = codec::number_at(tape, at + 2);
+    last[line] = at + 4;
+}
+
+// Judges the whole tape and counts its commands. Of the first c, notes for each line where its last flush ends.
+fn judge(last: &mut [usize], tape: &[u8], n: usize, c: usize) -> Scan
+    requires { ⌜ n ≤ 64 * length (now last) ⌝ }
+    requires { ⌜ ((l : ℕ) → getD (now last) l 0 ≡ 0) ⌝ }
+    ensures { λ r. ⌜ r ≡ scanned (decode n (now (tape .entry))) ⌝ }
+    ensures { λ _. ⌜ (wellFormed (decode n (now (tape .entry))) ≡ true → (l : ℕ) → getD (now (last .exit)) l 0 ≡ flushEnd l 0 (take c (decode n (now (tape .entry))))) ⌝ }
+{
+    let mut at = 0;
+    let mut count = 0;
+    while at < tape.len() {
+        let size = size_at(tape, at, n);
+        if size == 0 {
+            return Scan::Broken;
+        }
+        if count < c {
+            note(last, tape, at);
+            at = at + size;
+            count = count + 1;
+        } else {
+            at = at + size;
+            count = count + 1;
+        }
+    }
+    Scan::Commands(count)
+}
+
+// Whether a store at `at` of the tape is kept: its line is flushed later, or its choice is not used up, which counts one less.
+fn is_kept(last: &[usize], left: &mut [u8], at: usize, line: usize) -> bool
+    requires { ⌜ (line < length (now last)) × (line < length (now left)) ⌝ }
+    ensures { λ r. ⌜ r ≡ (ltb at (getD (now (last .entry)) line 0) || ltb 0 (getD (now (left .entry)) line 0)) ⌝ }
+    ensures { λ _. ⌜ now (left .exit) ≡ pick (ltb at (getD (now (last .entry)) line 0)) (now (left .entry)) (set (now (left .entry)) line (getD (now (left .entry)) line 0 - 1)) ⌝ }
+{
+    if at < last[line] {
+        return true;
+    }
+    let more = left[line];
+    if more == 0 {
+        return false;
+    }
+    left[line] = more - 1;
+    true
+}
+
+// Makes a word store if it is kept.
+fn keep_word(work: &mut [u8], left: &mut [u8], last: &[usize], tape: &[u8], at: usize, place: usize)
+    requires { ⌜ (8 * place + 8 ≤ length (now work)) × (at + 12 ≤ length (now tape)) × (length (now work) ≤ 64 * length (now last)) × (length (now work) ≤ 64 * length (now left)) ⌝ }
+    ensures { λ _. ⌜ Kept (now (work .entry)) (now (left .entry)) (now (last .entry)) at (place / 8) (8 * place) (part (now (tape .entry)) (at + 4) 8) (now (work .exit)) (now (left .exit)) ⌝ }
+{
+    if !is_kept(last, left, at, place / 8) {
+        return;
+    }
+    codec::copy_word(work, 8 * place, tape, at + 4);
+}
+
+// Makes a line store if it is kept.
+fn keep_line(work: &mut [u8], left: &mut [u8], last: &[usize], tape: &[u8], at: usize, place: usize)
+    requires { ⌜ (64 * place + 64 ≤ length (now work)) × (at + 68 ≤ length (now tape)) × (length (now work) ≤ 64 * length (now last)) × (length (now work) ≤ 64 * length (now left)) ⌝ }
+    ensures { λ _. ⌜ Kept (now (work .entry)) (now (left .entry)) (now (last .entry)) at place (64 * place) (part (now (tape .entry)) (at + 4) 64) (now (work .exit)) (now (left .exit)) ⌝ }
+{
+    if !is_kept(last, left, at, place) {
+        return;
+    }
+    codec::copy_line(work, 64 * place, tape, at + 4);
+}
+
+// Makes of the first c commands of a well-formed tape the stores that a cut keeps.
+fn replay(work: &mut [u8], left: &mut [u8], last: &[usize], tape: &[u8], c: usize)
+    requires { ⌜ (length (now work) ≤ 64 * length (now last)) × (length (now work) ≤ 64 * length (now left)) ⌝ }
+    requires { ⌜ (wellFormed (decode (length (now work)) (now tape)) ≡ true) × (c ≤ length (decode (length (now work)) (now tape))) ⌝ }
+    requires { ⌜ ((l : ℕ) → getD (now last) l 0 ≡ flushEnd l 0 (take c (decode (length (now work)) (now tape)))) ⌝ }
+    ensures { λ _. ⌜ now (work .exit) ≡ cutImage (now (work .entry)) (λ l. getD (now (left .entry)) l 0) c (decode (length (now (work .entry))) (now (tape .entry))) ⌝ }
+{
+    let mut at = 0;
+    let mut todo = c;
+    while 0 < todo {
+        let kind = tape[at];
+        let place = codec::number_at(tape, at + 2);
+        if kind == 1 {
+            keep_word(work, left, last, tape, at, place);
+            at = at + 12;
+            todo = todo - 1;
+        } else if kind == 2 {
+            keep_line(work, left, last, tape, at, place);
+            at = at + 68;
+            todo = todo - 1;
+        } else {
+            at = at + 4;
+            todo = todo - 1;
+        }
+    }
+}
+
+// What cut does once the buffers are of the right sizes, with room for each line's count and last flush.
+fn cut_tape(
+    image: &[u8],
+    work: &mut [u8],
+    tape: &[u8],
+    c: usize,
+    left: &mut [u8],
+    last: &mut [usize],
+) -> Answer
+    requires { ⌜ (length (now image) ≤ 65536) × (length (now work) ≡ length (now image)) × (length (now image) ≤ 64 * length (now left)) × (length (now image) ≤ 64 * length (now last)) ⌝ }
+    requires { ⌜ ((l : ℕ) → getD (now last) l 0 ≡ 0) ⌝ }
+    ensures { λ r. ⌜ r ≡ (cutTape (now (image .entry)) (now (work .entry)) (now (tape .entry)) c (λ l. getD (now (left .entry)) l 0)) .answer ⌝ }
+    ensures { λ _. ⌜ now (work .exit) ≡ (cutTape (now (image .entry)) (now (work .entry)) (now (tape .entry)) c (λ l. getD (now (left .entry)) l 0)) .work ⌝ }
+{
+    match judge(last, tape, image.len(), c) {
+        Scan::Broken => Answer::Refused(Refusal::of(Refusal::BAD_TAPE)),
+        Scan::Commands(count) => {
+            if count < c {
+                return Answer::Refused(Refusal::of(Refusal::PAST_END));
+            }
+            codec::copy_all(work, image);
+            replay(work, left, last, tape, c);
+            Answer::Accepted
+        }
+    }
+}
+
+// The same, with room for the lines of any image.
+fn cut_large(image: &[u8], work: &mut [u8], tape: &[u8], c: usize, choices: &[u8]) -> Answer
+    requires { ⌜ (length (now image) ≤ 65536) × (length (now work) ≡ length (now image)) × (length (now choices) ≡ length (now image) / 64) ⌝ }
+    ensures { λ r. ⌜ r ≡ (cutTape (now (image .entry)) (now (work .entry)) (now (tape .entry)) c (λ l. getD (now (choices .entry)) l 0)) .answer ⌝ }
+    ensures { λ _. ⌜ now (work .exit) ≡ (cutTape (now (image .entry)) (now (work .entry)) (now (tape .entry)) c (λ l. getD (now (choices .entry)) l 0)) .work ⌝ }
+{
+    let mut left = [0u8; 1024];
+    let mut last = [0usize; 1024];
+    codec::copy(&mut left, 0, choices, 0, choices.len());
+    cut_tape(image, work, tape, c, &mut left, &mut last)
+}
+
+// The same, with room for the lines of the smallest image, which it takes less time to clear.
+fn cut_small(image: &[u8], work: &mut [u8], tape: &[u8], c: usize, choices: &[u8]) -> Answer
+    requires { ⌜ (length (now image) ≡ 8192) × (length (now work) ≡ length (now image)) × (length (now choices) ≡ length (now image) / 64) ⌝ }
+    ensures { λ r. ⌜ r ≡ (cutTape (now (image .entry)) (now (work .entry)) (now (tape .entry)) c (λ l. getD (now (choices .entry)) l 0)) .answer ⌝ }
+    ensures { λ _. ⌜ now (work .exit) ≡ (cutTape (now (image .entry)) (now (work .entry)) (now (tape .entry)) c (λ l. getD (now (choices .entry)) l 0)) .work ⌝ }
+{
+    let mut left = [0u8; 128];
+    let mut last = [0usize; 128];
+    codec::copy(&mut left, 0, choices, 0, choices.len());
+    cut_tape(image, work, tape, c, &mut left, &mut last)
+}
+
+// The image that a cut after c commands leaves, in work: each line keeps as many of its pending stores as its choice says.
+pub fn cut(image: &[u8], work: &mut [u8], tape: &[u8], c: usize, choices: &[u8]) -> Answer
+    ensures { λ r. ⌜ r ≡ (cutCall (now (image .entry)) (now (work .entry)) (now (tape .entry)) c (now (choices .entry))) .answer ⌝ }
+    ensures { λ _. ⌜ now (work .exit) ≡ (cutCall (now (image .entry)) (now (work .entry)) (now (tape .entry)) c (now (choices .entry))) .work ⌝ }
+{
+    let n = image.len();
+    if !is_image_size(n) {
+        return Answer::Refused(Refusal::of(Refusal::IMAGE_SIZE));
+    }
+    if work.len() != n {
+        return Answer::Refused(Refusal::of(Refusal::WORK_SIZE));
+    }
+    if choices.len() != n / 64 {
+        return Answer::Refused(Refusal::of(Refusal::BAD_CHOICES));
+    }
+    if n == 8192 {
+        return cut_small(image, work, tape, c, choices);
+    }
+    cut_large(image, work, tape, c, choices)
+}
+
+// Writes the head of a command.
+fn put_head(tape: &mut [u8], at: usize, kind: usize, place: usize)
+    requires { ⌜ (at + 4 ≤ length (now tape)) × (kind < 256) ⌝ }
+    ensures { λ _. ⌜ now (tape .exit) ≡ splice (now (tape .entry)) at (headBytes kind place) ⌝ }
+{
+    codec::put_number(tape, at, kind);
+    codec::put_number(tape, at + 2, place);
+}
+
+// Writes a word store of the eight bytes of src from `from` on.
+pub fn emit_word(tape: &mut [u8], at: usize, word: usize, src: &[u8], from: usize)
+    requires { ⌜ (at + 12 ≤ length (now tape)) × (from + 8 ≤ length (now src)) ⌝ }
+    ensures { λ _. ⌜ now (tape .exit) ≡ splice (now (tape .entry)) at (wordBytes word (part (now (src .entry)) from 8)) ⌝ }
+{
+    put_head(tape, at, 1, word);
+    codec::copy_word(tape, at + 4, src, from);
+}
+
+// Writes a line store of the 64 bytes of src from `from` on.
+pub fn emit_line(tape: &mut [u8], at: usize, line: usize, src: &[u8], from: usize)
+    requires { ⌜ (at + 68 ≤ length (now tape)) × (from + 64 ≤ length (now src)) ⌝ }
+    ensures { λ _. ⌜ now (tape .exit) ≡ splice (now (tape .entry)) at (lineBytes line (part (now (src .entry)) from 64)) ⌝ }
+{
+    put_head(tape, at, 2, line);
+    codec::copy_line(tape, at + 4, src, from);
+}
+
+// Writes a flush.
+pub fn emit_flush(tape: &mut [u8], at: usize, line: usize)
+    requires { ⌜ at + 4 ≤ length (now tape) ⌝ }
+    ensures { λ _. ⌜ now (tape .exit) ≡ splice (now (tape .entry)) at (flushBytes line) ⌝ }
+{
+    put_head(tape, at, 3, line);
 }

@@ -4,5 +4,6 @@
 
 pub mod damage;
 pub mod images;
+pub mod lists;
 pub mod random;
 pub mod tapes;

@@ -26,7 +26,7 @@ same-length : tie.Need-same-length
 same-length c = search needs
 
 returns : tie.Need-returns
-returns c = 
+returns c =
     let a = c .before .before .before .before .before .before .before .before .before .before .args in
     let s = a .src .now in
     let n : length (part s 0 (length s)) ≡ length s = length-part s 0 (length s) (omega arith) in

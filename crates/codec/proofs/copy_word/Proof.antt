@@ -103,7 +103,7 @@ same-length : tie.Need-same-length
 same-length c = simp length-set
 
 returns : tie.Need-returns
-returns c = 
+returns c =
     let a = c .before .before .before .before .before .before .before .before .args in
     splice-eight (a .dst .now) (a .at) _ _ _ _ _ _ _ _ (c .before .before .before .before .before .before .before .before .pre .0) ∙ ap (splice (a .dst .now) (a .at)) (sym (part-eight (a .src .now) (a .from) (c .before .before .before .before .before .before .before .before .pre .1)))
 

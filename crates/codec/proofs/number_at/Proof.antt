@@ -29,7 +29,7 @@ add-result : tie.Need-add-result
 add-result c = search needs
 
 returns : tie.Need-returns
-returns c = 
+returns c =
     let a = c .before .before .before .before .before .args in
     (sym (number-two (a .s .now) (a .at) (c .before .before .before .before .before .pre) ∙ omega arith), omega arith)
 

@@ -30,7 +30,7 @@ same-length c = search needs
 
 returns : tie.Need-returns
 unfolding bytesOf
-returns c = 
+returns c =
     let a = c .args in
     rw add-one (sym (splice-sets (a .s .now) (a .at) (bytesOf 2 (a .v)) (c .pre)))
 

@@ -1,0 +1,47 @@
+-- The calls' definitions, test by test.
+-- Assumes nothing.
+use Prim.Native.Nat.{ℕ, _%_, _≤_}
+use mathlib.Core.Path.{_≡_, refl, sym, ap}
+use mathlib.Core.Bool.{Bool, true, false, _&&_}
+use mathlib.Core.List.{List}
+use native.Mathlib.Omega.{arith}
+use lib.ListN.{length}
+use lib.Dec.{leb, eqb}
+use borrow.Author.Tests.{leb-true}
+use Rattle.codec.specs.Lists.{pick}
+use Rattle.codec.proofs.Tests.{first, second}
+use Rattle.device.specs.Tape.{Op, wellFormed}
+use Rattle.device.specs.Counts.{scanned}
+use Rattle.device.specs.Calls.{isImageSize, Ran, refused, unless}
+use Rattle.device.specs.declared.Scan.{Scan}
+use Rattle.device.specs.declared.Scan.the-variants.{Commands, Broken}
+
+module _ (test : Bool) (k : ℕ) (old : List ℕ) (ran : Ran) where
+  pub holds : test ≡ true → unless test k old ran ≡ ran
+  unfolding unless
+  holds e = rw e
+
+  pub fails : test ≡ false → unless test k old ran ≡ refused k old
+  unfolding unless
+  fails e = rw e
+
+-- what a call is said to do, in two parts
+pub said : (call done : Ran) → call ≡ done → (done .answer ≡ call .answer) × (done .work ≡ call .work)
+said call done e = (sym (ap (λ (r : Ran). r .answer) e), sym (ap (λ (r : Ran). r .work) e))
+
+pub image-size-le : (n : ℕ) → isImageSize n ≡ true → n ≤ 65536
+image-size-le n e = leb-true n 65536 (first (leb n 65536) (eqb (n % 1024) 0) (second (leb 8192 n) (leb n 65536 && eqb (n % 1024) 0) e))
+
+pub scanned-broken : (cs : List Op) → scanned cs ≡ Broken → wellFormed cs ≡ false
+scanned-broken cs = go (wellFormed cs)
+  where
+    go : (b : Bool) → pick b (Commands (length cs)) Broken ≡ Broken → b ≡ false
+    go true e = let z : _≡_ {A = ℕ} 0 1 = cc in absurd (omega arith)
+    go false e = refl
+
+pub scanned-commands : (cs : List Op) (k : ℕ) → scanned cs ≡ Commands k → (wellFormed cs ≡ true) × (k ≡ length cs)
+scanned-commands cs k = go (wellFormed cs)
+  where
+    go : (b : Bool) → pick b (Commands (length cs)) Broken ≡ Commands k → (b ≡ true) × (k ≡ length cs)
+    go true e = (refl, cc)
+    go false e = let z : _≡_ {A = ℕ} 0 1 = cc in absurd (omega arith)

@@ -1,0 +1,82 @@
+-- What a cut keeps: the device's contract for the crates above.
+-- Assumes nothing.
+use Prim.Native.Nat.{ℕ, zero, suc, _+_, _<_}
+use mathlib.Core.Path.{_≡_, refl, sym, ap, _∙_}
+use mathlib.Core.Bool.{Bool, true, false, _&&_}
+use mathlib.Core.List.{List, [], _∷_, _++_}
+use mathlib.Core.Logic.{_⊎_, inl, inr}
+use native.Mathlib.Omega.{arith}
+use native.Mathlib.Nat.{zero-add}
+use lib.ListN.{length, take}
+use lib.Seq.{sets, length-sets, take-nil}
+use lib.Dec.{ltb}
+use borrow.Author.Tests.{lt-ltb}
+use Rattle.device.specs.Tape.{Op, store, flush, malformed, wellFormed, flushCount}
+use Rattle.device.specs.Cut.{apply, after, lineOf, flushed, less, consIf, kept, cutImage, stores}
+
+-- ---- lengths, and one list after another
+
+-- stores keep the length of the image
+pub length-after : (image : List ℕ) (cs : List Op) → length (after image cs) ≡ length image
+unfolding after
+length-after image [] = refl
+length-after image (store p vs ∷ cs) = length-after (sets image p vs) cs ∙ length-sets image p vs
+length-after image (flush l ∷ cs) = length-after image cs
+length-after image (malformed ∷ cs) = length-after image cs
+
+-- so does a cut
+pub length-cut : (image : List ℕ) (f : ℕ → ℕ) (c : ℕ) (cs : List Op) → length (cutImage image f c cs) ≡ length image
+unfolding cutImage
+length-cut image f c cs = length-after image (kept f (take c cs))
+
+-- the image after two lists is that after the second, over that after the first
+pub after-append : (image : List ℕ) (a b : List Op) → after image (a ++ b) ≡ after (after image a) b
+unfolding after
+after-append image [] b = refl
+after-append image (o ∷ a) b = after-append (apply image o) a b
+
+-- the image does not depend on flushes
+pub after-stores : (image : List ℕ) (cs : List Op) → after image (stores cs) ≡ after image cs
+unfolding after stores
+after-stores image [] = refl
+after-stores image (store p vs ∷ cs) = after-stores (sets image p vs) cs
+after-stores image (flush l ∷ cs) = after-stores image cs
+after-stores image (malformed ∷ cs) = after-stores image cs
+
+pub wellFormed-append : (a b : List Op) → wellFormed (a ++ b) ≡ (wellFormed a && wellFormed b)
+unfolding wellFormed
+wellFormed-append [] b = refl
+wellFormed-append (store p vs ∷ a) b = wellFormed-append a b
+wellFormed-append (flush l ∷ a) b = wellFormed-append a b
+wellFormed-append (malformed ∷ a) b = refl
+
+pub flushCount-append : (a b : List Op) → flushCount (a ++ b) ≡ flushCount a + flushCount b
+unfolding flushCount
+flushCount-append [] b = sym (zero-add (flushCount b))
+flushCount-append (store p vs ∷ a) b = flushCount-append a b
+flushCount-append (flush l ∷ a) b = omega (arith, flushCount-append a b)
+flushCount-append (malformed ∷ a) b = flushCount-append a b
+
+-- ---- one store
+
+-- a durable store is kept, and no choice is used up
+pub kept-durable : (f : ℕ → ℕ) (p : ℕ) (vs : List ℕ) (cs : List Op) → flushed (lineOf p) cs ≡ true → kept f (store p vs ∷ cs) ≡ store p vs ∷ kept f cs
+unfolding kept
+kept-durable f p vs cs h = rw h
+
+-- a pending store is kept where its line's choice is not used up
+pub kept-pending : (f : ℕ → ℕ) (p : ℕ) (vs : List ℕ) (cs : List Op) → flushed (lineOf p) cs ≡ false → 0 < f (lineOf p) →
+    kept f (store p vs ∷ cs) ≡ store p vs ∷ kept (less f (lineOf p)) cs
+unfolding kept
+kept-pending f p vs cs h k = rw (h, lt-ltb 0 (f (lineOf p)) k)
+
+-- one store is kept whole or not at all, wherever the cut falls
+pub one-store : (image : List ℕ) (f : ℕ → ℕ) (c p : ℕ) (vs : List ℕ) →
+    (cutImage image f c (store p vs ∷ []) ≡ image) ⊎ (cutImage image f c (store p vs ∷ []) ≡ after image (store p vs ∷ []))
+unfolding cutImage after kept flushed
+one-store image f zero p vs = inl refl
+one-store image f (suc c) p vs = rw (take-nil {A = Op} c) (go (ltb 0 (f (lineOf p))))
+  where
+    go : (b : Bool) → (after image (consIf b (store p vs) []) ≡ image) ⊎ (after image (consIf b (store p vs) []) ≡ sets image p vs)
+    go true = inr refl
+    go false = inl refl

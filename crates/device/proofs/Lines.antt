@@ -1,0 +1,207 @@
+-- Each line on its own: what a cut keeps of a line. The device's contract for the crates above.
+-- Assumes nothing.
+use Prim.Native.Nat.{ℕ, zero, suc, _+_, _-_, _<_}
+use mathlib.Core.Path.{_≡_, refl, sym, ap, _∙_, fun-ext}
+use mathlib.Core.Bool.{Bool, true, false, _&&_, _||_, true≢false}
+use mathlib.Core.List.{List, [], _∷_}
+use native.Mathlib.Omega.{arith}
+use native.Mathlib.Nat.{zero-add}
+use lib.ListN.{take}
+use lib.Seq.{take-nil}
+use lib.Dec.{ltb, eqb}
+use borrow.Author.Tests.{lt-ltb, eqb-true, eqb-false, eq-eqb, ne-eqb}
+use Rattle.codec.specs.Lists.{pick, All}
+use Rattle.device.specs.Tape.{Op, store, flush, malformed}
+use Rattle.device.specs.Cut.{lineOf, flushed, less, consIf, kept, stores, ofLine, settled, To}
+
+-- the first g l stores to each line l
+firsts : (ℕ → ℕ) → List Op → List Op
+firsts g [] = []
+firsts g (store p vs ∷ cs) = consIf (ltb 0 (g (lineOf p))) (store p vs) (firsts (less g (lineOf p)) cs)
+firsts g (flush l ∷ cs) = firsts g cs
+firsts g (malformed ∷ cs) = firsts g cs
+
+-- ---- a cut keeps the first stores of each line: those that are durable, and as many more as the choice says
+
+settled-none : (l : ℕ) (cs : List Op) → flushed l cs ≡ false → settled l cs ≡ 0
+unfolding flushed settled
+settled-none l [] e = refl
+settled-none l (store p vs ∷ cs) e = go (eqb (lineOf p) l) (settled-none l cs e)
+  where
+    go : (b : Bool) → settled l cs ≡ 0 → pick (b && flushed l cs) 1 0 + settled l cs ≡ 0
+    go true i = rw (e, i)
+    go false i = rw i
+settled-none l (flush m ∷ cs) e = go (eqb m l) e (settled-none l cs)
+  where
+    go : (b : Bool) → (b || flushed l cs) ≡ false → (flushed l cs ≡ false → settled l cs ≡ 0) → settled l cs ≡ 0
+    go true q i = absurd (true≢false q)
+    go false q i = i q
+settled-none l (malformed ∷ cs) e = settled-none l cs e
+
+module _ (f : ℕ → ℕ) (m : ℕ) (cs : List Op) where
+  -- what is kept of each line, before a store to line m
+  abbrev total : ℕ → ℕ
+  total l = pick (eqb m l && flushed l cs) 1 0 + settled l cs + f l
+
+  total-test : (flushed m cs || ltb 0 (f m)) ≡ ltb 0 (total m)
+  total-test = go (flushed m cs) refl
+    where
+      go : (b : Bool) → flushed m cs ≡ b → (b || ltb 0 (f m)) ≡ ltb 0 (total m)
+      go true e = sym (lt-ltb 0 (total m) (rw (eq-eqb m m refl, e) (omega arith)))
+      go false e = let q : total m ≡ f m = rw (eq-eqb m m refl, e, settled-none m cs e) (omega arith) in sym (ap (ltb 0) q)
+
+  total-rest : (λ (l : ℕ). settled l cs + pick (flushed m cs) f (less f m) l) ≡ less total m
+  total-rest = fun-ext (λ l. go l (eqb l m) refl (flushed m cs) refl)
+    where
+      go : (l : ℕ) (b : Bool) → eqb l m ≡ b → (d : Bool) → flushed m cs ≡ d → settled l cs + pick d f (less f m) l ≡ pick b (total l - 1) (total l)
+      go l true e true q =
+          let s : l ≡ m = eqb-true l m e in
+          rw (eq-eqb m l (sym s), ap (λ (k : ℕ). flushed k cs) s ∙ q) (omega arith)
+      go l true e false q =
+          let s : l ≡ m = eqb-true l m e in
+          let u : flushed l cs ≡ false = ap (λ (k : ℕ). flushed k cs) s ∙ q in
+          rw (eq-eqb m l (sym s), u, e) (omega (arith, settled-none l cs u))
+      go l false e true q = rw (ne-eqb m l (λ r. eqb-false l m e (sym r))) (omega arith)
+      go l false e false q = rw (ne-eqb m l (λ r. eqb-false l m e (sym r)), e) (omega arith)
+
+kept-firsts : (f : ℕ → ℕ) (cs : List Op) → kept f cs ≡ firsts (λ (l : ℕ). settled l cs + f l) cs
+unfolding kept firsts settled
+kept-firsts f [] = refl
+kept-firsts f (store p vs ∷ cs) =
+    let m = lineOf p in
+    let g = pick (flushed m cs) f (less f m) in
+    ap (λ (b : Bool). consIf b (store p vs) (kept g cs)) (total-test f m cs)
+    ∙ ap (consIf (ltb 0 (total f m cs m)) (store p vs)) (kept-firsts g cs ∙ ap (λ (h : ℕ → ℕ). firsts h cs) (total-rest f m cs))
+kept-firsts f (flush l ∷ cs) = kept-firsts f cs
+kept-firsts f (malformed ∷ cs) = kept-firsts f cs
+
+-- ---- of one line
+
+take-one : (k : ℕ) (o : Op) (cs : List Op) → consIf (ltb 0 k) o (take (k - 1) cs) ≡ take k (o ∷ cs)
+take-one zero o cs = refl
+take-one (suc k) o cs = let e : suc k - 1 ≡ k = omega arith in rw (lt-ltb 0 (suc k) (omega arith), e)
+
+less-here : (g : ℕ → ℕ) (m l : ℕ) → eqb m l ≡ true → less g m l ≡ g l - 1
+less-here g m l e = rw (eq-eqb l m (sym (eqb-true m l e)))
+
+less-there : (g : ℕ → ℕ) (m l : ℕ) → eqb m l ≡ false → less g m l ≡ g l
+less-there g m l e = rw (ne-eqb l m (λ q. eqb-false m l e (sym q)))
+
+take-less : (g : ℕ → ℕ) (m l : ℕ) (o : Op) (cs : List Op) → eqb m l ≡ true → consIf (ltb 0 (g m)) o (take (less g m l) cs) ≡ take (g l) (o ∷ cs)
+take-less g m l o cs e =
+    ap (λ (k : ℕ). consIf (ltb 0 (g k)) o (take (less g m l) cs)) (eqb-true m l e)
+    ∙ ap (λ (k : ℕ). consIf (ltb 0 (g l)) o (take k cs)) (less-here g m l e)
+    ∙ take-one (g l) o cs
+
+line-if : (l p : ℕ) (vs : List ℕ) (b k : Bool) (cs : List Op) → eqb (lineOf p) l ≡ b → ofLine l (consIf k (store p vs) cs) ≡ consIf (b && k) (store p vs) (ofLine l cs)
+unfolding ofLine
+line-if l p vs true true cs e = rw e
+line-if l p vs true false cs e = refl
+line-if l p vs false true cs e = rw e
+line-if l p vs false false cs e = refl
+
+-- of the first g stores of each line, those to line l
+line-firsts : (l : ℕ) (g : ℕ → ℕ) (cs : List Op) → ofLine l (firsts g cs) ≡ take (g l) (ofLine l (stores cs))
+unfolding firsts ofLine stores
+line-firsts l g [] = sym (take-nil {A = Op} (g l))
+line-firsts l g (store p vs ∷ cs) =
+    line-if l p vs (eqb (lineOf p) l) (ltb 0 (g (lineOf p))) (firsts (less g (lineOf p)) cs) refl ∙ go (eqb (lineOf p) l) refl (line-firsts l (less g (lineOf p)) cs)
+  where
+    go : (b : Bool) → eqb (lineOf p) l ≡ b → ofLine l (firsts (less g (lineOf p)) cs) ≡ take (less g (lineOf p) l) (ofLine l (stores cs)) →
+        consIf (b && ltb 0 (g (lineOf p))) (store p vs) (ofLine l (firsts (less g (lineOf p)) cs)) ≡ take (g l) (consIf b (store p vs) (ofLine l (stores cs)))
+    go true e i = ap (consIf (ltb 0 (g (lineOf p))) (store p vs)) i ∙ take-less g (lineOf p) l (store p vs) (ofLine l (stores cs)) e
+    go false e i = i ∙ ap (λ (k : ℕ). take k (ofLine l (stores cs))) (less-there g (lineOf p) l e)
+line-firsts l g (flush m ∷ cs) = line-firsts l g cs
+line-firsts l g (malformed ∷ cs) = line-firsts l g cs
+
+-- of the commands of line l, its first stores
+firsts-line : (l : ℕ) (g : ℕ → ℕ) (cs : List Op) → firsts g (ofLine l cs) ≡ take (g l) (ofLine l (stores cs))
+unfolding firsts ofLine stores
+firsts-line l g [] = sym (take-nil {A = Op} (g l))
+firsts-line l g (store p vs ∷ cs) = go (eqb (lineOf p) l) refl (λ h. firsts-line l h cs)
+  where
+    go : (b : Bool) → eqb (lineOf p) l ≡ b → ((h : ℕ → ℕ) → firsts h (ofLine l cs) ≡ take (h l) (ofLine l (stores cs))) →
+        firsts g (consIf b (store p vs) (ofLine l cs)) ≡ take (g l) (consIf b (store p vs) (ofLine l (stores cs)))
+    go true e i = ap (consIf (ltb 0 (g (lineOf p))) (store p vs)) (i (less g (lineOf p))) ∙ take-less g (lineOf p) l (store p vs) (ofLine l (stores cs)) e
+    go false e i = i g
+firsts-line l g (flush m ∷ cs) = go (eqb m l) (firsts-line l g cs)
+  where
+    go : (b : Bool) → firsts g (ofLine l cs) ≡ take (g l) (ofLine l (stores cs)) → firsts g (consIf b (flush m) (ofLine l cs)) ≡ take (g l) (ofLine l (stores cs))
+    go true i = i
+    go false i = i
+firsts-line l g (malformed ∷ cs) = firsts-line l g cs
+
+flushed-line : (l : ℕ) (cs : List Op) → flushed l (ofLine l cs) ≡ flushed l cs
+unfolding flushed ofLine
+flushed-line l [] = refl
+flushed-line l (store p vs ∷ cs) = go (eqb (lineOf p) l) (flushed-line l cs)
+  where
+    go : (b : Bool) → flushed l (ofLine l cs) ≡ flushed l cs → flushed l (consIf b (store p vs) (ofLine l cs)) ≡ flushed l cs
+    go true i = i
+    go false i = i
+flushed-line l (flush m ∷ cs) = go (eqb m l) refl (flushed-line l cs)
+  where
+    go : (b : Bool) → eqb m l ≡ b → flushed l (ofLine l cs) ≡ flushed l cs → flushed l (consIf b (flush m) (ofLine l cs)) ≡ (b || flushed l cs)
+    go true e i = rw e
+    go false e i = i
+flushed-line l (malformed ∷ cs) = flushed-line l cs
+
+settled-line : (l : ℕ) (cs : List Op) → settled l (ofLine l cs) ≡ settled l cs
+unfolding settled ofLine
+settled-line l [] = refl
+settled-line l (store p vs ∷ cs) = go (eqb (lineOf p) l) refl (settled-line l cs)
+  where
+    go : (b : Bool) → eqb (lineOf p) l ≡ b → settled l (ofLine l cs) ≡ settled l cs → settled l (consIf b (store p vs) (ofLine l cs)) ≡ pick (b && flushed l cs) 1 0 + settled l cs
+    go true e i = rw (e, flushed-line l cs, i)
+    go false e i = i ∙ sym (zero-add (settled l cs))
+settled-line l (flush m ∷ cs) = go (eqb m l) (settled-line l cs)
+  where
+    go : (b : Bool) → settled l (ofLine l cs) ≡ settled l cs → settled l (consIf b (flush m) (ofLine l cs)) ≡ settled l cs
+    go true i = i
+    go false i = i
+settled-line l (malformed ∷ cs) = settled-line l cs
+
+-- of each line a cut keeps a first part of its stores: those that are durable, and as many more as the choice says
+pub keep-line : (l : ℕ) (f : ℕ → ℕ) (cs : List Op) → ofLine l (kept f cs) ≡ take (settled l cs + f l) (ofLine l (stores cs))
+keep-line l f cs = ap (ofLine l) (kept-firsts f cs) ∙ line-firsts l (λ (m : ℕ). settled m cs + f m) cs
+
+-- what a cut keeps of line l is what it keeps of that line's commands alone
+pub each-line : (l : ℕ) (f : ℕ → ℕ) (cs : List Op) → ofLine l (kept f cs) ≡ kept f (ofLine l cs)
+each-line l f cs =
+    keep-line l f cs
+    ∙ ap (λ (k : ℕ). take (k + f l) (ofLine l (stores cs))) (sym (settled-line l cs))
+    ∙ sym (firsts-line l (λ (m : ℕ). settled m (ofLine l cs) + f m) cs)
+    ∙ sym (kept-firsts f (ofLine l cs))
+
+module _ (l : ℕ) where
+  to-line : (cs : List Op) → All (To l) cs → ofLine l cs ≡ cs
+  unfolding ofLine
+  to-line [] h = refl
+  to-line (store p vs ∷ cs) h = rw (eq-eqb (lineOf p) l (h .0)) (ap (λ (r : List Op). store p vs ∷ r) (to-line cs (h .1)))
+  to-line (flush m ∷ cs) h = absurd (h .0)
+  to-line (malformed ∷ cs) h = absurd (h .0)
+
+  to-stores : (cs : List Op) → All (To l) cs → stores cs ≡ cs
+  unfolding stores
+  to-stores [] h = refl
+  to-stores (store p vs ∷ cs) h = ap (λ (r : List Op). store p vs ∷ r) (to-stores cs (h .1))
+  to-stores (flush m ∷ cs) h = absurd (h .0)
+  to-stores (malformed ∷ cs) h = absurd (h .0)
+
+  to-pending : (cs : List Op) → All (To l) cs → flushed l cs ≡ false
+  unfolding flushed
+  to-pending [] h = refl
+  to-pending (store p vs ∷ cs) h = to-pending cs (h .1)
+  to-pending (flush m ∷ cs) h = absurd (h .0)
+  to-pending (malformed ∷ cs) h = absurd (h .0)
+
+-- pending stores of one line are kept as a first part
+pub first-part : (l : ℕ) (f : ℕ → ℕ) (cs : List Op) → All (To l) cs → kept f cs ≡ take (f l) cs
+first-part l f cs h =
+    ap (kept f) (sym (to-line l cs h))
+    ∙ sym (each-line l f cs)
+    ∙ keep-line l f cs
+    ∙ ap (λ (k : ℕ). take (k + f l) (ofLine l (stores cs))) (settled-none l cs (to-pending l cs h))
+    ∙ ap (λ (k : ℕ). take k (ofLine l (stores cs))) (zero-add (f l))
+    ∙ ap (λ (ds : List Op). take (f l) (ofLine l ds)) (to-stores l cs h)
+    ∙ ap (take (f l)) (to-line l cs h)

@@ -1,0 +1,189 @@
+-- Bytes that no store touches, and lists whose stores are flushed in them: the device's contract for the crates above.
+-- Assumes nothing.
+use Prim.Native.Nat.{ℕ, zero, suc, _+_, _≤_, _<_}
+use mathlib.Core.Path.{_≡_, refl, sym, ap, _∙_}
+use mathlib.Core.Bool.{Bool, true, false, _&&_, _||_, true≢false, false≢true}
+use mathlib.Core.List.{List, [], _∷_, _++_, append-nil}
+use mathlib.Core.Logic.{_⊎_, inl, inr}
+use native.Mathlib.Omega.{arith}
+use native.Mathlib.Nat.{le-of-suc-le-suc}
+use lib.ListN.{length, getD, take}
+use lib.Seq.{sets, length-sets, take-append-le, take-append-add, take-all, ext-getD}
+use lib.Dec.{ltb, leb, eqb}
+use borrow.Author.Tests.{leb-true, leb-false, ltb-true, ltb-false, le-leb, lt-leb, lt-ltb, le-ltb, eq-eqb}
+use Rattle.codec.specs.Lists.{pick}
+use Rattle.codec.proofs.Tests.{first, second}
+use Rattle.codec.proofs.Lists.{sets-apart, sets-both}
+use Rattle.device.specs.Tape.{Op, store, flush, malformed}
+use Rattle.device.specs.Cut.{apply, after, lineOf, flushed, less, consIf, kept, cutImage, hits, touches, Closed, Sealed}
+use Rattle.device.proofs.Cuts.{length-after, kept-durable}
+
+-- ---- two tests of which neither holds
+
+neither-first : (a b : Bool) → (a || b) ≡ false → a ≡ false
+neither-first true b e = e
+neither-first false b e = refl
+
+neither-second : (a b : Bool) → (a || b) ≡ false → b ≡ false
+neither-second true b e = absurd (true≢false e)
+neither-second false b e = e
+
+-- ---- bytes that no store touches
+
+hits-in : (p : ℕ) (vs : List ℕ) (i : ℕ) → hits (store p vs) i ≡ true → (p ≤ i) × (i < p + length vs)
+hits-in p vs i e = (leb-true p i (first (leb p i) (ltb i (p + length vs)) e), ltb-true i (p + length vs) (second (leb p i) (ltb i (p + length vs)) e))
+
+hits-out : (p : ℕ) (vs : List ℕ) (i : ℕ) → hits (store p vs) i ≡ false → (i < p) ⊎ (p + length vs ≤ i)
+hits-out p vs i e = go (leb p i) refl
+  where
+    go : (b : Bool) → leb p i ≡ b → (i < p) ⊎ (p + length vs ≤ i)
+    go false q = inl (leb-false p i q)
+    go true q = inr (ltb-false i (p + length vs) (rw q at e))
+
+-- a byte outside a store's bytes is not hit by it
+pub out-hits : (p : ℕ) (vs : List ℕ) (i : ℕ) → (i < p) ⊎ (p + length vs ≤ i) → hits (store p vs) i ≡ false
+out-hits p vs i (inl h) = rw (lt-leb p i h)
+out-hits p vs i (inr h) = let a : p ≤ i = omega arith in rw (le-leb p i a, le-ltb i (p + length vs) h)
+
+pub touches-append : (a b : List Op) (i : ℕ) → touches (a ++ b) i ≡ (touches a i || touches b i)
+unfolding touches
+touches-append [] b i = refl
+touches-append (o ∷ a) b i = go (hits o i) (touches-append a b i)
+  where
+    go : (t : Bool) → touches (a ++ b) i ≡ (touches a i || touches b i) → (t || touches (a ++ b) i) ≡ ((t || touches a i) || touches b i)
+    go true q = refl
+    go false q = q
+
+length-apply : (image : List ℕ) (o : Op) → length (apply image o) ≡ length image
+length-apply image (store p vs) = length-sets image p vs
+length-apply image (flush l) = refl
+length-apply image malformed = refl
+
+apply-other : (image : List ℕ) (o : Op) (i : ℕ) → hits o i ≡ false → getD (apply image o) i 0 ≡ getD image i 0
+apply-other image (store p vs) i e = sets-apart image p vs i (hits-out p vs i e)
+apply-other image (flush l) i e = refl
+apply-other image malformed i e = refl
+
+-- an untouched byte stays
+pub run-other : (image : List ℕ) (cs : List Op) (i : ℕ) → touches cs i ≡ false → getD (after image cs) i 0 ≡ getD image i 0
+unfolding after touches
+run-other image [] i e = refl
+run-other image (o ∷ cs) i e = run-other (apply image o) cs i (neither-second (hits o i) (touches cs i) e) ∙ apply-other image o i (neither-first (hits o i) (touches cs i) e)
+
+-- equally long images that agree at a byte, unless it is stored, agree there afterwards
+apply-both : (a b : List ℕ) (o : Op) (i : ℕ) → length a ≡ length b → (hits o i ≡ false → getD a i 0 ≡ getD b i 0) → getD (apply a o) i 0 ≡ getD (apply b o) i 0
+apply-both a b (store p vs) i e h = go (hits (store p vs) i) refl
+  where
+    go : (t : Bool) → hits (store p vs) i ≡ t → getD (sets a p vs) i 0 ≡ getD (sets b p vs) i 0
+    go true q = let r = hits-in p vs i q in sets-both a b p vs i e (r .0) (r .1)
+    go false q = apply-other a (store p vs) i q ∙ h q ∙ sym (apply-other b (store p vs) i q)
+apply-both a b (flush l) i e h = h refl
+apply-both a b malformed i e h = h refl
+
+run-both : (a b : List ℕ) (cs : List Op) (i : ℕ) → length a ≡ length b → (touches cs i ≡ false → getD a i 0 ≡ getD b i 0) → getD (after a cs) i 0 ≡ getD (after b cs) i 0
+unfolding after touches
+run-both a b [] i e h = h refl
+run-both a b (o ∷ cs) i e h =
+    run-both (apply a o) (apply b o) cs i (length-apply a o ∙ e ∙ sym (length-apply b o)) (λ q. apply-both a b o i e (λ r. h (rw (r, q))))
+
+-- equally long images that agree on the untouched bytes are equal afterwards
+pub run-over : (a b : List ℕ) (cs : List Op) → length a ≡ length b → ((i : ℕ) → touches cs i ≡ false → getD a i 0 ≡ getD b i 0) → after a cs ≡ after b cs
+run-over a b cs e h = ext-getD 0 (after a cs) (after b cs) (length-after a cs ∙ e ∙ sym (length-after b cs)) (λ i k. run-both a b cs i e (h i))
+
+-- ---- untouched bytes and a cut
+
+touches-if : (t : Bool) (o : Op) (cs : List Op) (i : ℕ) → hits o i ≡ false → touches cs i ≡ false → touches (consIf t o cs) i ≡ false
+unfolding touches
+touches-if true o cs i e h = rw (e, h)
+touches-if false o cs i e h = h
+
+touches-kept : (f : ℕ → ℕ) (cs : List Op) (i : ℕ) → touches cs i ≡ false → touches (kept f cs) i ≡ false
+unfolding kept touches
+touches-kept f [] i e = refl
+touches-kept f (store p vs ∷ cs) i e =
+    let g = pick (flushed (lineOf p) cs) f (less f (lineOf p)) in
+    touches-if (flushed (lineOf p) cs || ltb 0 (f (lineOf p))) (store p vs) (kept g cs) i
+    (neither-first (hits (store p vs) i) (touches cs i) e)
+    (touches-kept g cs i (neither-second (hits (store p vs) i) (touches cs i) e))
+touches-kept f (flush l ∷ cs) i e = touches-kept f cs i e
+touches-kept f (malformed ∷ cs) i e = touches-kept f cs i e
+
+touches-take : (c : ℕ) (cs : List Op) (i : ℕ) → touches cs i ≡ false → touches (take c cs) i ≡ false
+unfolding touches
+touches-take zero cs i e = refl
+touches-take (suc c) [] i e = refl
+touches-take (suc c) (o ∷ cs) i e = rw (neither-first (hits o i) (touches cs i) e, touches-take c cs i (neither-second (hits o i) (touches cs i) e))
+
+-- an untouched byte survives every cut
+pub cut-untouched : (image : List ℕ) (f : ℕ → ℕ) (c : ℕ) (cs : List Op) (i : ℕ) → touches cs i ≡ false → getD (cutImage image f c cs) i 0 ≡ getD image i 0
+unfolding cutImage
+cut-untouched image f c cs i e = run-other image (kept f (take c cs)) i (touches-kept f (take c cs) i (touches-take c cs i e))
+
+-- ---- lists whose stores are flushed in them
+
+pub flushed-append : (l : ℕ) (a b : List Op) → flushed l (a ++ b) ≡ (flushed l a || flushed l b)
+unfolding flushed
+flushed-append l [] b = refl
+flushed-append l (store p vs ∷ a) b = flushed-append l a b
+flushed-append l (flush m ∷ a) b = go (eqb m l) (flushed-append l a b)
+  where
+    go : (t : Bool) → flushed l (a ++ b) ≡ (flushed l a || flushed l b) → (t || flushed l (a ++ b)) ≡ ((t || flushed l a) || flushed l b)
+    go true q = refl
+    go false q = q
+flushed-append l (malformed ∷ a) b = flushed-append l a b
+
+or-true : (a : Bool) → (a || true) ≡ true
+or-true true = refl
+or-true false = refl
+
+flushed-first : (l : ℕ) (a b : List Op) → flushed l a ≡ true → flushed l (a ++ b) ≡ true
+flushed-first l a b e = flushed-append l a b ∙ rw e
+
+flushed-second : (l : ℕ) (a b : List Op) → flushed l b ≡ true → flushed l (a ++ b) ≡ true
+flushed-second l a b e = flushed-append l a b ∙ rw e (or-true (flushed l a))
+
+pub closed-append : (a b : List Op) → Closed a → Closed b → Closed (a ++ b)
+unfolding Closed
+closed-append [] b c d = d
+closed-append (store p vs ∷ a) b c d = (flushed-first (lineOf p) a b (c .0), closed-append a b (c .1) d)
+closed-append (flush l ∷ a) b c d = closed-append a b c d
+closed-append (malformed ∷ a) b c d = closed-append a b c d
+
+-- stores, and then a list that flushes their lines
+pub sealed-closed : (a b : List Op) → Sealed a b → Closed b → Closed (a ++ b)
+unfolding Closed Sealed
+sealed-closed [] b s c = c
+sealed-closed (store p vs ∷ a) b s c = (flushed-second (lineOf p) a b (s .0), sealed-closed a b (s .1) c)
+sealed-closed (flush l ∷ a) b s c = sealed-closed a b s c
+sealed-closed (malformed ∷ a) b s c = sealed-closed a b s c
+
+-- more flushes do no harm
+pub sealed-more : (a b d : List Op) → Sealed a d → Sealed a (b ++ d)
+unfolding Sealed
+sealed-more [] b d s = tt
+sealed-more (store p vs ∷ a) b d s = (flushed-second (lineOf p) b d (s .0), sealed-more a b d (s .1))
+sealed-more (flush l ∷ a) b d s = sealed-more a b d s
+sealed-more (malformed ∷ a) b d s = sealed-more a b d s
+
+-- stores that are flushed are all kept, and what follows is kept as if it stood alone
+kept-closed : (image : List ℕ) (f : ℕ → ℕ) (a b : List Op) → Closed a → after image (kept f (a ++ b)) ≡ after (after image a) (kept f b)
+unfolding after kept Closed
+kept-closed image f [] b c = refl
+kept-closed image f (store p vs ∷ a) b c = ap (after image) (kept-durable f p vs (a ++ b) (flushed-first (lineOf p) a b (c .0))) ∙ kept-closed (sets image p vs) f a b (c .1)
+kept-closed image f (flush l ∷ a) b c = kept-closed image f a b c
+kept-closed image f (malformed ∷ a) b c = kept-closed image f a b c
+
+-- a cut in the first part is a cut of it
+pub cut-early : (image : List ℕ) (f : ℕ → ℕ) (c : ℕ) (a b : List Op) → c ≤ length a → cutImage image f c (a ++ b) ≡ cutImage image f c a
+unfolding cutImage
+cut-early image f c a b h = ap (λ (cs : List Op). after image (kept f cs)) (take-append-le c a b h)
+
+-- a cut past a closed part is a cut of the rest over the image after it
+pub cut-late : (image : List ℕ) (f : ℕ → ℕ) (d : ℕ) (a b : List Op) → Closed a → cutImage image f (length a + d) (a ++ b) ≡ cutImage (after image a) f d b
+unfolding cutImage
+cut-late image f d a b c = ap (λ (cs : List Op). after image (kept f cs)) (take-append-add a b d) ∙ kept-closed image f a (take d b) c
+
+-- a cut at the end of a closed list, or past it, leaves the image after it
+pub cut-all : (image : List ℕ) (f : ℕ → ℕ) (c : ℕ) (a : List Op) → Closed a → length a ≤ c → cutImage image f c a ≡ after image a
+unfolding cutImage after kept
+cut-all image f c a k h = ap (λ (cs : List Op). after image (kept f cs)) (take-all c a h ∙ sym (append-nil a)) ∙ kept-closed image f a [] k

@@ -1,0 +1,54 @@
+-- `keep_line`: the store is made exactly if it is kept.
+-- Assumes nothing.
+use mathlib.Core.Path.{sym, _∙_}
+use borrow.Author.Tests.{not-true, not-false}
+use Rattle.device.specs.Tape.{store}
+use Rattle.device.specs.Cut.{kept}
+use borrow.Author.Needs.{needs}
+use Rattle.device.proofs.keep_line.Statement.{statement}
+use Rattle.device.proofs.keep_line.Tie as tie
+
+is-kept-requires : tie.Need-is-kept-requires
+is-kept-requires c κs = search needs
+
+same-length : tie.Need-same-length
+same-length c = search needs
+
+returns : tie.Need-returns
+returns c =
+    let test = sym (c .before .before .before .is-kept .ensures .0) ∙ not-true _ (c .if1 .taken) in
+    record { made = rw test; counted = c .before .before .before .is-kept .ensures .1 }
+
+mul-copy-line : tie.Need-mul-copy-line
+mul-copy-line c = search needs
+
+add-copy-line : tie.Need-add-copy-line
+add-copy-line c = search needs
+
+copy-line-requires : tie.Need-copy-line-requires
+copy-line-requires c κs = search needs
+
+same-length-2 : tie.Need-same-length-2
+same-length-2 c = search needs
+
+same-length-3 : tie.Need-same-length-3
+same-length-3 c = search needs
+
+returns-2 : tie.Need-returns-2
+returns-2 c =
+    let test = sym (c .before .before .before .before .before .before .before .is-kept .ensures .0) ∙ not-false _ (c .before .before .before .before .if1 .left) in
+    record { made = rw test (c .before .before .copy-line .ensures); counted = c .before .before .before .before .before .before .before .is-kept .ensures .1 }
+
+pub keep-line-spec : {M : Type 1} → statement M
+keep-line-spec =
+    tie.close
+    (tie.spec
+    is-kept-requires
+    same-length
+    returns
+    mul-copy-line
+    add-copy-line
+    copy-line-requires
+    same-length-2
+    same-length-3
+    returns-2)

@@ -1,0 +1,172 @@
+-- `replay`: what is kept of the commands left, made over what is there, is what is kept of all.
+-- Assumes nothing.
+use Prim.Native.Nat.{ℕ, _*_, _≤_, _<_}
+use mathlib.Core.Path.{_≡_, refl, sym, ap, _∙_}
+use mathlib.Core.Bool.{true}
+use native.Mathlib.Omega.{arith}
+use lib.ListN.{length, getD, take, drop}
+use Rattle.device.specs.Tape.{store, flush, isCommand, decode, wellFormed}
+use Rattle.device.specs.Cut.{after, kept, cutImage}
+use Rattle.device.proofs.Decode.{StoreAt, FlushAt, more-at, good-command, word-at, line-at, flush-at, head-at, store-good, flush-good}
+use Rattle.device.proofs.Counts.{Noted, noted-start}
+use Rattle.device.proofs.Turns.{replay-store, replay-flush, noted-past-store, noted-past-flush}
+use Rattle.device.proofs.replay.Statement.{statement}
+use Rattle.device.proofs.replay.Tie as tie
+
+abbrev Inv-loop : tie.InvT-loop
+Inv-loop work₀ left₀ last tape c at₀ todo₀ work left at todo =
+    (at ≤ length tape) × (length work ≡ length work₀) × (length left ≡ length left₀)
+    × (wellFormed (decode (length work₀) (drop at tape)) ≡ true)
+    × (todo ≤ length (decode (length work₀) (drop at tape)))
+    × ((l : ℕ) → Noted last at (take todo (decode (length work₀) (drop at tape))) l)
+    × (after work (kept (λ l. getD left l 0) (take todo (decode (length work₀) (drop at tape)))) ≡ cutImage work₀ (λ l. getD left₀ l 0) c (decode (length work₀) tape))
+
+abbrev μ-loop : tie.MeasureT-loop
+μ-loop work₀ left₀ last tape c at₀ todo₀ work left at todo = todo
+
+loop-holds : tie.Need-loop-holds Inv-loop μ-loop
+unfolding cutImage
+loop-holds c =
+    let a = c .before .before .before .before .args in
+    (omega arith, refl, refl, c .before .before .before .before .pre .1 .0 .0, c .before .before .before .before .pre .1 .0 .1, λ l. noted-start (a .last .now) (take (a .c) (decode (length (a .work .now)) (a .tape .now))) l (c .before .before .before .before .pre .1 .1 l), refl)
+
+-- bytes are left where commands are
+more : (c : tie.In-loop Inv-loop μ-loop) → c .before .loop .at < length (c .before .before .before .before .before .before .args .tape .now)
+more c = more-at (length (c .before .before .before .before .before .before .args .work .now)) (c .before .loop .at) (c .before .before .before .before .before .before .args .tape .now) (omega arith)
+
+-- a command stands at the place reached
+here : (c : tie.In-loop Inv-loop μ-loop) → isCommand (length (c .before .before .before .before .before .before .args .work .now)) (drop (c .before .loop .at) (c .before .before .before .before .before .before .args .tape .now)) ≡ true
+here c = good-command _ _ _ (more c) (c .before .loop .inv .3)
+
+shared-slice-read-kind : tie.Need-shared-slice-read-kind Inv-loop μ-loop
+shared-slice-read-kind c = more (c .before)
+
+add-number-at : tie.Need-add-number-at Inv-loop μ-loop
+add-number-at c = let k = head-at _ _ _ (more (c .before)) (here (c .before)) in omega arith
+
+number-at-requires : tie.Need-number-at-requires Inv-loop μ-loop
+number-at-requires c κs = let k = head-at _ _ _ (more (c .before)) (here (c .before)) in omega arith
+
+-- the word store, line store or flush that was read
+word : (c : tie.Then1 Inv-loop μ-loop) → StoreAt (length (c .before .before .before .before .before .before .before .before .before .args .work .now)) (c .before .before .before .before .before .before .before .before .before .args .tape .now) (c .before .before .before .before .loop .at) (8 * c .before .number-at .result) 8
+word c = word-at _ _ _ (more (c .before .before .before)) (here (c .before .before .before)) _ (c .before .number-at .ensures .0) (c .if1 .taken)
+
+line : (c : tie.Then2 Inv-loop μ-loop) → StoreAt (length (c .before .before .before .before .before .before .before .before .before .before .args .work .now)) (c .before .before .before .before .before .before .before .before .before .before .args .tape .now) (c .before .before .before .before .before .loop .at) (64 * c .before .before .number-at .result) 64
+line c = line-at _ _ _ (more (c .before .before .before .before)) (here (c .before .before .before .before)) _ (c .before .before .number-at .ensures .0) (c .if2 .taken)
+
+flushed-line : (c : tie.Else2 Inv-loop μ-loop) → FlushAt (length (c .before .before .before .before .before .before .before .before .before .before .args .work .now)) (c .before .before .before .before .before .before .before .before .before .before .args .tape .now) (c .before .before .before .before .before .loop .at) (c .before .before .number-at .result)
+flushed-line c = flush-at _ _ _ (more (c .before .before .before .before)) (here (c .before .before .before .before)) _ (c .before .before .number-at .ensures .0) (c .before .if1 .left) (c .if2 .left)
+
+keep-word-requires : tie.Need-keep-word-requires Inv-loop μ-loop
+keep-word-requires c κs = let k = word (c .before .before) in (omega arith, k .inTape, omega arith, omega arith)
+
+add-at : tie.Need-add-at Inv-loop μ-loop
+add-at c = let k = word (c .before .before .before .before .before .before .before) in omega arith
+
+sub-todo : tie.Need-sub-todo Inv-loop μ-loop
+sub-todo c = omega arith
+
+loop-less : tie.Need-loop-less Inv-loop μ-loop
+loop-less c = omega arith
+
+loop-again : tie.Need-loop-again Inv-loop μ-loop
+loop-again c =
+    let k = word (c .before .before .before .before .before .before .before) in
+    let l = c .before .before .before .before .before .before .before .before .before .before .before .loop in (
+      k .inTape,
+      omega (arith, c .before .before .before .before .keep-word .kept .0),
+      omega (arith, c .before .before .before .before .keep-word .kept .1),
+      store-good _ _ _ _ _ k (l .inv .3),
+      omega (arith, ap length (k .next)),
+      noted-past-store (length (c .before .before .before .before .before .before .before .before .before .before .before .before .before .before .before .before .args .work .now)) (c .before .before .before .before .before .before .before .before .before .before .before .before .before .before .before .before .args .tape .now) (l .at) (l .todo) (c .before .before .before .before .before .before .before .before .before .before .loop-test .taken) (c .before .before .before .before .before .before .before .before .before .before .before .before .before .before .before .before .args .last .now) (l .inv .5) _ _ k,
+      replay-store (length (c .before .before .before .before .before .before .before .before .before .before .before .before .before .before .before .before .args .work .now)) (c .before .before .before .before .before .before .before .before .before .before .before .before .before .before .before .before .args .tape .now) (l .at) (l .todo) (c .before .before .before .before .before .before .before .before .before .before .loop-test .taken) (c .before .before .before .before .before .before .before .before .before .before .before .before .before .before .before .before .args .last .now) (l .inv .5) _ _ k _ (l .work) (l .left) _ _ (omega arith) (l .inv .1) (omega arith) (c .before .before .before .before .keep-word .ensures) ∙ l .inv .6,
+    )
+
+keep-line-requires : tie.Need-keep-line-requires Inv-loop μ-loop
+keep-line-requires c κs = let k = line (c .before .before) in (omega arith, k .inTape, omega arith, omega arith)
+
+add-at-2 : tie.Need-add-at-2 Inv-loop μ-loop
+add-at-2 c = let k = line (c .before .before .before .before .before .before .before) in omega arith
+
+sub-todo-2 : tie.Need-sub-todo-2 Inv-loop μ-loop
+sub-todo-2 c = omega arith
+
+loop-less-2 : tie.Need-loop-less-2 Inv-loop μ-loop
+loop-less-2 c = omega arith
+
+loop-again-2 : tie.Need-loop-again-2 Inv-loop μ-loop
+loop-again-2 c =
+    let k = line (c .before .before .before .before .before .before .before) in
+    let l = c .before .before .before .before .before .before .before .before .before .before .before .before .loop in (
+      k .inTape,
+      omega (arith, c .before .before .before .before .keep-line .kept .0),
+      omega (arith, c .before .before .before .before .keep-line .kept .1),
+      store-good _ _ _ _ _ k (l .inv .3),
+      omega (arith, ap length (k .next)),
+      noted-past-store (length (c .before .before .before .before .before .before .before .before .before .before .before .before .before .before .before .before .before .args .work .now)) (c .before .before .before .before .before .before .before .before .before .before .before .before .before .before .before .before .before .args .tape .now) (l .at) (l .todo) (c .before .before .before .before .before .before .before .before .before .before .before .loop-test .taken) (c .before .before .before .before .before .before .before .before .before .before .before .before .before .before .before .before .before .args .last .now) (l .inv .5) _ _ k,
+      replay-store (length (c .before .before .before .before .before .before .before .before .before .before .before .before .before .before .before .before .before .args .work .now)) (c .before .before .before .before .before .before .before .before .before .before .before .before .before .before .before .before .before .args .tape .now) (l .at) (l .todo) (c .before .before .before .before .before .before .before .before .before .before .before .loop-test .taken) (c .before .before .before .before .before .before .before .before .before .before .before .before .before .before .before .before .before .args .last .now) (l .inv .5) _ _ k _ (l .work) (l .left) _ _ (omega arith) (l .inv .1) (omega arith) (c .before .before .before .before .keep-line .ensures) ∙ l .inv .6,
+    )
+
+add-at-3 : tie.Need-add-at-3 Inv-loop μ-loop
+add-at-3 c = let k = flushed-line c in omega arith
+
+sub-todo-3 : tie.Need-sub-todo-3 Inv-loop μ-loop
+sub-todo-3 c = omega arith
+
+loop-less-3 : tie.Need-loop-less-3 Inv-loop μ-loop
+loop-less-3 c = omega arith
+
+loop-again-3 : tie.Need-loop-again-3 Inv-loop μ-loop
+loop-again-3 c =
+    let k = flushed-line c in
+    let l = c .before .before .before .before .before .loop in (
+      k .inTape,
+      l .inv .1,
+      l .inv .2,
+      flush-good _ _ _ _ k (l .inv .3),
+      omega (arith, ap length (k .next)),
+      noted-past-flush (length (c .before .before .before .before .before .before .before .before .before .before .args .work .now)) (c .before .before .before .before .before .before .before .before .before .before .args .tape .now) (l .at) (l .todo) (c .before .before .before .before .loop-test .taken) (c .before .before .before .before .before .before .before .before .before .before .args .last .now) (l .inv .5) _ k,
+      replay-flush (length (c .before .before .before .before .before .before .before .before .before .before .args .work .now)) (c .before .before .before .before .before .before .before .before .before .before .args .tape .now) (l .at) (l .todo) (c .before .before .before .before .loop-test .taken) (c .before .before .before .before .before .before .before .before .before .before .args .last .now) (l .inv .5) _ k (l .work) (l .left) ∙ l .inv .6,
+    )
+
+same-length : tie.Need-same-length Inv-loop μ-loop
+same-length c = c .before .loop .inv .1
+
+same-length-2 : tie.Need-same-length-2 Inv-loop μ-loop
+same-length-2 c = c .before .loop .inv .2
+
+returns : tie.Need-returns Inv-loop μ-loop
+unfolding after kept
+returns c =
+    let a = c .before .before .before .before .before .before .args in
+    let l = c .before .loop in
+    let none : l .todo ≡ 0 = omega arith in
+    sym (ap (λ (k : ℕ). after (l .work) (kept (λ i. getD (l .left) i 0) (take k (decode (length (a .work .now)) (drop (l .at) (a .tape .now)))))) none) ∙ l .inv .6
+
+pub replay-spec : {M : Type 1} → statement M
+replay-spec =
+    tie.close
+    (tie.spec
+    Inv-loop
+    μ-loop
+    loop-holds
+    shared-slice-read-kind
+    add-number-at
+    number-at-requires
+    keep-word-requires
+    add-at
+    sub-todo
+    loop-less
+    loop-again
+    keep-line-requires
+    add-at-2
+    sub-todo-2
+    loop-less-2
+    loop-again-2
+    add-at-3
+    sub-todo-3
+    loop-less-3
+    loop-again-3
+    same-length
+    same-length-2
+    returns)

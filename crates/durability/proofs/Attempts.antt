@@ -1,0 +1,68 @@
+-- Recoveries, refused or cut: the table that a recovery would give stays, and one that completes gives it.
+-- Assumes nothing.
+use Prim.Native.Nat.{ℕ, _≤_}
+use mathlib.Core.Path.{_≡_, refl, sym, ap, _∙_, subst}
+use mathlib.Core.Bool.{Bool, true, false}
+use mathlib.Core.List.{List, [], _∷_}
+use lib.ListN.{length, take}
+use Rattle.codec.specs.Lists.{splice}
+use Rattle.device.specs.Tape.{decode, tapeBytes}
+use Rattle.device.specs.Cut.{after, cutImage}
+use Rattle.page.specs.Layout.{Rec}
+use Rattle.image.specs.Image.{sound}
+use Rattle.image.specs.Table.{table}
+use Rattle.journal.proofs.Standing.{replay}
+use Rattle.journal.proofs.Replay.{tapeOf, Holds, holds-size, recovery-run, recovery-cut}
+use Rattle.journal.proofs.Fitting.{recovery-decode}
+use Rattle.recovery.specs.Calls.{Result, acceptedWith, recoverCall}
+use Rattle.recovery.specs.declared.Redone.{Redone}
+use Rattle.recovery.specs.declared.Recovered.{Recovered}
+use Rattle.recovery.specs.declared.Recovered.the-variants.{Accepted, Refused}
+use Rattle.durability.specs.Demand.{commandsOn, Attempt, cutBy, attempted, attemptedAll, Allowed, AllAllowed}
+use Rattle.durability.proofs.Recovered.{only-room, accepted-tape, accepts}
+use Rattle.durability.proofs.Transactions.{front-back}
+
+module _ (t : List Rec) (img : List ℕ) (h : Holds t img) where
+  pub holds-allowed : (work tape : List ℕ) → Allowed (recoverCall img work tape .answer)
+  holds-allowed = only-room img (holds-size img h) (h .isReplayable) (h .isSound)
+
+  -- given room, it is accepted
+  pub holds-accepted : (work tape : List ℕ) → length work ≡ length img → length (tapeBytes (tapeOf img)) ≤ length tape → (e : Redone) × (recoverCall img work tape .answer ≡ Accepted e)
+  unfolding acceptedWith
+  holds-accepted work tape w r = (_, ap (λ (x : Result). x .answer) (accepts img (holds-size img h) (h .isReplayable) (h .isSound) work tape w r))
+
+  -- an accepted recovery's bytes say its commands
+  commands-are : (work tape : List ℕ) (e : Redone) → recoverCall img work tape .answer ≡ Accepted e → commandsOn img (e .bytes) (recoverCall img work tape .tape) ≡ tapeOf img
+  commands-are work tape e q =
+      let r = accepted-tape img (holds-size img h) (h .isReplayable) (h .isSound) work tape e q in
+      ap (λ (b : List ℕ). decode (length img) (take (e .bytes) b)) (r .1)
+      ∙ ap (λ (n : ℕ). decode (length img) (take n (splice tape 0 (tapeBytes (tapeOf img))))) (r .0)
+      ∙ ap (decode (length img)) (front-back tape (tapeBytes (tapeOf img)) (r .2))
+      ∙ recovery-decode img h
+
+  -- refused or cut, it leaves an image that holds the same
+  pub attempt-holds : (x : Attempt) → Holds t (attempted img x)
+  unfolding cutBy
+  attempt-holds x = go (recoverCall img (x .work) (x .tape) .answer) refl
+    where
+      go : (r : Recovered) → recoverCall img (x .work) (x .tape) .answer ≡ r → Holds t (cutBy img r (recoverCall img (x .work) (x .tape) .tape) (x .stop) (x .choices))
+      go (Accepted e) q =
+          subst (Holds t) (ap (cutImage img (x .choices) (x .stop)) (sym (commands-are (x .work) (x .tape) e q))) (recovery-cut img (x .choices) (x .stop) h)
+      go (Refused r) q = h
+
+  -- one that completes gives the sound store with the table t
+  pub completed : (work tape : List ℕ) (e : Redone) → recoverCall img work tape .answer ≡ Accepted e →
+      (sound (after img (commandsOn img (e .bytes) (recoverCall img work tape .tape))) ≡ true) × (table (after img (commandsOn img (e .bytes) (recoverCall img work tape .tape))) ≡ t)
+  completed work tape e q =
+      let same : after img (commandsOn img (e .bytes) (recoverCall img work tape .tape)) ≡ replay img = ap (after img) (commands-are work tape e q) ∙ recovery-run img h in
+      (ap sound same ∙ h .isSound, ap table same ∙ h .isTable)
+
+pub attempts-hold : (xs : List Attempt) (t : List Rec) (img : List ℕ) → Holds t img → Holds t (attemptedAll img xs)
+unfolding attemptedAll
+attempts-hold [] t img h = h
+attempts-hold (x ∷ xs) t img h = attempts-hold xs t (attempted img x) (attempt-holds t img h x)
+
+pub attempts-allowed : (xs : List Attempt) (t : List Rec) (img : List ℕ) → Holds t img → AllAllowed img xs
+unfolding AllAllowed
+attempts-allowed [] t img h = tt
+attempts-allowed (x ∷ xs) t img h = (holds-allowed t img h (x .work) (x .tape), attempts-allowed xs t (attempted img x) (attempt-holds t img h x))

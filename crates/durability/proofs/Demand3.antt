@@ -1,0 +1,114 @@
+-- Demand 3: after any list of transactions, a power failure at any command of the next accepted one, and any recoveries, the store holds
+-- exactly the transactions that it must.
+-- Assumes nothing.
+use Prim.Native.Nat.{ℕ, suc, _+_, _≤_, _<_}
+use mathlib.Core.Path.{_≡_, refl, sym, ap, _∙_, subst}
+use mathlib.Core.Logic.{_⊎_, inl, inr}
+use mathlib.Core.Bool.{Bool, true, false}
+use mathlib.Core.List.{List, [], _∷_, _++_}
+use native.Mathlib.Decide.{decLe}
+use native.Mathlib.Omega.{arith}
+use lib.ListN.{length}
+use Rattle.device.specs.Tape.{Op}
+use Rattle.device.specs.Cut.{cutImage, lineOf}
+use Rattle.page.specs.Layout.{Rec}
+use Rattle.image.specs.Image.{sound}
+use Rattle.image.specs.Table.{table}
+use Rattle.edit.specs.Ledger.{Ledger, opened, applyEdits}
+use Rattle.journal.specs.declared.CommitPlace.{CommitPlace}
+use Rattle.journal.proofs.Replay.{Holds}
+use Rattle.journal.proofs.Taken.{txn-before, txn-between, txn-after}
+use Rattle.journal.specs.declared.Commit.{Commit}
+use Rattle.transaction.specs.declared.Transacted.the-variants as transacted
+use Rattle.durability.specs.Demand.{Call, onImage, played, Feed, feedOf, feeds, ledgerAfter, tableAt, Attempt, attemptedAll, placeOffset, commitAt, Issued, Flushed, before, commands, failed, last, history, ledger, accepted, Survives, Demand3}
+use Rattle.durability.proofs.Counts.{table-last, table-next}
+use Rattle.durability.proofs.Transactions.{run, target, taken, edited, edited-table, room, answer-is, commands-are, accepted-feed, played-sound, played-table}
+use Rattle.durability.proofs.Attempts.{holds-allowed, holds-accepted, completed, attempts-hold, attempts-allowed}
+use Rattle.durability.proofs.Committed.{commit-found, flushed-late}
+
+module _ (a : List ℕ) (ks : List Call) (k : Call) (c : ℕ) (f : ℕ → ℕ) (xs : List Attempt) (d : Commit) (s : sound a ≡ true)
+    (e : onImage (played a ks) k .answer ≡ transacted.Accepted d) where
+  abbrev img : List ℕ
+  img = played a ks
+
+  sound-img : sound img ≡ true
+  sound-img = played-sound ks a s
+
+  abbrev w : List ℕ
+  w = target img sound-img k d e
+
+  abbrev cs : List Op
+  cs = commands a ks k c f xs d
+
+  abbrev n : ℕ
+  n = accepted a ks k c f xs d
+
+  -- the ledger's tables at n and at n + 1
+  table-n : table img ≡ tableAt n (ledger a ks k c f xs d) (history a ks k c f xs d)
+  table-n = sym (played-table ks a s (opened (table a)) refl) ∙ sym (table-last (opened (table a)) (feeds a ks) (feedOf img k ∷ []))
+
+  table-more : table w ≡ tableAt (suc n) (ledger a ks k c f xs d) (history a ks k c f xs d)
+  table-more =
+      edited-table img sound-img k d e
+      ∙ ap (applyEdits (run img sound-img k d e .list)) (sym (played-table ks a s (opened (table a)) refl))
+      ∙ sym (table-next (opened (table a)) (feeds a ks) (run img sound-img k d e .list))
+      ∙ ap (λ (g : Feed). tableAt (suc n) (opened (table a)) (feeds a ks ++ (g ∷ []))) (sym (accepted-feed img sound-img k d e))
+
+  -- the commit store is found where it was put
+  found : commitAt (d .place) cs ≡ taken img sound-img k d e .commitAt
+  found =
+      ap (commitAt (d .place)) (commands-are img sound-img k d e)
+      ∙ ap (λ (x : Commit). commitAt (x .place) (taken img sound-img k d e .tape)) (answer-is img sound-img k d e)
+      ∙ commit-found img w sound-img (edited img sound-img k d e) (room img sound-img k d e)
+
+  failed-is : failed a ks k c f xs d ≡ cutImage img f c (taken img sound-img k d e .tape)
+  failed-is = ap (cutImage img f c) (commands-are img sound-img k d e)
+
+  -- the image that the failure leaves decides what is held
+  survives : (j : ℕ) → (j ≡ n) ⊎ (j ≡ suc n) → ((Issued (d .place) cs c → ⊥) → j ≡ n) → (Flushed (d .place) cs c → j ≡ suc n) →
+      Holds (tableAt j (ledger a ks k c f xs d) (history a ks k c f xs d)) (failed a ks k c f xs d) → Survives a ks k c f xs d
+  survives j o b g h =
+      let t = tableAt j (ledger a ks k c f xs d) (history a ks k c f xs d) in
+      let img-last = attempts-hold xs t (failed a ks k c f xs d) h in
+      record {
+        held = j;
+        oneOf = o;
+        beforeIssue = b;
+        afterFlush = g;
+        onlyRoom = attempts-allowed xs t (failed a ks k c f xs d) h;
+        nextOnlyRoom = holds-allowed t (last a ks k c f xs d) img-last;
+        roomCompletes = holds-accepted t (last a ks k c f xs d) img-last;
+        completes = λ work tape r q.
+            let u = completed t (last a ks k c f xs d) img-last work tape r q in
+            record { isSound = u .0; isTable = u .1 };
+      }
+
+  old : Holds (table img) (cutImage img f c (taken img sound-img k d e .tape)) → (Flushed (d .place) cs c → ⊥) → Survives a ks k c f xs d
+  old h g =
+      survives n (inl refl) (λ z. refl) (λ z. absurd (g z))
+      (subst (λ (t : List Rec). Holds t (failed a ks k c f xs d)) table-n (subst (Holds (table img)) (sym failed-is) h))
+
+  new : Holds (table w) (cutImage img f c (taken img sound-img k d e .tape)) → Issued (d .place) cs c → Survives a ks k c f xs d
+  new h i =
+      survives (suc n) (inr refl) (λ z. absurd (z i)) (λ z. refl)
+      (subst (λ (t : List Rec). Holds t (failed a ks k c f xs d)) table-more (subst (Holds (table w)) (sym failed-is) h))
+
+  late : Flushed (d .place) cs c → taken img sound-img k d e .commitAt + 2 ≤ c
+  late g = omega (arith, flushed-late (lineOf (placeOffset (d .place))) (commitAt (d .place) cs) c cs g, found)
+
+  all-cuts : Survives a ks k c f xs d
+  all-cuts = go (decLe c (taken img sound-img k d e .commitAt)) (decLe c (taken img sound-img k d e .commitAt + 1))
+    where
+      go : Dec (c ≤ taken img sound-img k d e .commitAt) → Dec (c ≤ taken img sound-img k d e .commitAt + 1) → Survives a ks k c f xs d
+      go (yes h) q = old (txn-before img w sound-img (edited img sound-img k d e) (room img sound-img k d e) f c h) (λ g. omega (arith, late g))
+      go (no h) (yes q) =
+          between (txn-between img w sound-img (edited img sound-img k d e) (room img sound-img k d e) f c (omega arith))
+        where
+          between : Holds (table img) (cutImage img f c (taken img sound-img k d e .tape)) ⊎ Holds (table w) (cutImage img f c (taken img sound-img k d e .tape)) → Survives a ks k c f xs d
+          between (inl z) = old z (λ g. omega (arith, late g))
+          between (inr z) = new z (omega (arith, found))
+      go (no h) (no q) =
+          new (txn-after img w sound-img (edited img sound-img k d e) (room img sound-img k d e) f c (omega arith)) (omega (arith, found))
+
+pub demand-3 : Demand3
+demand-3 = all-cuts

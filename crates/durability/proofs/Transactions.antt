@@ -1,0 +1,134 @@
+-- A transaction on a sound image, accepted or refused: the image that it leaves is sound, and its table is the ledger's.
+-- Assumes nothing.
+use Prim.Native.Nat.{ℕ, _≤_}
+use mathlib.Core.Path.{_≡_, refl, sym, ap, _∙_}
+use mathlib.Core.Bool.{Bool, true, false}
+use mathlib.Core.List.{List, [], _∷_}
+use native.Mathlib.Omega.{arith}
+use lib.ListN.{length, take}
+use borrow.Author.Tests.{le-leb}
+use Rattle.codec.specs.Lists.{part, splice}
+use Rattle.codec.proofs.Lists.{part-splice-same}
+use Rattle.device.specs.Tape.{decode, tapeBytes, flushCount}
+use Rattle.device.specs.Cut.{after}
+use Rattle.page.specs.Layout.{Rec}
+use Rattle.image.specs.Image.{sound}
+use Rattle.image.specs.Table.{table}
+use Rattle.edit.specs.Ledger.{Ledger, applyEdits, fed}
+use Rattle.image.specs.PageZero.{logMost}
+use Rattle.journal.specs.Changes.{changedPages}
+use Rattle.journal.specs.Tape.{Taken, roomInLog, takenFor}
+use Rattle.journal.specs.Edited.{Edited}
+use Rattle.journal.proofs.Taken.{taken-run, taken-sound}
+use Rattle.journal.proofs.Fitting.{taken-decode}
+use Rattle.transaction.specs.Calls.{Result, acceptedWith}
+use Rattle.transaction.proofs.Answers.{Acceptance, call-accepted}
+use Rattle.tree.specs.Whole.{editedImage}
+use Rattle.journal.specs.declared.Commit.{Commit}
+use Rattle.transaction.specs.declared.Transacted.{Transacted}
+use Rattle.transaction.specs.declared.Transacted.the-variants.{Accepted, Refused}
+use Rattle.durability.specs.Demand.{Call, onImage, commandsOn, leftBy, imageAfter, played, isAccepted, editsOf, Feed, feedOf, feeds, ledgerAfter}
+
+-- the bytes written at the front of a tape are read back
+pub front-back : (tape bytes : List ℕ) → length bytes ≤ length tape → take (length bytes) (splice tape 0 bytes) ≡ bytes
+unfolding part
+front-back tape bytes fits = part-splice-same tape 0 bytes (omega arith) (length bytes) refl
+
+-- ---- accepted
+
+module _ (a : List ℕ) (s : sound a ≡ true) (k : Call) (d : Commit) (e : onImage a k .answer ≡ Accepted d) where
+  pub run : Acceptance a (k .work) (k .tape) (k .edits)
+  run = call-accepted a (k .work) (k .tape) (k .edits) d e
+
+  -- its edited image, and the transaction to it
+  abbrev pub target : List ℕ
+  target = editedImage a (run .state)
+
+  abbrev pub taken : Taken
+  taken = takenFor a target
+
+  pub edited : Edited a target
+  edited = run .done .edited
+
+  pub edited-table : table target ≡ applyEdits (run .list) (table a)
+  edited-table = run .done .holds
+
+  pub room : roomInLog (changedPages a target) ≡ true
+  unfolding roomInLog
+  room = le-leb (length (changedPages a target)) logMost (run .few)
+
+  -- the answer, and the tape
+  pub answer-is : d ≡ record { place = taken .place; bytes = length (tapeBytes (taken .tape)); flushes = flushCount (taken .tape) }
+  unfolding acceptedWith
+  answer-is =
+      let r : Accepted d ≡ acceptedWith taken (k .tape) .answer = sym e ∙ ap (λ (x : Result). x .answer) (run .result) in
+      cc
+
+  tape-is : onImage a k .tape ≡ splice (k .tape) 0 (tapeBytes (taken .tape))
+  unfolding acceptedWith
+  tape-is = ap (λ (x : Result). x .tape) (run .result)
+
+  -- the tape's bytes say its commands
+  pub commands-are : commandsOn a (d .bytes) (onImage a k .tape) ≡ taken .tape
+  commands-are =
+      ap (λ (t : List ℕ). decode (length a) (take (d .bytes) t)) tape-is
+      ∙ ap (λ (c : Commit). decode (length a) (take (c .bytes) (splice (k .tape) 0 (tapeBytes (taken .tape))))) answer-is
+      ∙ ap (decode (length a)) (front-back (k .tape) (tapeBytes (taken .tape)) (run .fits))
+      ∙ taken-decode a target s edited room
+
+  -- what it leaves is the work image
+  pub leaves-work : imageAfter a k ≡ taken .work
+  unfolding leftBy
+  leaves-work =
+      ap (λ (r : Transacted). leftBy a r (onImage a k .tape)) e ∙ ap (after a) commands-are ∙ taken-run a target s edited room
+
+  accepted-sound : sound (imageAfter a k) ≡ true
+  accepted-sound = ap sound leaves-work ∙ taken-sound a target s edited room .0
+
+  accepted-table : table (imageAfter a k) ≡ applyEdits (run .list) (table a)
+  accepted-table = ap table leaves-work ∙ taken-sound a target s edited room .1 ∙ edited-table
+
+  pub accepted-feed : feedOf a k ≡ record { accepted = true; edits = run .list }
+  unfolding isAccepted editsOf
+  accepted-feed = λ i. record { accepted = ap isAccepted e i; edits = ap editsOf (run .done .reads) i }
+
+-- ---- either way
+
+-- the ledger that holds the table of a, fed the transaction, holds the table of the image that it leaves
+pub record Kept (a : List ℕ) (k : Call) (l : Ledger) : Type 0 where
+  pub isSound : sound (imageAfter a k) ≡ true
+  pub isTable : fed (feedOf a k .accepted) (feedOf a k .edits) l .table ≡ table (imageAfter a k)
+
+pub keeps : (a : List ℕ) → sound a ≡ true → (k : Call) (l : Ledger) → l .table ≡ table a → Kept a k l
+unfolding fed leftBy isAccepted
+keeps a s k l q = go (onImage a k .answer) refl
+  where
+    go : (r : Transacted) → onImage a k .answer ≡ r → Kept a k l
+    go (Accepted d) e =
+        record {
+          isSound = accepted-sound a s k d e;
+          isTable =
+              ap (λ (f : Feed). fed (f .accepted) (f .edits) l .table) (accepted-feed a s k d e)
+              ∙ ap (applyEdits (run a s k d e .list)) q
+              ∙ sym (accepted-table a s k d e);
+        }
+    go (Refused r) e =
+        let stays : imageAfter a k ≡ a = ap (λ (x : Transacted). leftBy a x (onImage a k .tape)) e in
+        record {
+          isSound = ap sound stays ∙ s;
+          isTable = ap (λ (x : Transacted). fed (isAccepted x) (feedOf a k .edits) l .table) e ∙ q ∙ sym (ap table stays);
+        }
+
+-- ---- the whole list
+
+pub played-sound : (ks : List Call) (a : List ℕ) → sound a ≡ true → sound (played a ks) ≡ true
+unfolding played
+played-sound [] a s = s
+played-sound (k ∷ ks) a s = played-sound ks (imageAfter a k) (keeps a s k (record { table = table a; count = 0 }) refl .isSound)
+
+pub played-table : (ks : List Call) (a : List ℕ) → sound a ≡ true → (l : Ledger) → l .table ≡ table a → ledgerAfter l (feeds a ks) .table ≡ table (played a ks)
+unfolding played feeds ledgerAfter
+played-table [] a s l q = q
+played-table (k ∷ ks) a s l q =
+    let h = keeps a s k l q in
+    played-table ks (imageAfter a k) (h .isSound) (fed (feedOf a k .accepted) (feedOf a k .edits) l) (h .isTable)

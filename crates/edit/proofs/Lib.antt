@@ -1,0 +1,5 @@
+pub mod General
+pub mod Ledger
+pub mod Places
+pub mod Reading
+pub mod Parsing

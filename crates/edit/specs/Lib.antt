@@ -1,0 +1,2 @@
+pub mod EditList
+pub mod Ledger

@@ -1,0 +1,73 @@
+-- A listed record's value stands in the image where its entry says.
+-- Assumes nothing.
+use Prim.Native.Nat.{ℕ, _+_, _*_, _≤_}
+use mathlib.Core.Path.{_≡_, sym, ap, _∙_}
+use mathlib.Core.Bool.{Bool, true}
+use mathlib.Core.List.{List, [], _∷_, map}
+use native.Mathlib.Omega.{arith}
+use lib.ListN.{length}
+use lib.Dec.{eqb}
+use Rattle.codec.specs.Lists.{part, All}
+use Rattle.codec.specs.Numbers.{number}
+use Rattle.page.specs.Layout.{pageSize, leafKind, Rec, size, readHead}
+use Rattle.page.specs.Page.{Entry, entries, Held}
+use Rattle.page.specs.Operations.{pageOf}
+use Rattle.page.proofs.Records.{up8-least, record-at, length-at, record-is}
+use Rattle.page.proofs.Facts.{pageOk-true, ok-is}
+use Rattle.image.specs.PageZero.{pageCount, isPage, rootOf}
+use Rattle.image.specs.Image.{childOf, children, nextSep, sound}
+use Rattle.image.specs.Facts.{Leaves}
+use Rattle.image.specs.Table.{inImage, leafEntries, listing}
+use Rattle.image.proofs.General.{part-part, All-append}
+use Rattle.image.proofs.Zero.{isPage-true}
+use Rattle.image.proofs.Soundness.{sound-facts}
+
+pub value-at : (p : List ℕ) (start : ℕ) (e : Entry) → Held p start e → part p (e .at + 16) (length (e .rec .value)) ≡ e .rec .value
+value-at p start e h =
+    let len : length (e .rec .value) ≡ number (part p (e .at + 8) 2) = sym (length-at p (e .at) (e .rec) (h .ok) (h .bytes)) in
+    ap (λ (r : Rec). r .value) (sym (record-is p (e .at) (length (e .rec .value)) len) ∙ record-at p (e .at) (e .rec) (h .ok) (h .bytes))
+
+pub held-room : {p : List ℕ} {start : ℕ} (e : Entry) → Held p start e → e .at + 16 + length (e .rec .value) ≤ pageSize
+unfolding size
+held-room e h = omega (arith, h .high, up8-least (length (e .rec .value)))
+
+-- the value of the listed record e, in the image
+pub record Listed (img : List ℕ) (e : Entry) : Type 0 where
+  pub value : part img (e .at + 16) (length (e .rec .value)) ≡ e .rec .value
+  pub inside : e .at + 16 + length (e .rec .value) ≤ length img
+
+-- the page q lies in an image of whole pages
+pub page-fits : (img : List ℕ) (q : ℕ) → isPage (pageCount img) q ≡ true → pageSize * q + pageSize ≤ length img
+page-fits img q h = let k = isPage-true (pageCount img) q h in omega arith
+
+held-listed : (img : List ℕ) (q start : ℕ) → isPage (pageCount img) q ≡ true → (es : List Entry) → All (Held (pageOf img q) start) es → All (Listed img) (map (inImage q) es)
+unfolding pageOf
+held-listed img q start k [] h = tt
+held-listed img q start k (e ∷ es) h =
+    let fits = page-fits img q k in
+    let n = length (e .rec .value) in
+    let room : e .at + 16 + n ≤ pageSize = held-room e (h .0) in
+    let at : pageSize * q + (e .at + 16) ≡ pageSize * q + e .at + 16 = omega arith in (
+      record {
+        value = ap (λ (o : ℕ). part img o n) (sym at) ∙ sym (part-part img (pageSize * q) pageSize (e .at + 16) n room) ∙ value-at (pageOf img q) start e (h .0);
+        inside = omega arith;
+      },
+      held-listed img q start k es (h .1),
+    )
+
+leaves-listed : (img : List ℕ) (only : Bool) (lo : ℕ) (cs : List Rec) → All (λ (p : ℕ). isPage (pageCount img) p ≡ true) (map childOf cs) → Leaves img only lo cs → All (Listed img) (leafEntries img cs)
+unfolding leafEntries
+leaves-listed img only lo [] k h = tt
+leaves-listed img only lo (c ∷ cs) k h =
+    let q = childOf c in
+    let p = pageOf img q in
+    All-append (Listed img) (map (inImage q) (entries p)) (leafEntries img cs)
+    (held-listed img q (readHead p .start) (k .0) (entries p) (ok-is p (pageOk-true leafKind q p (h .0 .page) .laid) .body .held))
+    (leaves-listed img only (nextSep cs) cs (k .1) (h .1))
+
+pub listing-listed : (img : List ℕ) → sound img ≡ true → All (Listed img) (listing img)
+unfolding listing
+listing-listed img h =
+    let s = sound-facts img h in
+    let cs = children img (rootOf img) in
+    leaves-listed img (eqb (length cs) 1) 0 cs (s .index .inside) (s .leaves)

@@ -1,0 +1,93 @@
+-- When an image is sound: page 0, the index page, and each leaf within its bounds (document 01, "An image is sound if ..").
+-- Each part is a test that stands alone, with a record of the facts that it stands for.
+-- Assumes nothing.
+use Prim.Native.Nat.{ℕ, suc, _≤_, _<_}
+use mathlib.Core.Path.{_≡_}
+use mathlib.Core.Logic.{_⊎_}
+use mathlib.Core.Bool.{Bool, true, false, _&&_, _||_, not}
+use mathlib.Core.List.{List, [], _∷_, map}
+use lib.ListN.{length}
+use lib.Dec.{leb, ltb, eqb}
+use Rattle.codec.specs.Lists.{every, allB, All}
+use Rattle.codec.specs.Numbers.{number}
+use Rattle.device.specs.Calls.{isImageSize}
+use Rattle.page.specs.Layout.{leafKind, indexKind, topKey, Rec}
+use Rattle.page.specs.Page.{records, pageOk}
+use Rattle.page.specs.Operations.{pageOf}
+use Rattle.image.specs.PageZero.{pageCount, isPage, pageZero}
+use Rattle.image.specs.declared.PageZero.{PageZero}
+use Rattle.image.specs.declared.PageZero.the-variants.{Wrong, Waiting, Ready}
+
+-- ---- the index
+
+-- the page that an index record names: "its value a 2-byte page number"
+unfoldable pub childOf : Rec → ℕ
+childOf c = number (c .value)
+
+-- the records of the root page, each a separator and a leaf
+unfoldable pub children : List ℕ → ℕ → List Rec
+children img root = records (pageOf img root)
+
+-- "A page is reached if it is the root or is named by a root record."
+unfoldable pub reached : List ℕ → ℕ → List ℕ
+reached img root = root ∷ map childOf (children img root)
+
+unfoldable pub among : ℕ → List ℕ → Bool
+among p [] = false
+among p (q ∷ qs) = eqb p q || among p qs
+
+unfoldable pub distinct : List ℕ → Bool
+distinct [] = true
+distinct (p ∷ ps) = not (among p ps) && distinct ps
+
+-- "the root is an index with 1 to 28 records; its pages are distinct leaves in 1 to N-1, none the root"
+unfoldable pub indexOk : List ℕ → ℕ → Bool
+indexOk img root =
+    let cs = children img root in
+    every
+    (pageOk indexKind root (pageOf img root)
+    ∷ leb 1 (length cs)
+    ∷ allB (isPage (pageCount img)) (map childOf cs)
+    ∷ distinct (reached img root)
+    ∷ [])
+
+-- ---- the leaves
+
+-- the end of a leaf's keys, by the index records after its own: "below the next separator", or past the largest key
+unfoldable pub nextSep : List Rec → ℕ
+nextSep [] = suc topKey
+nextSep (c ∷ cs) = c .key
+
+-- a leaf p, by itself and within its bounds: "each leaf's keys are not below its separator (first leaf excepted) and are below
+-- the next separator; no leaf is empty unless it is the only one"
+unfoldable pub leafOk : Bool → ℕ → ℕ → ℕ → List ℕ → Bool
+leafOk only lo hi own p =
+    let rs = records p in
+    every
+    (pageOk leafKind own p
+    ∷ (only || leb 1 (length rs))
+    ∷ allB (λ (r : Rec). leb lo (r .key)) rs
+    ∷ allB (λ (r : Rec). ltb (r .key) hi) rs
+    ∷ [])
+
+-- the leaves of the index records cs, where the keys of the first start at lo, whatever its separator
+unfoldable pub leavesOk : List ℕ → Bool → ℕ → List Rec → Bool
+leavesOk img only lo [] = true
+leavesOk img only lo (c ∷ cs) = leafOk only lo (nextSep cs) (childOf c) (pageOf img (childOf c)) && leavesOk img only (nextSep cs) cs
+
+-- ---- the image
+
+-- the index and the leaves under the root
+unfoldable pub treeOk : List ℕ → ℕ → Bool
+treeOk img root =
+    let cs = children img root in
+    indexOk img root && leavesOk img (eqb (length cs) 1) 0 cs
+
+-- "An image has N pages, 8 to 64"; "An image is sound if page 0 is as above with mark 0; .."
+unfoldable pub soundFrom : List ℕ → PageZero → Bool
+soundFrom img Wrong = false
+soundFrom img (Waiting k root) = false
+soundFrom img (Ready root) = treeOk img root
+
+unfoldable pub sound : List ℕ → Bool
+sound img = isImageSize (length img) && soundFrom img (pageZero img)

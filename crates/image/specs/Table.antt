@@ -1,0 +1,53 @@
+-- The table of an image, and what a lookup and a next key say of it (document 01, 'The plain ledger' and 'Each call').
+-- Assumes nothing.
+use Prim.Native.Nat.{ℕ, _+_, _*_}
+use mathlib.Core.List.{List, [], _∷_, _++_, map}
+use mathlib.Core.Option.{Option, none, some}
+use lib.ListN.{length}
+use lib.Dec.{ltb, eqb}
+use Rattle.codec.specs.Lists.{pick}
+use Rattle.page.specs.Layout.{pageSize, Rec}
+use Rattle.page.specs.Page.{Entry, entries, records}
+use Rattle.page.specs.Operations.{pageOf}
+use Rattle.image.specs.PageZero.{rootOf}
+use Rattle.image.specs.Image.{children, childOf}
+use Rattle.image.specs.declared.Lookup.{Lookup}
+use Rattle.image.specs.declared.Lookup.the-variants.{Found, Missing}
+use Rattle.image.specs.declared.Next.{Next}
+use Rattle.image.specs.declared.Next.the-variants.{Key, Last}
+
+-- the records of the leaves that the index records cs name
+unfoldable pub leafRecords : List ℕ → List Rec → List Rec
+leafRecords img [] = []
+leafRecords img (c ∷ cs) = records (pageOf img (childOf c)) ++ leafRecords img cs
+
+-- "A sound image's table is the key and value of each record that its reached leaves list, keys rising."
+unfoldable pub table : List ℕ → List Rec
+table img = leafRecords img (children img (rootOf img))
+
+-- an entry of page q with its offset in the image
+abbrev pub inImage : ℕ → Entry → Entry
+inImage q e = record { at = pageSize * q + e .at; rec = e .rec }
+
+-- the same records with their offsets in the image
+unfoldable pub leafEntries : List ℕ → List Rec → List Entry
+leafEntries img [] = []
+leafEntries img (c ∷ cs) = map (inImage (childOf c)) (entries (pageOf img (childOf c))) ++ leafEntries img cs
+
+unfoldable pub listing : List ℕ → List Entry
+listing img = leafEntries img (children img (rootOf img))
+
+-- the value that a table holds for the key k
+unfoldable pub find : ℕ → List Rec → Option (List ℕ)
+find k [] = none
+find k (r ∷ rs) = pick (eqb (r .key) k) (some (r .value)) (find k rs)
+
+-- "Lookup answers the value's offset in the image and its length, or missing."
+unfoldable pub foundIn : ℕ → List Entry → Lookup
+foundIn k [] = Missing
+foundIn k (e ∷ es) = pick (eqb (e .rec .key) k) (Found (e .at + 16) (length (e .rec .value))) (foundIn k es)
+
+-- "the smallest key above it, or none": the first of a rising list
+unfoldable pub above : ℕ → List Rec → Next
+above k [] = Last
+above k (r ∷ rs) = pick (ltb k (r .key)) (Key (r .key)) (above k rs)

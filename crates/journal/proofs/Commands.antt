@@ -1,0 +1,260 @@
+-- Laws of commands that the device does not have: stores followed by the flushes of their lines, stores of what stands in an image, and
+-- a line's pending stores cut anywhere. Only here are the device's definitions unfolded.
+-- Assumes nothing.
+use Prim.Native.Nat.{ℕ, zero, suc, _+_, _-_, _≤_, _<_}
+use mathlib.Core.Path.{_≡_, refl, sym, ap, _∙_}
+use mathlib.Core.Logic.{_⊎_, inl, inr}
+use mathlib.Core.Bool.{Bool, true, false, or-true, or-false, true≢false}
+use mathlib.Core.List.{List, [], _∷_, _++_}
+use native.Mathlib.Omega.{arith}
+use native.Mathlib.Decide.{decLe, decLt}
+use lib.ListN.{length, getD, take, length-append, length-take}
+use lib.Seq.{sets, length-sets, ext-getD, take-take, take-all, take-length}
+use lib.Dec.{leb, ltb}
+use borrow.Author.Tests.{eq-eqb, leb-true, le-leb, ltb-true, lt-ltb}
+use Rattle.codec.specs.Lists.{part, All}
+use Rattle.codec.proofs.Tests.{both, first, second}
+use Rattle.codec.proofs.Lists.{sets-apart, getD-part}
+use Rattle.device.specs.Tape.{Op, store, flush, malformed}
+use Rattle.device.specs.Cut.{after, lineOf, flushed, cutImage, hits, touches, Closed, Sealed, To}
+use Rattle.device.proofs.Cuts.{length-after, after-append}
+use Rattle.device.proofs.Lines.{first-part}
+use Rattle.device.proofs.Segments.{out-hits, touches-append, sealed-closed, sealed-more, cut-early, cut-all}
+use Rattle.image.proofs.Frame.{part-agree}
+use Rattle.journal.proofs.Lists.{or-left, or-right, neither, part-sets}
+
+-- ---- which bytes a store writes
+
+hits-in : (p : ℕ) (vs : List ℕ) (i : ℕ) → p ≤ i → i < p + length vs → hits (store p vs) i ≡ true
+hits-in p vs i low high = both (le-leb p i low) (lt-ltb i (p + length vs) high)
+
+-- where a byte lies that a store writes, and one that it does not
+in-hits : (p : ℕ) (vs : List ℕ) (i : ℕ) → hits (store p vs) i ≡ true → (p ≤ i) × (i < p + length vs)
+in-hits p vs i e = (leb-true p i (first (leb p i) (ltb i (p + length vs)) e), ltb-true i (p + length vs) (second (leb p i) (ltb i (p + length vs)) e))
+
+hits-out : (p : ℕ) (vs : List ℕ) (i : ℕ) → hits (store p vs) i ≡ false → (i < p) ⊎ (p + length vs ≤ i)
+hits-out p vs i e = go (decLt i p) (decLt i (p + length vs))
+  where
+    go : Dec (i < p) → Dec (i < p + length vs) → (i < p) ⊎ (p + length vs ≤ i)
+    go (yes h) k = inl h
+    go (no h) (yes k) = absurd (true≢false (sym (hits-in p vs i (omega arith) k) ∙ e))
+    go (no h) (no k) = inr (omega arith)
+
+module _ (p : ℕ) (vs : List ℕ) (cs : List Op) where
+  pub after-store : (img : List ℕ) → after img (store p vs ∷ cs) ≡ after (sets img p vs) cs
+  unfolding after
+  after-store img = refl
+
+  pub touches-in : (i : ℕ) → p ≤ i → i < p + length vs → touches (store p vs ∷ cs) i ≡ true
+  unfolding touches
+  touches-in i low high = rw (hits-in p vs i low high)
+
+  pub touches-out : (i : ℕ) → (i < p) ⊎ (p + length vs ≤ i) → touches cs i ≡ false → touches (store p vs ∷ cs) i ≡ false
+  unfolding touches
+  touches-out i h k = neither (out-hits p vs i h) k
+
+  pub untouched-first : (i : ℕ) → touches (store p vs ∷ cs) i ≡ false → (i < p) ⊎ (p + length vs ≤ i)
+  unfolding touches
+  untouched-first i h = hits-out p vs i (or-left (hits (store p vs) i) (touches cs i) h)
+
+  pub untouched-rest : (i : ℕ) → touches (store p vs ∷ cs) i ≡ false → touches cs i ≡ false
+  unfolding touches
+  untouched-rest i h = or-right (hits (store p vs) i) (touches cs i) h
+
+pub touches-past : (o : Op) (cs : List Op) (i : ℕ) → touches cs i ≡ true → touches (o ∷ cs) i ≡ true
+unfolding touches
+touches-past o cs i h = rw h (or-true (hits o i))
+
+pub after-none : (img : List ℕ) → after img [] ≡ img
+unfolding after
+after-none img = refl
+
+pub closed-none : Closed []
+unfolding Closed
+closed-none = tt
+
+pub touches-none : (i : ℕ) → touches [] i ≡ false
+unfolding touches
+touches-none i = refl
+
+-- a byte that two lists of commands do not touch
+pub touches-both : (xs ys : List Op) (i : ℕ) → touches xs i ≡ false → touches ys i ≡ false → touches (xs ++ ys) i ≡ false
+touches-both xs ys i h k = touches-append xs ys i ∙ neither h k
+
+pub touches-left : (xs ys : List Op) (i : ℕ) → touches (xs ++ ys) i ≡ false → touches xs i ≡ false
+touches-left xs ys i h = or-left (touches xs i) (touches ys i) (sym (touches-append xs ys i) ∙ h)
+
+pub touches-right : (xs ys : List Op) (i : ℕ) → touches (xs ++ ys) i ≡ false → touches ys i ≡ false
+touches-right xs ys i h = or-right (touches xs i) (touches ys i) (sym (touches-append xs ys i) ∙ h)
+
+-- ---- stores, then the flushes of their lines
+
+-- a flush
+abbrev pub IsFlush : Op → Type 0
+IsFlush (store p vs) = ⊥
+IsFlush (flush l) = Unit {0}
+IsFlush malformed = ⊥
+
+-- if it is a store, ys flush its line
+abbrev pub FlushedBy : List Op → Op → Type 0
+FlushedBy ys (store p vs) = flushed (lineOf p) ys ≡ true
+FlushedBy ys (flush l) = Unit {0}
+FlushedBy ys malformed = Unit {0}
+
+sealed-past : (o : Op) (xs ys : List Op) → FlushedBy ys o → Sealed xs ys → Sealed (o ∷ xs) ys
+unfolding Sealed
+sealed-past (store p vs) xs ys h s = (h, s)
+sealed-past (flush l) xs ys h s = s
+sealed-past malformed xs ys h s = s
+
+-- ys are flushes, and flush all that xs store
+pub record Flushing (xs ys : List Op) : Type 0 where
+  pub flushes : All IsFlush ys
+  pub covers : Sealed xs ys
+
+pub flushing-none : Flushing [] []
+unfolding Sealed
+flushing-none = record { flushes = tt; covers = tt }
+
+-- one flush more
+pub flushing-flush : (m : ℕ) (xs ys : List Op) → Flushing xs ys → Flushing xs (flush m ∷ ys)
+flushing-flush m xs ys f = record { flushes = (tt, f .flushes); covers = sealed-more xs (flush m ∷ []) ys (f .covers) }
+
+-- one command more before them, with its line flushed
+pub flushing-past : (o : Op) (xs ys : List Op) → FlushedBy ys o → Flushing xs ys → Flushing (o ∷ xs) ys
+flushing-past o xs ys h f = record { flushes = f .flushes; covers = sealed-past o xs ys h (f .covers) }
+
+pub flushed-first : (m : ℕ) (ys : List Op) → flushed m (flush m ∷ ys) ≡ true
+unfolding flushed
+flushed-first m ys = rw (eq-eqb m m refl)
+
+-- a store and its flush
+pub flushing-next : (p : ℕ) (vs : List ℕ) (l : ℕ) (xs ys : List Op) → lineOf p ≡ l → Flushing xs ys → Flushing (store p vs ∷ xs) (flush l ∷ ys)
+flushing-next p vs l xs ys e f =
+    flushing-past (store p vs) xs (flush l ∷ ys) (ap (λ (m : ℕ). flushed m (flush l ∷ ys)) e ∙ flushed-first l ys) (flushing-flush l xs ys f)
+
+flushes-closed : (ys : List Op) → All IsFlush ys → Closed ys
+unfolding Closed
+flushes-closed [] h = tt
+flushes-closed (store p vs ∷ ys) h = absurd (h .0)
+flushes-closed (flush l ∷ ys) h = flushes-closed ys (h .1)
+flushes-closed (malformed ∷ ys) h = absurd (h .0)
+
+flushes-touch : (ys : List Op) (i : ℕ) → All IsFlush ys → touches ys i ≡ false
+unfolding touches
+flushes-touch [] i h = refl
+flushes-touch (store p vs ∷ ys) i h = absurd (h .0)
+flushes-touch (flush l ∷ ys) i h = flushes-touch ys i (h .1)
+flushes-touch (malformed ∷ ys) i h = absurd (h .0)
+
+flushes-after : (img : List ℕ) (ys : List Op) → All IsFlush ys → after img ys ≡ img
+unfolding after
+flushes-after img [] h = refl
+flushes-after img (store p vs ∷ ys) h = absurd (h .0)
+flushes-after img (flush l ∷ ys) h = flushes-after img ys (h .1)
+flushes-after img (malformed ∷ ys) h = absurd (h .0)
+
+module _ (xs ys : List Op) (f : Flushing xs ys) where
+  pub flushing-closed : Closed (xs ++ ys)
+  flushing-closed = sealed-closed xs ys (f .covers) (flushes-closed ys (f .flushes))
+
+  pub flushing-touches : (i : ℕ) → touches (xs ++ ys) i ≡ touches xs i
+  flushing-touches i = touches-append xs ys i ∙ rw (flushes-touch ys i (f .flushes)) (or-false (touches xs i))
+
+  pub flushing-after : (img : List ℕ) → after img (xs ++ ys) ≡ after img xs
+  flushing-after img = after-append img xs ys ∙ flushes-after (after img xs) ys (f .flushes)
+
+-- ---- stores of what stands in an image w
+
+abbrev pub Writes : List ℕ → Op → Type 0
+Writes w (store p vs) = (p + length vs ≤ length w) × (part w p (length vs) ≡ vs)
+Writes w (flush l) = Unit {0}
+Writes w malformed = Unit {0}
+
+-- a byte stored from w is w's
+stored-at : (w a : List ℕ) (p : ℕ) (vs : List ℕ) (i : ℕ) → length a ≡ length w → Writes w (store p vs) → p ≤ i → i < p + length vs → getD (sets a p vs) i 0 ≡ getD w i 0
+stored-at w a p vs i l h low high =
+    let j : p + (i - p) ≡ i = omega arith in
+    let k : i - p < length vs = omega arith in
+    ap (λ (m : ℕ). getD (sets a p vs) m 0) (sym j)
+    ∙ sym (getD-part (sets a p vs) p (length vs) (i - p) k)
+    ∙ ap (λ (b : List ℕ). getD b (i - p) 0) (part-sets a p vs (length vs) refl (omega (arith, h .0)) ∙ sym (h .1))
+    ∙ getD-part w p (length vs) (i - p) k
+    ∙ ap (λ (m : ℕ). getD w m 0) j
+
+-- stores of what stands in w make a byte w's, or it was w's already
+pub writes-at : (w a : List ℕ) (cs : List Op) (i : ℕ) → length a ≡ length w → All (Writes w) cs → (touches cs i ≡ false → getD a i 0 ≡ getD w i 0) → getD (after a cs) i 0 ≡ getD w i 0
+unfolding after touches
+writes-at w a [] i l h k = k refl
+writes-at w a (flush m ∷ cs) i l h k = writes-at w a cs i l (h .1) k
+writes-at w a (malformed ∷ cs) i l h k = writes-at w a cs i l (h .1) k
+writes-at w a (store p vs ∷ cs) i l h k =
+    writes-at w (sets a p vs) cs i (length-sets a p vs ∙ l) (h .1) (λ e. go (hits (store p vs) i) refl e)
+  where
+    go : (t : Bool) → hits (store p vs) i ≡ t → touches cs i ≡ false → getD (sets a p vs) i 0 ≡ getD w i 0
+    go true q e = let r = in-hits p vs i q in stored-at w a p vs i l (h .0) (r .0) (r .1)
+    go false q e = sets-apart a p vs i (hits-out p vs i q) ∙ k (rw (q, e))
+
+-- over an image that is w's wherever they do not touch they leave w
+pub writes-after : (w a : List ℕ) (cs : List Op) → length a ≡ length w → All (Writes w) cs → ((i : ℕ) → touches cs i ≡ false → getD a i 0 ≡ getD w i 0) → after a cs ≡ w
+writes-after w a cs l h k = ext-getD 0 (after a cs) w (length-after a cs ∙ l) (λ i _. writes-at w a cs i l h (k i))
+
+-- a store of what stands there leaves the image
+pub sets-stands : (x : List ℕ) (p : ℕ) (vs : List ℕ) → p + length vs ≤ length x → part x p (length vs) ≡ vs → sets x p vs ≡ x
+unfolding after
+sets-stands x p vs fits e = writes-after x x (store p vs ∷ []) refl ((fits, e), tt) (λ i _. refl)
+
+-- what stands in w stands in b, if b is w's where it is stored
+pub writes-move : (w b : List ℕ) (cs : List Op) → length b ≡ length w → ((i : ℕ) → touches cs i ≡ true → getD b i 0 ≡ getD w i 0) → All (Writes w) cs → All (Writes b) cs
+writes-move w b [] l h k = tt
+writes-move w b (flush m ∷ cs) l h k = (tt, writes-move w b cs l (λ i t. h i (touches-past (flush m) cs i t)) (k .1))
+writes-move w b (malformed ∷ cs) l h k = (tt, writes-move w b cs l (λ i t. h i (touches-past malformed cs i t)) (k .1))
+writes-move w b (store p vs ∷ cs) l h k = (
+  (omega (arith, k .0 .0), sym (part-agree b w p (length vs) l (λ i low high. h i (touches-in p vs cs i low high))) ∙ k .0 .1),
+  writes-move w b cs l (λ i t. h i (touches-past (store p vs) cs i t)) (k .1),
+)
+
+pub flushes-write : (w : List ℕ) (ys : List Op) → All IsFlush ys → All (Writes w) ys
+flushes-write w [] h = tt
+flushes-write w (store p vs ∷ ys) h = absurd (h .0)
+flushes-write w (flush l ∷ ys) h = (tt, flushes-write w ys (h .1))
+flushes-write w (malformed ∷ ys) h = absurd (h .0)
+
+-- ---- stores to one line, then its flush, cut anywhere
+
+to-sealed : (l : ℕ) (xs : List Op) → All (To l) xs → Sealed xs (flush l ∷ [])
+unfolding Sealed flushed
+to-sealed l [] h = tt
+to-sealed l (store p vs ∷ xs) h = (rw (eq-eqb l (lineOf p) (sym (h .0))), to-sealed l xs (h .1))
+to-sealed l (flush m ∷ xs) h = absurd (h .0)
+to-sealed l (malformed ∷ xs) h = absurd (h .0)
+
+pub to-flushing : (l : ℕ) (xs : List Op) → All (To l) xs → Flushing xs (flush l ∷ [])
+to-flushing l xs h = record { flushes = (tt, tt); covers = to-sealed l xs h }
+
+to-take : (l n : ℕ) (xs : List Op) → All (To l) xs → All (To l) (take n xs)
+to-take l zero xs h = tt
+to-take l (suc n) [] h = tt
+to-take l (suc n) (o ∷ xs) h = (h .0, to-take l n xs (h .1))
+
+-- a first part of the stores is kept
+pub cut-line : (img : List ℕ) (f : ℕ → ℕ) (c l : ℕ) (xs : List Op) → All (To l) xs → (m : ℕ) × (cutImage img f c (xs ++ (flush l ∷ [])) ≡ after img (take m xs))
+unfolding cutImage
+cut-line img f c l xs h = go (decLe c (length xs))
+  where
+    short : (m : ℕ) → Dec (m ≤ c) → (k : ℕ) × (take m (take c xs) ≡ take k xs)
+    short m (yes q) = (m, take-take m c xs q)
+    short m (no q) = (c, take-all m (take c xs) (omega (arith, length-take c xs)))
+
+    go : Dec (c ≤ length xs) → (m : ℕ) × (cutImage img f c (xs ++ (flush l ∷ [])) ≡ after img (take m xs))
+    go (yes q) =
+        let s = short (f l) (decLe (f l) c) in
+        (s .0, cut-early img f c xs (flush l ∷ []) q ∙ ap (after img) (first-part l f (take c xs) (to-take l c xs h) ∙ s .1))
+    go (no q) =
+        let long : length (xs ++ (flush l ∷ [])) ≤ c = simp length-append (omega arith) in
+        let seg = to-flushing l xs h in (
+          length xs,
+          cut-all img f c (xs ++ (flush l ∷ [])) (flushing-closed xs (flush l ∷ []) seg) long
+              ∙ flushing-after xs (flush l ∷ []) seg img
+              ∙ ap (after img) (sym (take-length xs)),
+        )

@@ -1,0 +1,14 @@
+pub mod Lists
+pub mod Commands
+pub mod Headers
+pub mod Standing
+pub mod Replay
+pub mod StageA
+pub mod Log
+pub mod Changed
+pub mod Plan
+pub mod Edits
+pub mod OnePlace
+pub mod ByLog
+pub mod Taken
+pub mod Fitting

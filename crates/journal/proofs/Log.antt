@@ -1,0 +1,115 @@
+-- The log, for any number of headers by one argument: flushed in itself, stored in its lines alone, and read back.
+-- Assumes nothing.
+use Prim.Native.Nat.{ℕ, suc, _+_, _*_, _≤_, _<_}
+use mathlib.Core.Path.{_≡_, refl, sym, ap, ap₂, _∙_}
+use mathlib.Core.Logic.{_⊎_, inl, inr}
+use mathlib.Core.Bool.{false}
+use mathlib.Core.List.{List, [], _∷_, _++_}
+use native.Mathlib.Omega.{arith}
+use lib.ListN.{length, length-append}
+use lib.Seq.{sets, length-sets}
+use Rattle.codec.specs.Lists.{part, splice, All}
+use Rattle.codec.proofs.Lists.{splice-sets, sets-append, sets-apart}
+use Rattle.device.specs.Cut.{after, lineOf, touches, Closed}
+use Rattle.page.specs.Layout.{lineSize}
+use Rattle.image.proofs.General.{All-append}
+use Rattle.image.proofs.Frame.{part-agree}
+use Rattle.journal.specs.Log.{logStores, logFlushes, logTape}
+use Rattle.journal.specs.Tape.{joinLines}
+use Rattle.journal.specs.Recovery.{linesFrom, logged}
+use Rattle.journal.proofs.Lists.{part-sets}
+use Rattle.journal.proofs.Commands.{Flushing, flushing-none, flushing-next, flushing-closed, flushing-touches, flushing-after, Writes, flushes-write, after-store, after-none, touches-out, touches-none}
+use Rattle.journal.proofs.Headers.{Lines}
+
+-- ---- from line l on
+
+log-flushing : (l : ℕ) (hs : List (List ℕ)) → Flushing (logStores l hs) (logFlushes l hs)
+unfolding logStores logFlushes
+log-flushing l [] = flushing-none
+log-flushing l (h ∷ hs) =
+    let line : lineOf (lineSize * l) ≡ l = omega arith in
+    flushing-next (lineSize * l) h l (logStores (suc l) hs) (logFlushes (suc l) hs) line (log-flushing (suc l) hs)
+
+pub length-join : (hs : List (List ℕ)) → Lines hs → length (joinLines hs) ≡ lineSize * length hs
+unfolding joinLines
+length-join [] k = refl
+length-join (h ∷ hs) k = length-append h (joinLines hs) ∙ omega (arith, k .0, length-join hs (k .1))
+
+stores-touch : (l : ℕ) (hs : List (List ℕ)) (i : ℕ) → Lines hs → (i < lineSize * l) ⊎ (lineSize * (l + length hs) ≤ i) → touches (logStores l hs) i ≡ false
+unfolding logStores
+stores-touch l [] i k o = touches-none i
+stores-touch l (h ∷ hs) i k o = touches-out (lineSize * l) h (logStores (suc l) hs) i (here o) (stores-touch (suc l) hs i (k .1) (there o))
+  where
+    here : (i < lineSize * l) ⊎ (lineSize * (l + suc (length hs)) ≤ i) → (i < lineSize * l) ⊎ (lineSize * l + length h ≤ i)
+    here (inl q) = inl q
+    here (inr q) = inr (omega (arith, k .0))
+
+    there : (i < lineSize * l) ⊎ (lineSize * (l + suc (length hs)) ≤ i) → (i < lineSize * suc l) ⊎ (lineSize * (suc l + length hs) ≤ i)
+    there (inl q) = inl (omega arith)
+    there (inr q) = inr (omega arith)
+
+next-line : (l : ℕ) (h : List ℕ) → length h ≡ lineSize → lineSize * l + length h ≡ lineSize * suc l
+next-line l h e = omega arith
+
+stores-join : (a : List ℕ) (l : ℕ) (h : List ℕ) (vs : List ℕ) → length h ≡ lineSize → sets (sets a (lineSize * l) h) (lineSize * suc l) vs ≡ sets a (lineSize * l) (h ++ vs)
+stores-join a l h vs e = ap (λ (o : ℕ). sets (sets a (lineSize * l) h) o vs) (sym (next-line l h e)) ∙ sets-append a (lineSize * l) h vs
+
+stores-after : (l : ℕ) (hs : List (List ℕ)) (a : List ℕ) → Lines hs → after a (logStores l hs) ≡ sets a (lineSize * l) (joinLines hs)
+unfolding logStores joinLines
+stores-after l [] a k = after-none a
+stores-after l (h ∷ hs) a k =
+    after-store (lineSize * l) h (logStores (suc l) hs) a ∙ stores-after (suc l) hs (sets a (lineSize * l) h) (k .1) ∙ stores-join a l h (joinLines hs) (k .0)
+
+lines-read : (l : ℕ) (hs : List (List ℕ)) (a : List ℕ) → Lines hs → lineSize * (l + length hs) ≤ length a → linesFrom (length hs) l (sets a (lineSize * l) (joinLines hs)) ≡ hs
+unfolding linesFrom joinLines
+lines-read l [] a k fits = refl
+lines-read l (h ∷ hs) a k fits =
+    let b = sets a (lineSize * l) h in
+    let c = sets b (lineSize * suc l) (joinLines hs) in
+    let lb : length b ≡ length a = length-sets a (lineSize * l) h in
+    let first : part c (lineSize * l) lineSize ≡ h =
+    sym (part-agree c b (lineSize * l) lineSize (length-sets b (lineSize * suc l) (joinLines hs)) (λ i p q. sets-apart b (lineSize * suc l) (joinLines hs) i (inl (omega arith))))
+    ∙ part-sets a (lineSize * l) h lineSize (k .0) (omega arith) in
+    ap (λ (x : List ℕ). part x (lineSize * l) lineSize ∷ linesFrom (length hs) (suc l) x) (sym (stores-join a l h (joinLines hs) (k .0)))
+    ∙ ap₂ (λ (x : List ℕ) (xs : List (List ℕ)). x ∷ xs) first (lines-read (suc l) hs b (k .1) (omega arith))
+
+-- lines that read back in an image are stores of what stands in it
+stores-write : (l : ℕ) (hs : List (List ℕ)) (b : List ℕ) → Lines hs → lineSize * (l + length hs) ≤ length b → linesFrom (length hs) l b ≡ hs → All (Writes b) (logStores l hs)
+unfolding linesFrom logStores
+stores-write l [] b k fits e = tt
+stores-write l (h ∷ hs) b k fits e =
+    let first : part b (lineSize * l) lineSize ≡ h = cc in
+    let rest : linesFrom (length hs) (suc l) b ≡ hs = cc in
+    ((omega (arith, k .0), ap (part b (lineSize * l)) (k .0) ∙ first), stores-write (suc l) hs b (k .1) (omega arith) rest)
+
+-- ---- the log
+
+module _ (hs : List (List ℕ)) where
+  pub log-closed : Closed (logTape hs)
+  unfolding logTape
+  log-closed = flushing-closed (logStores 1 hs) (logFlushes 1 hs) (log-flushing 1 hs)
+
+  module _ (lines : Lines hs) where
+    -- only its lines are touched
+    pub log-touches : (i : ℕ) → (i < lineSize) ⊎ (lineSize * (1 + length hs) ≤ i) → touches (logTape hs) i ≡ false
+    unfolding logTape
+    log-touches i o = flushing-touches (logStores 1 hs) (logFlushes 1 hs) (log-flushing 1 hs) i ∙ stores-touch 1 hs i lines o
+
+    module _ (a : List ℕ) (fits : lineSize * (1 + length hs) ≤ length a) where
+      pub log-after : after a (logTape hs) ≡ splice a lineSize (joinLines hs)
+      unfolding logTape
+      log-after =
+          flushing-after (logStores 1 hs) (logFlushes 1 hs) (log-flushing 1 hs) a
+          ∙ stores-after 1 hs a lines
+          ∙ sym (splice-sets a lineSize (joinLines hs) (omega (arith, length-join hs lines)))
+
+      -- the logged headers are read back
+      pub log-read : logged (length hs) (after a (logTape hs)) ≡ hs
+      unfolding logged logTape
+      log-read =
+          ap (linesFrom (length hs) 1) (flushing-after (logStores 1 hs) (logFlushes 1 hs) (log-flushing 1 hs) a ∙ stores-after 1 hs a lines) ∙ lines-read 1 hs a lines fits
+
+    pub log-writes : (b : List ℕ) → lineSize * (1 + length hs) ≤ length b → logged (length hs) b ≡ hs → All (Writes b) (logTape hs)
+    unfolding logTape logged
+    log-writes b fits e =
+        All-append (Writes b) (logStores 1 hs) (logFlushes 1 hs) (stores-write 1 hs b lines fits e) (flushes-write b (logFlushes 1 hs) (log-flushing 1 hs .flushes))

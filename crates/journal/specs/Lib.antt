@@ -1,0 +1,6 @@
+pub mod Changes
+pub mod Log
+pub mod Tape
+pub mod Recovery
+pub mod Edited
+pub mod Commit

@@ -1,0 +1,48 @@
+-- The log: the stores and flushes of its lines, and what replays them (document 01, 'The transaction's tape').
+-- Assumes nothing.
+use Prim.Native.Nat.{ℕ, zero, suc, _*_}
+use mathlib.Core.Bool.{Bool, true, false, not}
+use mathlib.Core.List.{List, [], _∷_, _++_, map}
+use lib.ListN.{length}
+use Rattle.codec.specs.Lists.{part, pick}
+use Rattle.codec.specs.Numbers.{number, bytesOf}
+use Rattle.device.specs.Tape.{Op, store, flush}
+use Rattle.page.specs.Layout.{pageSize, lineSize}
+use Rattle.image.specs.PageZero.{noMark}
+
+-- the lines of a page
+abbrev pub pageLines : ℕ
+pageLines = 16
+
+-- the page that a header says that it is of: "own page number (2)"
+unfoldable pub ownPage : List ℕ → ℕ
+ownPage h = number (part h 6 2)
+
+-- "log lines 1 to k take the new headers by rising page, then their flushes": from line l on
+unfoldable pub logStores : ℕ → List (List ℕ) → List Op
+logStores l [] = []
+logStores l (h ∷ hs) = store (lineSize * l) h ∷ logStores (suc l) hs
+
+unfoldable pub logFlushes : ℕ → List (List ℕ) → List Op
+logFlushes l [] = []
+logFlushes l (h ∷ hs) = flush l ∷ logFlushes (suc l) hs
+
+unfoldable pub logTape : List (List ℕ) → List Op
+logTape hs = logStores 1 hs ++ logFlushes 1 hs
+
+-- "header stores, rising; their flushes": in the order of the log
+unfoldable pub headerStores : List (List ℕ) → List Op
+headerStores [] = []
+headerStores (h ∷ hs) = store (pageSize * ownPage h) h ∷ headerStores hs
+
+unfoldable pub headerFlushes : List (List ℕ) → List Op
+headerFlushes [] = []
+headerFlushes (h ∷ hs) = flush (pageLines * ownPage h) ∷ headerFlushes hs
+
+-- "the root word if it differs; mark 0; flush of line 0"
+unfoldable pub ending : Bool → ℕ → List Op
+ending same root = pick same [] (store 8 (bytesOf 8 root) ∷ []) ++ (store 0 noMark ∷ flush 0 ∷ [])
+
+-- what follows the mark's flush, in a transaction and in a recovery
+unfoldable pub replayTape : List (List ℕ) → Bool → ℕ → List Op
+replayTape hs same root = headerStores hs ++ (headerFlushes hs ++ ending same root)

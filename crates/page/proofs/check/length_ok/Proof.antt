@@ -1,0 +1,26 @@
+-- `length_ok`: the difference is at most that of the two ends exactly if the length lies between them.
+-- Assumes nothing.
+use native.Mathlib.Omega.{arith}
+use Rattle.page.proofs.CheckRecord.{length-range}
+use borrow.Author.Needs.{needs}
+use Rattle.page.proofs.check.length_ok.Statement.{statement}
+use Rattle.page.proofs.check.length_ok.Tie as tie
+
+fewest-requires : tie.Need-fewest-requires
+fewest-requires c κs = search needs
+
+wrapping-sub-u64-requires : tie.Need-wrapping-sub-u64-requires
+wrapping-sub-u64-requires c κs = search needs
+
+most-requires : tie.Need-most-requires
+most-requires c κs = search needs
+
+sub-result : tie.Need-sub-result
+sub-result c = length-range (c .before .before .before .args .kind) (c .before .before .before .args .n) (c .before .before .fewest .result) (c .most .result) (c .before .wrapping-sub-u64 .result) (c .before .before .fewest .ensures) (c .most .ensures) (omega arith) (c .before .wrapping-sub-u64 .ensures) .0
+
+returns : tie.Need-returns
+returns c = length-range (c .before .before .before .args .kind) (c .before .before .before .args .n) (c .before .before .fewest .result) (c .most .result) (c .before .wrapping-sub-u64 .result) (c .before .before .fewest .ensures) (c .most .ensures) (omega arith) (c .before .wrapping-sub-u64 .ensures) .1
+
+pub length-ok-spec : {M : Type 1} → statement M
+length-ok-spec =
+    tie.close (tie.spec fewest-requires wrapping-sub-u64-requires most-requires sub-result returns)

@@ -1,0 +1,14 @@
+// Recovery: what a waiting mark asks for is done.
+use device::Refusal;
+
+// An accepted recovery: the tape bytes used, and the number of flush commands on the tape.
+pub struct Redone {
+    pub bytes: usize,
+    pub flushes: usize,
+}
+
+// What a recovery answers.
+pub enum Recovered {
+    Accepted(Redone),
+    Refused(Refusal),
+}

@@ -1,0 +1,109 @@
+// The store for C and Rust: every call answers a number, 0 if accepted, else the refusal's. What a call answers besides is written to a
+// lent array of numbers, if it has room.
+use device::Answer;
+use image::Lookup;
+use image::Next;
+use image::calls;
+ghost use mathlib.Core.Path.{_≡_};
+ghost use Prim.Native.Nat.{_≤_};
+ghost use lib.ListN.{take};
+ghost use Rattle.device.specs.Calls.{numberOf, runCall, cutCall};
+ghost use Rattle.image.specs.Calls.{formatCall, checkCall, lookupCall, nextCall};
+ghost use Rattle.store.specs.Numbers.{lent, lookupNumber, lookupNumbers, nextNumber, nextNumbers};
+
+fn number_of(answer: Answer) -> u8
+    ensures { λ r. ⌜ r ≡ numberOf answer ⌝ }
+{
+    match answer {
+        Answer::Accepted => 0,
+        Answer::Refused(refusal) => refusal.number,
+    }
+}
+
+// Writes the first n numbers to the front of a lent array, if they fit.
+fn put_numbers(answer: &mut [u64], numbers: [u64; 3], n: usize)
+    requires { ⌜ n ≤ 3 ⌝ }
+    ensures { λ _. ⌜ now (answer .exit) ≡ lent (now (answer .entry)) (take n numbers) ⌝ }
+{
+    if answer.len() < n {
+        return;
+    }
+    let mut i = 0;
+    while i < n {
+        answer[i] = numbers[i];
+        i += 1;
+    }
+}
+
+#[no_mangle]
+pub extern "C" fn quote_run(image: &[u8], work: &mut [u8], tape: &[u8]) -> u8
+    ensures { λ r. ⌜ r ≡ numberOf ((runCall (now (image .entry)) (now (work .entry)) (now (tape .entry))) .answer) ⌝ }
+    ensures { λ _. ⌜ now (work .exit) ≡ (runCall (now (image .entry)) (now (work .entry)) (now (tape .entry))) .work ⌝ }
+{
+    number_of(device::run(image, work, tape))
+}
+
+#[no_mangle]
+pub extern "C" fn quote_cut(
+    image: &[u8],
+    work: &mut [u8],
+    tape: &[u8],
+    c: usize,
+    choices: &[u8],
+) -> u8
+    ensures { λ r. ⌜ r ≡ numberOf ((cutCall (now (image .entry)) (now (work .entry)) (now (tape .entry)) c (now (choices .entry))) .answer) ⌝ }
+    ensures { λ _. ⌜ now (work .exit) ≡ (cutCall (now (image .entry)) (now (work .entry)) (now (tape .entry)) c (now (choices .entry))) .work ⌝ }
+{
+    number_of(device::cut(image, work, tape, c, choices))
+}
+
+#[no_mangle]
+pub extern "C" fn quote_format(image: &mut [u8]) -> u8
+    ensures { λ r. ⌜ r ≡ numberOf (formatCall (now (image .entry)) .answer) ⌝ }
+    ensures { λ _. ⌜ now (image .exit) ≡ formatCall (now (image .entry)) .image ⌝ }
+{
+    number_of(calls::format(image))
+}
+
+#[no_mangle]
+pub extern "C" fn quote_check(image: &[u8]) -> u8
+    ensures { λ r. ⌜ r ≡ numberOf (checkCall (now (image .entry))) ⌝ }
+{
+    number_of(calls::check(image))
+}
+
+#[no_mangle]
+pub extern "C" fn quote_lookup(image: &[u8], key: u64, answer: &mut [u64]) -> u8
+    ensures { λ r. ⌜ r ≡ lookupNumber (lookupCall (now (image .entry)) key) ⌝ }
+    ensures { λ _. ⌜ now (answer .exit) ≡ lent (now (answer .entry)) (lookupNumbers (lookupCall (now (image .entry)) key)) ⌝ }
+{
+    match calls::lookup(image, key) {
+        Lookup::Found { offset, length } => {
+            put_numbers(answer, [1, offset as u64, length as u64], 3);
+            0
+        }
+        Lookup::Missing => {
+            put_numbers(answer, [0, 0, 0], 3);
+            0
+        }
+        Lookup::Refused(refusal) => refusal.number,
+    }
+}
+
+#[no_mangle]
+pub extern "C" fn quote_next_key(image: &[u8], key: u64, answer: &mut [u64]) -> u8
+    ensures { λ r. ⌜ r ≡ nextNumber (nextCall (now (image .entry)) key) ⌝ }
+    ensures { λ _. ⌜ now (answer .exit) ≡ lent (now (answer .entry)) (nextNumbers (nextCall (now (image .entry)) key)) ⌝ }
+{
+    match calls::next_key(image, key) {
+        Next::Key(next) => {
+            put_numbers(answer, [1, next, 0], 2);
+            0
+        }
+        Next::Last => {
+            put_numbers(answer, [0, 0, 0], 2);
+            0
+        }
+        Next::Refused(refusal) => refusal.number,
+    }
+}

@@ -1,0 +1,158 @@
+-- What the transaction call answers: each refusal where its ground is the first that holds, and acceptance where none does; with what an
+-- accepted transaction leaves.
+-- Assumes nothing.
+use Prim.Native.Nat.{ℕ, _≤_, _<_}
+use mathlib.Core.Path.{_≡_, refl, _∙_}
+use mathlib.Core.Logic.{_⊎_}
+use mathlib.Core.Bool.{true, false}
+use mathlib.Core.List.{List, [], _∷_}
+use native.Mathlib.Omega.{arith}
+use native.Mathlib.Nat.{not-suc-le-zero}
+use lib.ListN.{length}
+use lib.Dec.{eqb, leb}
+use borrow.Author.Tests.{eqb-true, eqb-false, eq-eqb, ne-eqb, leb-true, leb-false, le-leb, lt-leb}
+use Rattle.codec.specs.Lists.{All}
+use Rattle.device.specs.Tape.{tapeBytes}
+use Rattle.device.specs.Calls.{isImageSize}
+use Rattle.device.specs.declared.Refusal.{Refusal}
+use Rattle.device.specs.declared.Answer.{Answer}
+use Rattle.device.specs.declared.Answer.the-variants as answers
+use Rattle.image.specs.PageZero.{logMost}
+use Rattle.image.specs.Table.{table}
+use Rattle.image.specs.Calls.{checkCall}
+use Rattle.image.proofs.Answers.{check-sound}
+use Rattle.edit.specs.EditList.{Edit, Listed, listed, faulty, editList}
+use Rattle.edit.specs.Ledger.{applyEdits}
+use Rattle.edit.proofs.General.{by-test}
+use Rattle.edit.proofs.Reading.{Proper}
+use Rattle.edit.proofs.Parsing.{list-whole, list-proper}
+use Rattle.journal.specs.Changes.{changedPages, sameRoot}
+use Rattle.journal.specs.Tape.{roomInLog, takenFor}
+use Rattle.journal.specs.Edited.{Edited}
+use Rattle.tree.specs.State.{State}
+use Rattle.tree.specs.Whole.{Outcome, finished, stopped, editsOn, editedImage}
+use Rattle.tree.specs.Grounds.{Grounds}
+use Rattle.transaction.specs.Calls.{Result, refusedWith, acceptedWith, committed, outcomeOf, listOf, checkedOf, transactionCall}
+use Rattle.journal.specs.declared.Commit.{Commit}
+use Rattle.transaction.specs.declared.Transacted.the-variants.{Accepted, Refused}
+use Rattle.tree.proofs.Runs.{edits-refused}
+use Rattle.tree.proofs.Accepted.{edits-accepted, edits-table}
+use Rattle.tree.proofs.Changed.{place-changed}
+
+-- ---- the cases, in the order of document 01
+
+-- 1, 2 and check's refusals do not hold
+pub record Begun (a work : List ℕ) : Type 0 where
+  pub size : isImageSize (length a) ≡ true
+  pub same : length work ≡ length a
+  pub checked : checkCall a ≡ answers.Accepted
+
+-- nor do 5 to 11: the edits es lead to the edited image
+pub record Done (a bytes : List ℕ) (es : List Edit) (st : State) : Type 0 where
+  pub reads : editList bytes ≡ listed es
+  pub makes : editsOn a es ≡ finished st
+  pub edited : Edited a (editedImage a st)
+  pub holds : table (editedImage a st) ≡ applyEdits es (table a)
+  pub place : (1 ≤ length (changedPages a (editedImage a st))) ⊎ (sameRoot a (editedImage a st) ≡ false)
+
+pub data Answers (a work tape bytes : List ℕ) : Result → Type 0 where
+  bad-size : isImageSize (length a) ≡ false → Answers a work tape bytes (refusedWith 1 0 work tape)
+  bad-work : isImageSize (length a) ≡ true → (length work ≡ length a → ⊥) → Answers a work tape bytes (refusedWith 2 0 work tape)
+  bad-image : isImageSize (length a) ≡ true → length work ≡ length a → (r : Refusal) → checkCall a ≡ answers.Refused r →
+      Answers a work tape bytes (record { answer = Refused r; work = work; tape = tape })
+  bad-list : Begun a work → (k i : ℕ) → editList bytes ≡ faulty k i → Answers a work tape bytes (refusedWith k i work tape)
+  bad-edit : Begun a work → (es : List Edit) → editList bytes ≡ listed es → (k i : ℕ) → editsOn a es ≡ stopped k i → Grounds a es k i → Answers a work tape bytes (refusedWith k i a tape)
+  no-log : Begun a work → (es : List Edit) (st : State) → Done a bytes es st → logMost < length (changedPages a (editedImage a st)) → Answers a work tape bytes (refusedWith 12 0 a tape)
+  no-tape : Begun a work → (es : List Edit) (st : State) → Done a bytes es st → length (changedPages a (editedImage a st)) ≤ logMost →
+      length tape < length (tapeBytes (takenFor a (editedImage a st) .tape)) → Answers a work tape bytes (refusedWith 13 0 a tape)
+  accepted : Begun a work → (es : List Edit) (st : State) → Done a bytes es st → length (changedPages a (editedImage a st)) ≤ logMost →
+      length (tapeBytes (takenFor a (editedImage a st) .tape)) ≤ length tape → Answers a work tape bytes (acceptedWith (takenFor a (editedImage a st)) tape)
+
+module _ (a work tape bytes : List ℕ) where
+  done-facts : Begun a work → (es : List Edit) → editList bytes ≡ listed es → (st : State) → editsOn a es ≡ finished st → Done a bytes es st
+  done-facts B es reads st makes =
+      let h = check-sound a (B .checked) in
+      let P = list-proper bytes es reads in
+      record { reads = reads; makes = makes; edited = edits-accepted a h es P st makes; holds = edits-table a h es P st makes; place = changed es (list-whole bytes es reads .some) P makes }
+    where
+      changed : (es : List Edit) → 1 ≤ length es → All Proper es → editsOn a es ≡ finished st → (1 ≤ length (changedPages a (editedImage a st))) ⊎ (sameRoot a (editedImage a st) ≡ false)
+      changed [] some P makes = absurd (not-suc-le-zero some)
+      changed (e ∷ es) some P makes = place-changed a (check-sound a (B .checked)) e es P st makes
+
+  pub call-answers : Answers a work tape bytes (transactionCall a work tape bytes)
+  unfolding transactionCall checkedOf listOf outcomeOf committed roomInLog
+  call-answers =
+      by-test (Answers a work tape bytes) (isImageSize (length a))
+      (λ size. by-test (Answers a work tape bytes) (eqb (length work) (length a)) (λ same. check size (eqb-true (length work) (length a) same) (checkCall a) refl)
+      (λ other. bad-work size (eqb-false (length work) (length a) other)))
+      (λ size. bad-size size)
+    where
+      ends : Begun a work → (es : List Edit) (st : State) → Done a bytes es st → Answers a work tape bytes (committed a (editedImage a st) tape)
+      ends B es st D =
+          let w = editedImage a st in
+          let used = length (tapeBytes (takenFor a w .tape)) in
+          by-test (Answers a work tape bytes) (leb (length (changedPages a w)) logMost)
+          (λ few. by-test (Answers a work tape bytes) (leb used (length tape))
+          (λ fits. accepted B es st D (leb-true (length (changedPages a w)) logMost few) (leb-true used (length tape) fits))
+          (λ long. no-tape B es st D (leb-true (length (changedPages a w)) logMost few) (leb-false used (length tape) long)))
+          (λ many. no-log B es st D (leb-false (length (changedPages a w)) logMost many))
+
+      edits : Begun a work → (es : List Edit) → editList bytes ≡ listed es → (o : Outcome) → editsOn a es ≡ o → Answers a work tape bytes (outcomeOf a tape o)
+      edits B es reads (stopped k i) e = bad-edit B es reads k i e (edits-refused a (check-sound a (B .checked)) es (list-proper bytes es reads) k i e)
+      edits B es reads (finished st) e = ends B es st (done-facts B es reads st e)
+
+      list : Begun a work → (l : Listed) → editList bytes ≡ l → Answers a work tape bytes (listOf a work tape l)
+      list B (faulty k i) e = bad-list B k i e
+      list B (listed es) e = edits B es e (editsOn a es) refl
+
+      check : isImageSize (length a) ≡ true → length work ≡ length a → (c : Answer) → checkCall a ≡ c → Answers a work tape bytes (checkedOf a work tape bytes c)
+      check size same (answers.Refused r) e = bad-image size same r e
+      check size same answers.Accepted e = list (record { size = size; same = same; checked = e }) (editList bytes) refl
+
+  -- the cases exclude each other: each is the call's answer where it holds
+  begun-call : Begun a work → transactionCall a work tape bytes ≡ listOf a work tape (editList bytes)
+  unfolding transactionCall checkedOf
+  begun-call B = rw (B .size, eq-eqb (length work) (length a) (B .same), B .checked)
+
+  done-call : Begun a work → (es : List Edit) (st : State) → Done a bytes es st → transactionCall a work tape bytes ≡ committed a (editedImage a st) tape
+  unfolding listOf outcomeOf
+  done-call B es st D = begun-call B ∙ rw (D .reads, D .makes)
+
+  pub answers-call : (r : Result) → Answers a work tape bytes r → transactionCall a work tape bytes ≡ r
+  unfolding transactionCall checkedOf listOf outcomeOf committed roomInLog
+  answers-call _ (bad-size e) = rw e
+  answers-call _ (bad-work e other) = rw (e, ne-eqb (length work) (length a) other)
+  answers-call _ (bad-image e same r c) = rw (e, eq-eqb (length work) (length a) same, c)
+  answers-call _ (bad-list B k i e) = begun-call B ∙ rw e
+  answers-call _ (bad-edit B es reads k i e g) = begun-call B ∙ rw (reads, e)
+  answers-call _ (no-log B es st D many) = done-call B es st D ∙ rw (lt-leb (length (changedPages a (editedImage a st))) logMost many)
+  answers-call _ (no-tape B es st D few long) =
+      done-call B es st D
+      ∙ rw (le-leb (length (changedPages a (editedImage a st))) logMost few, lt-leb (length (tapeBytes (takenFor a (editedImage a st) .tape))) (length tape) long)
+  answers-call _ (accepted B es st D few fits) =
+      done-call B es st D
+      ∙ rw (le-leb (length (changedPages a (editedImage a st))) logMost few, le-leb (length (tapeBytes (takenFor a (editedImage a st) .tape))) (length tape) fits)
+
+  -- what an accepted transaction has done
+  pub record Acceptance : Type 0 where
+    pub begun : Begun a work
+    pub list : List Edit
+    pub state : State
+    pub done : Done a bytes list state
+    pub few : length (changedPages a (editedImage a state)) ≤ logMost
+    pub fits : length (tapeBytes (takenFor a (editedImage a state) .tape)) ≤ length tape
+    pub result : transactionCall a work tape bytes ≡ acceptedWith (takenFor a (editedImage a state)) tape
+
+  pub call-accepted : (c : Commit) → transactionCall a work tape bytes .answer ≡ Accepted c → Acceptance
+  unfolding refusedWith
+  call-accepted c e = go (transactionCall a work tape bytes) call-answers refl e
+    where
+      go : (r : Result) → Answers a work tape bytes r → transactionCall a work tape bytes ≡ r → r .answer ≡ Accepted c → Acceptance
+      go _ (bad-size _) q e = let z : _≡_ {A = ℕ} 0 1 = cc in absurd (omega arith)
+      go _ (bad-work _ _) q e = let z : _≡_ {A = ℕ} 0 1 = cc in absurd (omega arith)
+      go _ (bad-image _ _ _ _) q e = let z : _≡_ {A = ℕ} 0 1 = cc in absurd (omega arith)
+      go _ (bad-list _ _ _ _) q e = let z : _≡_ {A = ℕ} 0 1 = cc in absurd (omega arith)
+      go _ (bad-edit _ _ _ _ _ _ _) q e = let z : _≡_ {A = ℕ} 0 1 = cc in absurd (omega arith)
+      go _ (no-log _ _ _ _ _) q e = let z : _≡_ {A = ℕ} 0 1 = cc in absurd (omega arith)
+      go _ (no-tape _ _ _ _ _ _) q e = let z : _≡_ {A = ℕ} 0 1 = cc in absurd (omega arith)
+      go _ (accepted B es st D few fits) q e = record { begun = B; list = es; state = st; done = D; few = few; fits = fits; result = q }

@@ -1,0 +1,68 @@
+-- What a transaction answers, and what it leaves in work and tape (document 01, 'Each call and when it says no').
+-- Assumes nothing.
+use Prim.Native.Nat.{ℕ}
+use mathlib.Core.Bool.{Bool, true, false}
+use mathlib.Core.List.{List, [], _∷_}
+use lib.ListN.{length}
+use lib.Dec.{eqb, leb}
+use Rattle.codec.specs.Lists.{splice, pick}
+use Rattle.device.specs.Tape.{tapeBytes, flushCount}
+use Rattle.device.specs.Calls.{imageSize, workSize, logFull, tapeShort, isImageSize}
+use Rattle.device.specs.declared.Refusal.{Refusal}
+use Rattle.device.specs.declared.Answer.{Answer}
+use Rattle.device.specs.declared.Answer.the-variants as answers
+use Rattle.image.specs.Calls.{checkCall}
+use Rattle.edit.specs.EditList.{Edit, Listed, listed, faulty, editList}
+use Rattle.journal.specs.Changes.{changedPages}
+use Rattle.journal.specs.Tape.{Taken, roomInLog, takenFor}
+use Rattle.tree.specs.Whole.{Outcome, finished, stopped, editsOn, editedImage}
+use Rattle.journal.specs.declared.Commit.{Commit}
+use Rattle.transaction.specs.declared.Transacted.{Transacted}
+use Rattle.transaction.specs.declared.Transacted.the-variants.{Accepted, Refused}
+
+-- the answer, and the two buffers that the call is lent
+pub record Result : Type 0 where
+  pub answer : Transacted
+  pub work : List ℕ
+  pub tape : List ℕ
+
+-- "A refusal gives its number and edit number from 0 (0 unless 5 to 11 in a transaction). The tape stays."
+unfoldable pub refusedWith : ℕ → ℕ → List ℕ → List ℕ → Result
+refusedWith k i work tape = record { answer = Refused (record { number = k; edit = i }); work = work; tape = tape }
+
+-- the accepted transaction: "Tape bytes past those used stay."
+unfoldable pub acceptedWith : Taken → List ℕ → Result
+acceptedWith t tape =
+    let bytes = tapeBytes (t .tape) in
+    record {
+      answer = Accepted (record { place = t .place; bytes = length bytes; flushes = flushCount (t .tape) });
+      work = t .work;
+      tape = splice tape 0 bytes;
+    }
+
+-- "Then 12 more than 15 changed headers where the log is needed; 13 tape too short. From 8 on, work holds the image"
+unfoldable pub committed : List ℕ → List ℕ → List ℕ → Result
+committed a w tape =
+    let t = takenFor a w in
+    pick (roomInLog (changedPages a w))
+    (pick (leb (length (tapeBytes (t .tape))) (length tape)) (acceptedWith t tape) (refusedWith tapeShort 0 a tape))
+    (refusedWith logFull 0 a tape)
+
+unfoldable pub outcomeOf : List ℕ → List ℕ → Outcome → Result
+outcomeOf a tape (stopped k i) = refusedWith k i a tape
+outcomeOf a tape (finished st) = committed a (editedImage a st) tape
+
+unfoldable pub listOf : List ℕ → List ℕ → List ℕ → Listed → Result
+listOf a work tape (faulty k i) = refusedWith k i work tape
+listOf a work tape (listed es) = outcomeOf a tape (editsOn a es)
+
+unfoldable pub checkedOf : List ℕ → List ℕ → List ℕ → List ℕ → Answer → Result
+checkedOf a work tape bytes (answers.Refused r) = record { answer = Refused r; work = work; tape = tape }
+checkedOf a work tape bytes answers.Accepted = listOf a work tape (editList bytes)
+
+-- "Transaction: 1; 2 if the work buffer's length isn't the image's; check's; then the list, ..."
+unfoldable pub transactionCall : List ℕ → List ℕ → List ℕ → List ℕ → Result
+transactionCall a work tape bytes =
+    pick (isImageSize (length a))
+    (pick (eqb (length work) (length a)) (checkedOf a work tape bytes (checkCall a)) (refusedWith workSize 0 work tape))
+    (refusedWith imageSize 0 work tape)

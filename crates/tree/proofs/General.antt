@@ -1,0 +1,41 @@
+-- Laws in general that codec's lack: an element put in or taken out at a seam, and parts of a list of bytes.
+-- Assumes nothing.
+use Prim.Native.Nat.{ℕ, suc, _+_, _-_, _≤_, _<_}
+use mathlib.Core.Path.{_≡_, refl, sym, ap, _∙_}
+use mathlib.Core.List.{List, [], _∷_, _++_}
+use native.Mathlib.Omega.{arith}
+use lib.ListN.{length, getD, take, drop}
+use lib.Seq.{take-add, drop-drop}
+use Rattle.codec.specs.Lists.{part, insertAt, removeAt}
+use Rattle.codec.proofs.Lists.{getD-part}
+
+-- ---- at a seam
+
+module _ {A : Type 0} where
+  pub insertAt-seam : (pre : List A) (y z : A) (post : List A) → insertAt (suc (length pre)) z (pre ++ y ∷ post) ≡ pre ++ y ∷ z ∷ post
+  unfolding insertAt
+  insertAt-seam [] y z post = refl
+  insertAt-seam (x ∷ pre) y z post = ap (λ (l : List A). x ∷ l) (insertAt-seam pre y z post)
+
+  pub removeAt-seam : (pre : List A) (y : A) (post : List A) → removeAt (length pre) (pre ++ y ∷ post) ≡ pre ++ post
+  unfolding removeAt
+  removeAt-seam [] y post = refl
+  removeAt-seam (x ∷ pre) y post = ap (λ (l : List A). x ∷ l) (removeAt-seam pre y post)
+
+-- ---- parts
+
+-- a part in two
+pub part-two : (l : List ℕ) (o m n : ℕ) → part l o (m + n) ≡ part l o m ++ part l (o + m) n
+unfolding part
+part-two l o m n = take-add m n (drop o l) ∙ ap (λ (x : List ℕ). take m (drop o l) ++ take n x) (drop-drop m o l)
+
+-- a byte of parts that are equal
+pub byte-part : (x y : List ℕ) (o n i : ℕ) → part x o n ≡ part y o n → o ≤ i → i < o + n → getD x i 0 ≡ getD y i 0
+byte-part x y o n i e low high =
+    let f : o + (i - o) ≡ i = omega arith in
+    let k : i - o < n = omega arith in
+    ap (λ (m : ℕ). getD x m 0) (sym f)
+    ∙ sym (getD-part x o n (i - o) k)
+    ∙ ap (λ (l : List ℕ). getD l (i - o) 0) e
+    ∙ getD-part y o n (i - o) k
+    ∙ ap (λ (m : ℕ). getD y m 0) f

@@ -1,0 +1,179 @@
+-- What an edit in place, a delete and a fill leave of a page: kind, number, content start and records; and that an edit leaves the bytes
+-- from the content start on.
+-- Assumes nothing.
+use Prim.Native.Nat.{ℕ, _+_, _-_, _≤_, _<_}
+use mathlib.Core.Path.{_≡_, refl, sym, ap, _∙_, subst}
+use mathlib.Core.Logic.{_⊎_, inl, inr}
+use mathlib.Core.Bool.{Bool, true, false}
+use mathlib.Core.List.{List, [], _∷_}
+use native.Mathlib.Omega.{arith}
+use lib.ListN.{length, drop}
+use lib.Seq.{drop-drop}
+use Rattle.codec.specs.Lists.{removeAt, All}
+use Rattle.codec.proofs.Lists.{drop-splice, length-removeAt}
+use Rattle.page.specs.Layout.{pageSize, lineSize, slotCount, Rec, size, recordBytes, Head, readHead, unusedHead}
+use Rattle.page.specs.Page.{records, laidOut, pageOk, RecOk, Page}
+use Rattle.page.specs.Operations.{seal, written, insertHead, updateHead, deleteHead, insert, update, delete, fillHead, fill, sizes, made}
+use Rattle.page.proofs.Records.{length-recordBytes, size-least}
+use Rattle.page.proofs.Facts.{ok-is, pageOk-true}
+use Rattle.page.proofs.Writes.{drop-seal}
+use Rattle.page.proofs.Operations.{insert-page, update-page, delete-page, fill-page}
+use Rattle.tree.specs.Edits.{inPlace}
+
+-- ---- what a page shows
+
+-- g is laid out, of kind k and with the number n, the content start s and the records rs
+pub record Shows (g : List ℕ) (k n s : ℕ) (rs : List Rec) : Type 0 where
+  pub laid : laidOut g ≡ true
+  pub kind : readHead g .kind ≡ k
+  pub own : readHead g .own ≡ n
+  pub start : readHead g .start ≡ s
+  pub recs : records g ≡ rs
+
+pub shows-sound : (kind own : ℕ) (g : List ℕ) → pageOk kind own g ≡ true → Shows g kind own (readHead g .start) (records g)
+shows-sound kind own g h =
+    let k = pageOk-true kind own g h in
+    record { laid = k .laid; kind = k .kind; own = k .own; start = refl; recs = refl }
+
+pub shows-as : {g : List ℕ} {k n s t : ℕ} {rs ss : List Rec} → Shows g k n s rs → s ≡ t → rs ≡ ss → Shows g k n t ss
+shows-as h e f = record { laid = h .laid; kind = h .kind; own = h .own; start = h .start ∙ e; recs = h .recs ∙ f }
+
+pub laid-length : (g : List ℕ) → laidOut g ≡ true → length g ≡ pageSize
+laid-length g h = ok-is g h .body .whole
+
+pub laid-start : (g : List ℕ) → laidOut g ≡ true → lineSize ≤ readHead g .start
+laid-start g h = ok-is g h .body .head .low
+
+-- a page that is what its new header says
+shows-page : (g : List ℕ) (h : Head) (rs : List Rec) → Page g h rs → Shows g (h .kind) (h .own) (h .start) rs
+shows-page g h rs k =
+    record { laid = k .ok; kind = ap (λ (x : Head). x .kind) (k .head); own = ap (λ (x : Head). x .own) (k .head); start = ap (λ (x : Head). x .start) (k .head); recs = k .recs }
+
+-- ---- a header that has sunk
+
+-- content start is lower, or there are fewer records
+abbrev pub Lower : List ℕ → List ℕ → Type 0
+Lower p q = (readHead q .start < readHead p .start) ⊎ ((readHead q .start ≡ readHead p .start) × (length (records q) < length (records p)))
+
+pub lower-trans : (p q r : List ℕ) → Lower p q → Lower q r → Lower p r
+lower-trans p q r (inl h) (inl k) = inl (omega arith)
+lower-trans p q r (inl h) (inr k) = inl (omega (arith, k .0))
+lower-trans p q r (inr h) (inl k) = inl (omega (arith, h .0))
+lower-trans p q r (inr h) (inr k) = inr (omega (arith, h .0, k .0), omega (arith, h .1, k .1))
+
+-- q is p after edits in place: start has not risen, the bytes from p's start on stay, and q is p itself or its header has sunk
+pub record Old (p q : List ℕ) : Type 0 where
+  pub falls : readHead q .start ≤ readHead p .start
+  pub above : drop (readHead p .start) q ≡ drop (readHead p .start) p
+  pub sinks : (q ≡ p) ⊎ Lower p q
+
+pub old-refl : (p : List ℕ) → Old p p
+old-refl p = record { falls = omega arith; above = refl; sinks = inl refl }
+
+pub old-trans : (p q r : List ℕ) → Old p q → Old q r → Old p r
+old-trans p q r h k =
+    record { falls = omega (arith, h .falls, k .falls); above = down ∙ h .above; sinks = go (h .sinks) (k .sinks) }
+  where
+    s : ℕ
+    s = readHead p .start
+
+    t : ℕ
+    t = readHead q .start
+
+    down : drop s r ≡ drop s q
+    down =
+        let e : t + (s - t) ≡ s = omega (arith, h .falls) in
+        ap (λ (m : ℕ). drop m r) (sym e) ∙ sym (drop-drop (s - t) t r) ∙ ap (drop (s - t)) (k .above) ∙ drop-drop (s - t) t q ∙ ap (λ (m : ℕ). drop m q) e
+
+    go : (q ≡ p) ⊎ Lower p q → (r ≡ q) ⊎ Lower q r → (r ≡ p) ⊎ Lower p r
+    go (inl a) (inl b) = inl (b ∙ a)
+    go (inl a) (inr b) = inr (subst (λ (x : List ℕ). Lower x r) a b)
+    go (inr a) (inl b) = inr (subst (Lower p) (sym b) a)
+    go (inr a) (inr b) = inr (lower-trans p q r a b)
+
+-- ---- a record put into its page
+
+module _ (p : List ℕ) (laid : laidOut p ≡ true) (i : ℕ) (r : Rec) (good : RecOk r) (room : lineSize + size r ≤ readHead p .start) where
+  -- under any header whose slots fit the line, the bytes from start on stay
+  above-seal : (h : Head) → length (h .slots) ≤ slotCount → drop (readHead p .start) (seal h (written (readHead p .start) p r)) ≡ drop (readHead p .start) p
+  unfolding written
+  above-seal h few =
+      let s = readHead p .start in
+      let l = length-recordBytes r in
+      let high = ok-is p laid .body .head .high in
+      drop-seal h (written s p r) s few (laid-start p laid) ∙ drop-splice p (s - size r) (recordBytes r) (omega (arith, laid-length p laid)) s (omega arith)
+
+  place-page : (ins : Bool) → (ins ≡ true → length (records p) < slotCount) →
+      (h : Head) × Page (inPlace ins i r p) h (made ins i r (records p)) × (h .kind ≡ readHead p .kind) × (h .own ≡ readHead p .own) × (h .start ≡ readHead p .start - size r)
+      × (inPlace ins i r p ≡ seal h (written (readHead p .start) p r))
+  unfolding inPlace made insertHead updateHead insert update
+  place-page true few = (insertHead (readHead p) i (size r), insert-page p laid i r good room (few refl), refl, refl, refl, refl)
+  place-page false few = (updateHead (readHead p) i (size r), update-page p laid i r good room, refl, refl, refl, refl)
+
+  module _ (ins : Bool) (few : ins ≡ true → length (records p) < slotCount) where
+    pub place-shows : Shows (inPlace ins i r p) (readHead p .kind) (readHead p .own) (readHead p .start - size r) (made ins i r (records p))
+    place-shows =
+        let t = place-page ins few in
+        let s = shows-page (inPlace ins i r p) (t .0) (made ins i r (records p)) (t .1) in
+        record { laid = s .laid; kind = s .kind ∙ t .2; own = s .own ∙ t .3; start = s .start ∙ t .4; recs = s .recs }
+
+    pub place-lower : Lower p (inPlace ins i r p)
+    place-lower = inl (omega (arith, place-shows .start, size-least r))
+
+    pub place-old : Old p (inPlace ins i r p)
+    place-old =
+        let t = place-page ins few in
+        let slots : length (t .0 .slots) ≤ slotCount =
+        subst (λ (h : Head). length (h .slots) ≤ slotCount) (t .1 .head) (ok-is (inPlace ins i r p) (t .1 .ok) .body .head .few) in
+        record {
+          falls = omega (arith, place-shows .start);
+          above = ap (drop (readHead p .start)) (t .5) ∙ above-seal (t .0) slots;
+          sinks = inr place-lower;
+        }
+
+-- ---- a record dropped
+
+module _ (p : List ℕ) (laid : laidOut p ≡ true) (i : ℕ) where
+  pub delete-shows : Shows (delete p i) (readHead p .kind) (readHead p .own) (readHead p .start) (removeAt i (records p))
+  unfolding deleteHead
+  delete-shows = shows-page (delete p i) (deleteHead (readHead p) i) (removeAt i (records p)) (delete-page p laid i)
+
+  pub delete-lower : i < length (records p) → Lower p (delete p i)
+  delete-lower h = inr (delete-shows .start, omega (arith, ap length (delete-shows .recs), length-removeAt i (records p) h))
+
+  pub delete-old : i < length (records p) → Old p (delete p i)
+  unfolding delete
+  delete-old h =
+      let t = delete-page p laid i in
+      let slots : length (deleteHead (readHead p) i .slots) ≤ slotCount =
+      subst (λ (x : Head). length (x .slots) ≤ slotCount) (t .head) (ok-is (delete p i) (t .ok) .body .head .few) in
+      record {
+        falls = omega (arith, delete-shows .start);
+        above = drop-seal (deleteHead (readHead p) i) p (readHead p .start) slots (laid-start p laid);
+        sinks = inr (delete-lower h);
+      }
+
+-- ---- a new page
+
+fill-kind : (h : Head) (rs : List Rec) → fillHead h rs .kind ≡ h .kind
+unfolding fillHead insertHead
+fill-kind h [] = refl
+fill-kind h (r ∷ rs) = fill-kind (insertHead h (length (h .slots)) (size r)) rs
+
+fill-own : (h : Head) (rs : List Rec) → fillHead h rs .own ≡ h .own
+unfolding fillHead insertHead
+fill-own h [] = refl
+fill-own h (r ∷ rs) = fill-own (insertHead h (length (h .slots)) (size r)) rs
+
+fill-start : (h : Head) (rs : List Rec) → fillHead h rs .start ≡ h .start - sizes rs
+unfolding fillHead insertHead sizes
+fill-start h [] = omega arith
+fill-start h (r ∷ rs) = fill-start (insertHead h (length (h .slots)) (size r)) rs ∙ omega arith
+
+pub fill-shows : (p : List ℕ) (kind own : ℕ) (rs : List Rec) → length p ≡ pageSize → kind < 256 → own < 65536 → All RecOk rs → lineSize + sizes rs ≤ pageSize → length rs ≤ slotCount →
+    Shows (fill p kind own rs) kind own (pageSize - sizes rs) rs
+unfolding unusedHead
+fill-shows p kind own rs whole k o good room few =
+    let h = unusedHead kind own in
+    let s = shows-page (fill p kind own rs) (fillHead h rs) rs (fill-page p kind own rs whole k o good room few) in
+    record { laid = s .laid; kind = s .kind ∙ fill-kind h rs; own = s .own ∙ fill-own h rs; start = s .start ∙ fill-start h rs; recs = s .recs }

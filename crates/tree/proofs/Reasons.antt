@@ -1,0 +1,108 @@
+-- The ground of an edit case by case: 8, 9, 10 and 11 exactly where document 01 says so, and none where the edit is made.
+-- Assumes nothing.
+use Prim.Native.Nat.{ℕ, _-_, _≤_, _<_}
+use mathlib.Core.Path.{_≡_, refl, _∙_}
+use mathlib.Core.Logic.{_⊎_, inl, inr}
+use mathlib.Core.Bool.{Bool, true, false, _&&_, and-false}
+use mathlib.Core.List.{List}
+use lib.ListN.{length}
+use lib.Dec.{ltb, leb}
+use borrow.Author.Tests.{ltb-true, ltb-false, lt-ltb, le-ltb, leb-true, leb-false, le-leb, lt-leb}
+use Rattle.codec.proofs.Tests.{first, second}
+use Rattle.page.specs.Layout.{pageSize, lineSize, slotCount, Rec, recOf, size}
+use Rattle.page.specs.Page.{records}
+use Rattle.page.specs.Operations.{sizes}
+use Rattle.image.specs.Image.{children}
+use Rattle.edit.specs.EditList.{Edit, insert, update, delete}
+use Rattle.edit.specs.Ledger.{add, replace}
+use Rattle.edit.proofs.General.{by-test}
+use Rattle.tree.specs.State.{State}
+use Rattle.tree.specs.Edits.{isFull}
+use Rattle.tree.specs.Grounds.{tableOf, holds, leafOf, pagesFor, tooFew, room, ground}
+
+-- "If they are at most 28 and at most 960 bytes, they are copied to one new page; else split over two."
+pub record OnePage (rs : List Rec) : Type 0 where
+  pub few : length rs ≤ slotCount
+  pub small : sizes rs ≤ pageSize - lineSize
+
+abbrev pub TwoPages : List Rec → Type 0
+TwoPages rs = (slotCount < length rs) ⊎ (pageSize - lineSize < sizes rs)
+
+-- the ground of a record of size s that goes into the leaf p, whose records are then rs
+pub data Room (st : State) (ins : Bool) (s : ℕ) (p : List ℕ) (rs : List Rec) : ℕ → Type 0 where
+  in-place : isFull ins s p ≡ false → Room st ins s p rs 0
+  copied : isFull ins s p ≡ true → OnePage rs → pagesFor st 1 ≤ length (st .free) → Room st ins s p rs 0
+  no-copy : isFull ins s p ≡ true → OnePage rs → length (st .free) < pagesFor st 1 → Room st ins s p rs 11
+  no-index : isFull ins s p ≡ true → TwoPages rs → slotCount ≤ length (children (st .image) (st .root)) → Room st ins s p rs 10
+  split : isFull ins s p ≡ true → TwoPages rs → length (children (st .image) (st .root)) < slotCount → pagesFor st 2 ≤ length (st .free) → Room st ins s p rs 0
+  no-split : isFull ins s p ≡ true → TwoPages rs → length (children (st .image) (st .root)) < slotCount → length (st .free) < pagesFor st 2 → Room st ins s p rs 11
+
+-- the ground of an edit: "8 insert of a key present; 9 other edit of a missing key; 10 a 29th index record; 11 too few new pages", or 0
+pub data Reason (st : State) : Edit → ℕ → Type 0 where
+  present : (k : ℕ) (v : List ℕ) → holds k (tableOf st) ≡ true → Reason st (insert k v) 8
+  inserted : (k : ℕ) (v : List ℕ) (g : ℕ) → holds k (tableOf st) ≡ false → Room st true (size (recOf k v)) (leafOf st k) (add k v (records (leafOf st k))) g → Reason st (insert k v) g
+  no-update : (k : ℕ) (v : List ℕ) → holds k (tableOf st) ≡ false → Reason st (update k v) 9
+  updated : (k : ℕ) (v : List ℕ) (g : ℕ) → holds k (tableOf st) ≡ true → Room st false (size (recOf k v)) (leafOf st k) (replace k v (records (leafOf st k))) g → Reason st (update k v) g
+  no-delete : (k : ℕ) → holds k (tableOf st) ≡ false → Reason st (delete k) 9
+  deleted : (k : ℕ) → holds k (tableOf st) ≡ true → Reason st (delete k) 0
+
+module _ (st : State) (ins : Bool) (s : ℕ) (p : List ℕ) (rs : List Rec) where
+  one-page : (leb (length rs) slotCount && leb (sizes rs) (pageSize - lineSize)) ≡ true → OnePage rs
+  one-page e =
+      record {
+        few = leb-true (length rs) slotCount (first (leb (length rs) slotCount) (leb (sizes rs) (pageSize - lineSize)) e);
+        small = leb-true (sizes rs) (pageSize - lineSize) (second (leb (length rs) slotCount) (leb (sizes rs) (pageSize - lineSize)) e);
+      }
+
+  two-pages : (a : Bool) → leb (length rs) slotCount ≡ a → (b : Bool) → leb (sizes rs) (pageSize - lineSize) ≡ b → (a && b) ≡ false → TwoPages rs
+  two-pages false e b f h = inl (leb-false (length rs) slotCount e)
+  two-pages true e b f h = inr (leb-false (sizes rs) (pageSize - lineSize) (f ∙ h))
+
+  not-one : TwoPages rs → (leb (length rs) slotCount && leb (sizes rs) (pageSize - lineSize)) ≡ false
+  not-one (inl h) = rw (lt-leb (length rs) slotCount h)
+  not-one (inr h) = rw (lt-leb (sizes rs) (pageSize - lineSize) h) (and-false (leb (length rs) slotCount))
+
+  room-reason : Room st ins s p rs (room st ins s p rs)
+  unfolding room tooFew
+  room-reason =
+      by-test (Room st ins s p rs) (isFull ins s p)
+      (λ full. by-test (Room st ins s p rs) (leb (length rs) slotCount && leb (sizes rs) (pageSize - lineSize))
+      (λ one. by-test (Room st ins s p rs) (ltb (length (st .free)) (pagesFor st 1)) (λ less. no-copy full (one-page one) (ltb-true (length (st .free)) (pagesFor st 1) less))
+      (λ more. copied full (one-page one) (ltb-false (length (st .free)) (pagesFor st 1) more)))
+      (λ over. let two = two-pages (leb (length rs) slotCount) refl (leb (sizes rs) (pageSize - lineSize)) refl over in
+      by-test (Room st ins s p rs) (leb slotCount (length (children (st .image) (st .root))))
+      (λ many. no-index full two (leb-true slotCount (length (children (st .image) (st .root))) many))
+      (λ few. by-test (Room st ins s p rs) (ltb (length (st .free)) (pagesFor st 2))
+      (λ less. no-split full two (leb-false slotCount (length (children (st .image) (st .root))) few) (ltb-true (length (st .free)) (pagesFor st 2) less))
+      (λ more. split full two (leb-false slotCount (length (children (st .image) (st .root))) few) (ltb-false (length (st .free)) (pagesFor st 2) more)))))
+      (λ room. in-place room)
+
+  -- and each case excludes the others
+  reason-room : (g : ℕ) → Room st ins s p rs g → room st ins s p rs ≡ g
+  unfolding room tooFew
+  reason-room _ (in-place e) = rw e
+  reason-room _ (copied e o h) = rw (e, le-leb (length rs) slotCount (o .few), le-leb (sizes rs) (pageSize - lineSize) (o .small), le-ltb (length (st .free)) (pagesFor st 1) h)
+  reason-room _ (no-copy e o h) = rw (e, le-leb (length rs) slotCount (o .few), le-leb (sizes rs) (pageSize - lineSize) (o .small), lt-ltb (length (st .free)) (pagesFor st 1) h)
+  reason-room _ (no-index e t h) = rw (e, not-one t, le-leb slotCount (length (children (st .image) (st .root))) h)
+  reason-room _ (split e t f h) = rw (e, not-one t, lt-leb slotCount (length (children (st .image) (st .root))) f, le-ltb (length (st .free)) (pagesFor st 2) h)
+  reason-room _ (no-split e t f h) = rw (e, not-one t, lt-leb slotCount (length (children (st .image) (st .root))) f, lt-ltb (length (st .free)) (pagesFor st 2) h)
+
+pub ground-reason : (st : State) (e : Edit) → Reason st e (ground st e)
+unfolding ground
+ground-reason st (insert k v) =
+    by-test (Reason st (insert k v)) (holds k (tableOf st)) (λ e. present k v e)
+    (λ e. inserted k v (room st true (size (recOf k v)) (leafOf st k) (add k v (records (leafOf st k)))) e (room-reason st true (size (recOf k v)) (leafOf st k) (add k v (records (leafOf st k)))))
+ground-reason st (update k v) =
+    by-test (Reason st (update k v)) (holds k (tableOf st))
+    (λ e. updated k v (room st false (size (recOf k v)) (leafOf st k) (replace k v (records (leafOf st k)))) e (room-reason st false (size (recOf k v)) (leafOf st k) (replace k v (records (leafOf st k)))))
+    (λ e. no-update k v e)
+ground-reason st (delete k) = by-test (Reason st (delete k)) (holds k (tableOf st)) (λ e. deleted k e) (λ e. no-delete k e)
+
+pub reason-ground : (st : State) (e : Edit) (g : ℕ) → Reason st e g → ground st e ≡ g
+unfolding ground
+reason-ground st _ _ (present k v e) = rw e
+reason-ground st _ _ (inserted k v g e r) = rw e (reason-room st true (size (recOf k v)) (leafOf st k) (add k v (records (leafOf st k))) g r)
+reason-ground st _ _ (no-update k v e) = rw e
+reason-ground st _ _ (updated k v g e r) = rw e (reason-room st false (size (recOf k v)) (leafOf st k) (replace k v (records (leafOf st k))) g r)
+reason-ground st _ _ (no-delete k e) = rw e
+reason-ground st _ _ (deleted k e) = rw e

@@ -1,0 +1,78 @@
+-- The index records of new pages: their separators, their places in the index, and the pages that they need.
+-- Assumes nothing.
+use Prim.Native.Nat.{ℕ, suc, _-_, _*_, _≤_, _<_}
+use mathlib.Core.Path.{_≡_, refl}
+use mathlib.Core.Bool.{Bool, true, false}
+use mathlib.Core.List.{List, [], _∷_, _++_}
+use native.Mathlib.Omega.{arith}
+use native.Mathlib.Nat.{not-suc-le-zero}
+use lib.ListN.{length}
+use lib.Seq.{set-append-seam}
+use lib.Dec.{ltb}
+use borrow.Author.Tests.{ltb-true, ltb-false, lt-ltb, le-ltb}
+use Rattle.codec.specs.Lists.{pick, All}
+use Rattle.page.specs.Layout.{pageSize, lineSize, slotCount, topKey, Rec}
+use Rattle.page.specs.Page.{RecOk}
+use Rattle.page.specs.Operations.{made}
+use Rattle.image.specs.Facts.{Rising}
+use Rattle.image.proofs.Rising as rising
+use Rattle.image.proofs.Rising.{rising-le}
+use Rattle.image.proofs.Order.{startOf}
+use Rattle.tree.specs.Edits.{keptSep, firstKey}
+use Rattle.tree.specs.Grounds.{entrySize}
+use Rattle.tree.proofs.General.{insertAt-seam}
+
+-- ---- separators and first keys
+
+-- "keeps its separator, or takes 0 if first": where the leaf's keys start
+pub kept-low : (ps : List Rec) (k : ℕ) → keptSep (length ps) k ≡ startOf ps 0 k
+unfolding keptSep
+kept-low [] k = refl
+kept-low (p ∷ ps) k = refl
+
+pub kept-most : (ps : List Rec) (k : ℕ) → keptSep (length ps) k ≤ k
+unfolding keptSep
+kept-most [] k = omega arith
+kept-most (p ∷ ps) k = omega arith
+
+pub low-sep : (ps : List Rec) (k : ℕ) → startOf ps (startOf ps 0 k) k ≡ startOf ps 0 k
+low-sep [] k = refl
+low-sep (p ∷ ps) k = refl
+
+pub rising-some : (lo : ℕ) (l : List Rec) (hi : ℕ) → Rising lo l hi → 1 ≤ length l → lo < hi
+rising-some lo [] hi h s = absurd (not-suc-le-zero s)
+rising-some lo (r ∷ l) hi h s = omega (arith, h .0, rising-le (suc (r .key)) l hi (h .1))
+
+pub first-key : (l : List Rec) (hi : ℕ) → 1 ≤ length l → rising.firstKey l hi ≡ firstKey l
+unfolding firstKey
+first-key [] hi h = absurd (not-suc-le-zero h)
+first-key (r ∷ l) hi h = refl
+
+pub first-ok : (l : List Rec) → All RecOk l → firstKey l ≤ topKey
+unfolding firstKey
+first-ok [] h = omega arith
+first-ok (r ∷ l) h = h .0 .low
+
+pub made-seam : (pre : List Rec) (c d : Rec) (post : List Rec) → made false (length pre) d (pre ++ c ∷ post) ≡ pre ++ d ∷ post
+unfolding made
+made-seam pre c d post = set-append-seam pre c post d
+
+pub inserted-seam : (pre : List Rec) (d e : Rec) (post : List Rec) → made true (suc (length pre)) e (pre ++ d ∷ post) ≡ pre ++ d ∷ e ∷ post
+unfolding made
+inserted-seam pre d e post = insertAt-seam pre d e post
+
+-- the pages that two index records need, one after the other: one where they have no room together, and never more
+pub two-entries : (s n : ℕ) → lineSize ≤ s → n < slotCount →
+    pick (ltb (s - lineSize) entrySize) (suc (pick (ltb (pageSize - entrySize * n - lineSize) entrySize) 1 0)) (pick (ltb (s - entrySize - lineSize) entrySize) 1 0)
+    ≡ pick (ltb (s - lineSize) (entrySize * 2)) 1 0
+two-entries s n low few = go (ltb (s - lineSize) entrySize) refl (ltb (s - lineSize) (entrySize * 2)) refl
+  where
+    go : (a : Bool) → ltb (s - lineSize) entrySize ≡ a → (b : Bool) → ltb (s - lineSize) (entrySize * 2) ≡ b →
+        pick a (suc (pick (ltb (pageSize - entrySize * n - lineSize) entrySize) 1 0)) (pick (ltb (s - entrySize - lineSize) entrySize) 1 0) ≡ pick b 1 0
+    go true p true q = rw (le-ltb (pageSize - entrySize * n - lineSize) entrySize (omega arith))
+    go true p false q = absurd (omega (arith, ltb-true (s - lineSize) entrySize p, ltb-false (s - lineSize) (entrySize * 2) q))
+    go false p true q =
+        let h = ltb-false (s - lineSize) entrySize p in
+        let k = ltb-true (s - lineSize) (entrySize * 2) q in
+        rw (lt-ltb (s - entrySize - lineSize) entrySize (omega arith))
+    go false p false q = let k = ltb-false (s - lineSize) (entrySize * 2) q in rw (le-ltb (s - entrySize - lineSize) entrySize (omega arith))

@@ -1,0 +1,99 @@
+-- Writes to the pages of a state, and what every run of them keeps: the length, page 0, the bytes of pages that were not free from their
+-- content start on, and that pages are taken from the front of the free ones.
+-- Assumes nothing.
+use Prim.Native.Nat.{ℕ, _+_, _*_, _≤_}
+use mathlib.Core.Path.{_≡_, refl, sym, ap, _∙_, subst}
+use mathlib.Core.Logic.{_⊎_, inl, inr}
+use mathlib.Core.Bool.{Bool, true, false}
+use mathlib.Core.List.{List, [], _∷_, _++_, append-assoc}
+use native.Mathlib.Omega.{arith}
+use lib.ListN.{length}
+use lib.Dec.{eqb}
+use borrow.Author.Tests.{eqb-true, eqb-false}
+use Rattle.page.specs.Layout.{pageSize}
+use Rattle.page.specs.Operations.{pageOf, putPage}
+use Rattle.page.proofs.Images.{length-pageOf, put-length, put-same, put-other}
+use Rattle.tree.specs.State.{State, withPage, withRoot}
+use Rattle.tree.proofs.Counts.{count, inside, count-append, inside-range}
+use Rattle.tree.proofs.Pages.{Old, old-refl, old-trans}
+
+-- ---- one page written over
+
+module _ (n : ℕ) (img : List ℕ) (long : length img ≡ pageSize * n) (y : ℕ) (page : 1 ≤ inside n y) where
+  fits : pageSize * y + pageSize ≤ length img
+  fits = omega (arith, inside-range n y page)
+
+  pub page-length : length (pageOf img y) ≡ pageSize
+  page-length = length-pageOf img y fits
+
+  module _ (g : List ℕ) (whole : length g ≡ pageSize) where
+    pub write-length : length (putPage img y g) ≡ length img
+    write-length = put-length img g y whole fits
+
+    pub write-here : pageOf (putPage img y g) y ≡ g
+    write-here = put-same img g y whole fits
+
+    pub write-other : (x : ℕ) → (x ≡ y → ⊥) → pageOf (putPage img y g) x ≡ pageOf img x
+    write-other x ne = put-other img g y whole fits x (λ e. ne (sym e))
+
+-- ---- what a run of writes keeps, where new pages are some of F
+
+pub record Leads (F : List ℕ) (s t : State) : Type 0 where
+  pub long : length (t .image) ≡ length (s .image)
+  pub zero : pageOf (t .image) 0 ≡ pageOf (s .image) 0
+  pub old : (x : ℕ) → count x F ≡ 0 → Old (pageOf (s .image) x) (pageOf (t .image) x)
+  pub root : (1 ≤ count (t .root) F) ⊎ (t .root ≡ s .root)
+  pub took : List ℕ
+  pub order : s .free ≡ took ++ t .free
+
+module _ (F : List ℕ) where
+  pub leads-refl : (s : State) → Leads F s s
+  leads-refl s = record { long = refl; zero = refl; old = λ x h. old-refl (pageOf (s .image) x); root = inr refl; took = []; order = refl }
+
+  pub leads-trans : (s t u : State) → Leads F s t → Leads F t u → Leads F s u
+  leads-trans s t u h k =
+      record {
+        long = k .long ∙ h .long;
+        zero = k .zero ∙ h .zero;
+        old = λ x c. old-trans (pageOf (s .image) x) (pageOf (t .image) x) (pageOf (u .image) x) (h .old x c) (k .old x c);
+        root = roots (h .root) (k .root);
+        took = h .took ++ k .took;
+        order = h .order ∙ ap (λ (l : List ℕ). h .took ++ l) (k .order) ∙ sym (append-assoc (h .took) (k .took) (u .free));
+      }
+    where
+      roots : (1 ≤ count (t .root) F) ⊎ (t .root ≡ s .root) → (1 ≤ count (u .root) F) ⊎ (u .root ≡ t .root) → (1 ≤ count (u .root) F) ⊎ (u .root ≡ s .root)
+      roots a (inl c) = inl c
+      roots (inl a) (inr c) = inl (subst (λ (x : ℕ). 1 ≤ count x F) (sym c) a)
+      roots (inr a) (inr c) = inr (c ∙ a)
+
+  pub leads-take : (s : State) (p : ℕ) (f : List ℕ) → s .free ≡ p ∷ f → Leads F s (record { image = s .image; root = s .root; free = f })
+  leads-take s p f e = record { long = refl; zero = refl; old = λ x h. old-refl (pageOf (s .image) x); root = inr refl; took = p ∷ []; order = e }
+
+  pub leads-root : (s : State) (p : ℕ) → 1 ≤ count p F → Leads F s (withRoot p s)
+  leads-root s p h = record { long = refl; zero = refl; old = λ x h. old-refl (pageOf (s .image) x); root = inl h; took = []; order = refl }
+
+  -- a page written over: one of F, or one that is edited in place
+  pub leads-write : (n : ℕ) (s : State) → length (s .image) ≡ pageSize * n → (y : ℕ) → 1 ≤ inside n y → (g : List ℕ) → length g ≡ pageSize →
+      (count y F ≡ 0 → Old (pageOf (s .image) y) g) → Leads F s (withPage y g s)
+  leads-write n s long y page g whole kept =
+      record {
+        long = write-length n (s .image) long y page g whole;
+        zero = write-other n (s .image) long y page g whole 0 (λ e. omega (arith, inside-range n y page));
+        old = λ x h. go x h (eqb x y) refl;
+        root = inr refl;
+        took = [];
+        order = refl;
+      }
+    where
+      go : (x : ℕ) → count x F ≡ 0 → (b : Bool) → eqb x y ≡ b → Old (pageOf (s .image) x) (pageOf (putPage (s .image) y g) x)
+      go x h true e =
+          let z : x ≡ y = eqb-true x y e in
+          let k : Old (pageOf (s .image) y) (pageOf (putPage (s .image) y g) y) =
+          subst (Old (pageOf (s .image) y)) (sym (write-here n (s .image) long y page g whole)) (kept (ap (λ (k : ℕ). count k F) (sym z) ∙ h)) in
+          subst (λ (k : ℕ). Old (pageOf (s .image) k) (pageOf (putPage (s .image) y g) k)) (sym z) k
+      go x h false e =
+          subst (Old (pageOf (s .image) x)) (sym (write-other n (s .image) long y page g whole x (eqb-false x y e))) (old-refl (pageOf (s .image) x))
+
+-- pages are only taken
+pub leads-free : (F : List ℕ) (s t : State) → Leads F s t → (x : ℕ) → count x (t .free) ≤ count x (s .free)
+leads-free F s t h x = omega (arith, ap (count x) (h .order), count-append x (h .took) (t .free))

@@ -1,0 +1,174 @@
+-- A step is refused by its ground or makes a state with a property: one rule for taking a page, one for the index's new record.
+-- Assumes nothing.
+use Prim.Native.Nat.{ℕ, suc, _+_, _-_, _*_, _≤_, _<_}
+use mathlib.Core.Path.{_≡_, refl, sym, ap, _∙_, subst}
+use mathlib.Core.Logic.{_⊎_, inl, inr}
+use mathlib.Core.Bool.{Bool, true, false, _&&_, or-false}
+use mathlib.Core.List.{List, [], _∷_}
+use native.Mathlib.Omega.{arith}
+use lib.ListN.{length}
+use lib.Dec.{ltb, leb, leb·suc-suc}
+use borrow.Author.Tests.{lt-ltb, ltb-false, lt-leb}
+use Rattle.codec.specs.Lists.{pick, All}
+use Rattle.page.specs.Layout.{pageSize, lineSize, slotCount, indexKind, Rec, size, readHead}
+use Rattle.page.specs.Page.{records, RecOk}
+use Rattle.page.specs.Operations.{made, sizes, fill, pageOf}
+use Rattle.page.proofs.Made.{All-made}
+use Rattle.image.proofs.Soundness.{records-ok}
+use Rattle.edit.proofs.General.{by-tests}
+use Rattle.tree.specs.State.{State, Step, done, refused, withPage, withRoot, takePage, taken, filled}
+use Rattle.tree.specs.Edits.{isFull, inPlace, indexed}
+use Rattle.tree.specs.Grounds.{entrySize}
+use Rattle.tree.proofs.Counts.{hit, count, inside, hit-self, hit-apart, inside-range}
+use Rattle.tree.proofs.Sizes.{IsEntry, Entries, size-entry, sizes-entries}
+use Rattle.tree.proofs.Pages.{Shows, shows-as, laid-length, laid-start, Lower, lower-trans, place-shows, place-lower, place-old, fill-shows}
+use Rattle.tree.proofs.States.{page-length, write-here, write-other, Leads, leads-trans, leads-take, leads-root, leads-write}
+
+-- ---- refused by g, or g is 0 and the state has P
+
+abbrev pub Ends : (State → Type 0) → ℕ → Step → Type 0
+Ends P g (done st) = (g ≡ 0) × P st
+Ends P g (refused k) = g ≡ k
+
+-- 11 where fewer than n pages are free
+abbrev pub short : ℕ → List ℕ → ℕ
+short n f = pick (ltb (length f) n) 11 0
+
+module _ (P : State → Type 0) where
+  -- a page is taken, and n more are needed
+  pub taken-ends : (st : State) (n m : ℕ) (k : ℕ → State → Step) → m ≡ suc n →
+      ((p : ℕ) (f : List ℕ) → st .free ≡ p ∷ f → Ends P (short n f) (k p (record { image = st .image; root = st .root; free = f }))) → Ends P (short m (st .free)) (taken st k)
+  unfolding taken takePage
+  taken-ends st n m k e h = rw e (go (st .free) refl)
+    where
+      go : (f : List ℕ) → st .free ≡ f → Ends P (short (suc n) f) (takePage f st k)
+      go [] z = rw (lt-ltb 0 (suc n) (omega arith))
+      go (p ∷ f) z = subst (λ (b : Bool). Ends P (pick b 11 0) (k p (record { image = st .image; root = st .root; free = f }))) (sym (leb·suc-suc (suc (length f)) n)) (h p f z)
+
+-- ---- a page of F filled anew
+
+-- t is s with page q filled
+pub record Filled (F : List ℕ) (s t : State) (kind q : ℕ) (rs : List Rec) : Type 0 where
+  pub shows : Shows (pageOf (t .image) q) kind q (pageSize - sizes rs) rs
+  pub other : (x : ℕ) → (x ≡ q → ⊥) → pageOf (t .image) x ≡ pageOf (s .image) x
+  pub leads : Leads F s t
+
+pub filled-facts : (n : ℕ) → n ≤ 64 → (F : List ℕ) (st : State) → length (st .image) ≡ pageSize * n → (q : ℕ) → 1 ≤ inside n q → 1 ≤ count q F → (kind : ℕ) → kind < 256 → (rs : List Rec) →
+    All RecOk rs → lineSize + sizes rs ≤ pageSize → length rs ≤ slotCount → Filled F st (filled kind q rs st) kind q rs
+unfolding filled
+filled-facts n few F st long q page new kind small rs good room slots =
+    let g = fill (pageOf (st .image) q) kind q rs in
+    let shown : Shows g kind q (pageSize - sizes rs) rs =
+    fill-shows (pageOf (st .image) q) kind q rs (page-length n (st .image) long q page) small (omega (arith, inside-range n q page)) good room slots in
+    let whole = laid-length g (shown .laid) in
+    record {
+      shows = subst (λ (p : List ℕ). Shows p kind q (pageSize - sizes rs) rs) (sym (write-here n (st .image) long q page g whole)) shown;
+      other = write-other n (st .image) long q page g whole;
+      leads = leads-write F n st long q page g whole (λ h. absurd (omega arith));
+    }
+
+-- ---- the index gets a record
+
+-- t is s with an index of content start i and records cs: in its page, or in a new one; other pages are as they were
+pub record Reindexed (F : List ℕ) (s t : State) (i : ℕ) (cs : List Rec) : Type 0 where
+  pub index : Shows (pageOf (t .image) (t .root)) indexKind (t .root) i cs
+  pub other : (x : ℕ) → hit x (s .root) + count x (s .free) ≡ 0 → pageOf (t .image) x ≡ pageOf (s .image) x
+  pub pages : (x : ℕ) → hit x (t .root) + count x (t .free) ≤ hit x (s .root) + count x (s .free)
+  pub leads : Leads F s t
+  pub touch : (1 ≤ count (t .root) F) ⊎ ((t .root ≡ s .root) × Lower (pageOf (s .image) (s .root)) (pageOf (t .image) (s .root)))
+
+pub reindexed-trans : (F : List ℕ) (s t u : State) (i j : ℕ) (cs ds : List Rec) → Reindexed F s t i cs → Reindexed F t u j ds → Reindexed F s u j ds
+reindexed-trans F s t u i j cs ds R S =
+    record {
+      index = S .index;
+      other = λ x h. S .other x (omega (arith, R .pages x)) ∙ R .other x h;
+      pages = λ x. omega (arith, R .pages x, S .pages x);
+      leads = leads-trans F s t u (R .leads) (S .leads);
+      touch = go (R .touch) (S .touch);
+    }
+  where
+    go : (1 ≤ count (t .root) F) ⊎ ((t .root ≡ s .root) × Lower (pageOf (s .image) (s .root)) (pageOf (t .image) (s .root))) →
+        (1 ≤ count (u .root) F) ⊎ ((u .root ≡ t .root) × Lower (pageOf (t .image) (t .root)) (pageOf (u .image) (t .root))) →
+        (1 ≤ count (u .root) F) ⊎ ((u .root ≡ s .root) × Lower (pageOf (s .image) (s .root)) (pageOf (u .image) (s .root)))
+    go a (inl b) = inl b
+    go (inl a) (inr b) = inl (subst (λ (x : ℕ). 1 ≤ count x F) (sym (b .0)) a)
+    go (inr a) (inr b) =
+        inr (
+          b .0 ∙ a .0,
+          lower-trans (pageOf (s .image) (s .root)) (pageOf (t .image) (s .root)) (pageOf (u .image) (s .root)) (a .1)
+              (subst (λ (x : ℕ). Lower (pageOf (t .image) x) (pageOf (u .image) x)) (a .0) (b .1)),
+        )
+
+module _ (n : ℕ) (few : n ≤ 64) (F : List ℕ) (st : State) (long : length (st .image) ≡ pageSize * n) (s : ℕ) (cs : List Rec)
+    (I : Shows (pageOf (st .image) (st .root)) indexKind (st .root) s cs) (E : Entries cs) (apart : (x : ℕ) → hit x (st .root) + count x (st .free) ≤ inside n x)
+    (sub : (x : ℕ) → count x (st .free) ≤ count x F) (ins : Bool) (i : ℕ) (x : Rec) (entry : IsEntry x) (ok : RecOk x)
+    (ds : List Rec) (is : made ins i x cs ≡ ds) (more : ins ≡ true → length cs < slotCount) (fits : length ds ≤ slotCount) where
+  abbrev p : List ℕ
+  p = pageOf (st .image) (st .root)
+
+  root-in : 1 ≤ inside n (st .root)
+  root-in = omega (arith, apart (st .root), hit-self (st .root))
+
+  full : isFull ins (size x) p ≡ ltb (s - lineSize) entrySize
+  unfolding isFull
+  full = rw (I .start, I .recs, size-entry x entry, none ins more) (or-false (ltb (s - lineSize) entrySize))
+    where
+      none : (b : Bool) → (b ≡ true → length cs < slotCount) → (b && leb slotCount (length cs)) ≡ false
+      none true h = lt-leb slotCount (length cs) (h refl)
+      none false h = refl
+
+  -- in a new page
+  copy : (q : ℕ) (f : List ℕ) → st .free ≡ q ∷ f →
+      Reindexed F st (withRoot q (filled indexKind q (made ins i x (records p)) (record { image = st .image; root = st .root; free = f }))) (pageSize - entrySize * length ds) ds
+  unfolding filled
+  copy q f e =
+      let u : State = record { image = st .image; root = st .root; free = f } in
+      let rs = made ins i x (records p) in
+      let same : rs ≡ ds = ap (made ins i x) (I .recs) ∙ is in
+      let total : sizes rs ≡ entrySize * length ds = ap sizes same ∙ sizes-entries ds (subst Entries is (All-made IsEntry ins i x cs entry E)) in
+      let here : count q (st .free) ≡ 1 + count q f = ap (count q) e ∙ omega (arith, hit-self q) in
+      let new : 1 ≤ count q F = omega (arith, sub q) in
+      let v = filled indexKind q rs u in
+      let A : Filled F u v indexKind q rs =
+      filled-facts n few F u long q (omega (arith, apart q)) new indexKind (omega arith) rs (All-made RecOk ins i x (records p) ok (records-ok p (I .laid)))
+      (omega arith) (omega (arith, ap length same)) in
+      record {
+        index = shows-as (A .shows) (ap (λ (k : ℕ). pageSize - k) total) same;
+        other = λ y h. A .other y (λ z. omega (arith, ap (λ (k : ℕ). count k (st .free)) z));
+        pages = λ y. omega (arith, ap (count y) e);
+        leads = leads-trans F st u (withRoot q v) (leads-take F st q f e) (leads-trans F u v (withRoot q v) (A .leads) (leads-root F v q new));
+        touch = inl new;
+      }
+
+  -- in place
+  place : ltb (s - lineSize) entrySize ≡ false → Reindexed F st (withPage (st .root) (inPlace ins i x p) st) (s - entrySize) ds
+  place e =
+      let g = inPlace ins i x p in
+      let bytes : size x ≡ entrySize = size-entry x entry in
+      let room : lineSize + size x ≤ readHead p .start = omega (arith, I .start, laid-start p (I .laid), ltb-false (s - lineSize) entrySize e) in
+      let slots : ins ≡ true → length (records p) < slotCount = λ z. rw (I .recs) (more z) in
+      let shown = place-shows p (I .laid) i x ok room ins slots in
+      let whole : length g ≡ pageSize = laid-length g (shown .laid) in
+      let here = write-here n (st .image) long (st .root) root-in g whole in
+      record {
+        index =
+            subst (λ (y : List ℕ). Shows y indexKind (st .root) (s - entrySize) ds) (sym here) (record {
+              laid = shown .laid;
+              kind = shown .kind ∙ I .kind;
+              own = shown .own ∙ I .own;
+              start = shown .start ∙ rw (I .start, bytes);
+              recs = shown .recs ∙ ap (made ins i x) (I .recs) ∙ is;
+            });
+        other = λ y h. write-other n (st .image) long (st .root) root-in g whole y (hit-apart y (st .root) (omega arith));
+        pages = λ y. omega arith;
+        leads = leads-write F n st long (st .root) root-in g whole (λ h. place-old p (I .laid) i x ok room ins slots);
+        touch = inr (refl, subst (Lower p) (sym here) (place-lower p (I .laid) i x ok room ins slots));
+      }
+
+  pub indexed-ends : (P : State → Type 0) (need : ℕ → ℕ) (k : State → Step) → ((t : State) (j : ℕ) → Reindexed F st t j ds → Ends P (short (need j) (t .free)) (k t)) →
+      Ends P (short (pick (ltb (s - lineSize) entrySize) (suc (need (pageSize - entrySize * length ds))) (need (s - entrySize))) (st .free)) (indexed ins i x st k)
+  unfolding indexed filled
+  indexed-ends P need k h =
+      rw full
+      (by-tests (λ (d : ℕ) (x : Step). Ends P (short d (st .free)) x) (ltb (s - lineSize) entrySize)
+      (λ e. taken-ends P st (need (pageSize - entrySize * length ds)) _ _ refl (λ q f z. h _ _ (copy q f z))) (λ e. h _ _ (place e)))

@@ -1,0 +1,86 @@
+-- Why an edit is refused, in plain terms: by the table as it then is, the records of the leaf, the number of index records, and the number of
+-- free pages (document 01, 'Each call and when it says no': "8 insert of a key present; 9 other edit of a missing key; 10 a 29th index
+-- record; 11 too few new pages").
+-- Assumes nothing.
+use Prim.Native.Nat.{ℕ, _+_, _-_, _*_}
+use mathlib.Core.Path.{_≡_}
+use mathlib.Core.Bool.{Bool, true, false, _&&_}
+use mathlib.Core.List.{List, [], _∷_, _++_}
+use mathlib.Core.Option.{Option, none, some}
+use lib.ListN.{length, getD}
+use lib.Dec.{leb, ltb}
+use Rattle.codec.specs.Lists.{pick}
+use Rattle.device.specs.Calls.{keyPresent, keyMissing, indexFull, pagesOut}
+use Rattle.page.specs.Layout.{pageSize, lineSize, slotCount, Rec, recOf, size, readHead}
+use Rattle.page.specs.Page.{records}
+use Rattle.page.specs.Operations.{sizes, pageOf}
+use Rattle.image.specs.Image.{children, childOf}
+use Rattle.image.specs.Table.{leafRecords, table, find}
+use Rattle.image.specs.Route.{route}
+use Rattle.edit.specs.EditList.{Edit, insert, update, delete}
+use Rattle.edit.specs.Ledger.{add, replace, applyEdits}
+use Rattle.tree.specs.State.{State, begin}
+use Rattle.tree.specs.Edits.{isFull}
+use Rattle.tree.specs.Whole.{finished, editsFrom}
+
+-- the table of a state
+unfoldable pub tableOf : State → List Rec
+tableOf st = leafRecords (st .image) (children (st .image) (st .root))
+
+abbrev pub isSome : Option (List ℕ) → Bool
+isSome none = false
+isSome (some v) = true
+
+-- whether a table holds a key
+unfoldable pub holds : ℕ → List Rec → Bool
+holds k t = isSome (find k t)
+
+-- the leaf that a key belongs to
+unfoldable pub leafOf : State → ℕ → List ℕ
+leafOf st k =
+    let cs = children (st .image) (st .root) in
+    pageOf (st .image) (childOf (getD cs (route k cs) (recOf 0 [])))
+
+-- the size of an index record
+abbrev pub entrySize : ℕ
+entrySize = 24
+
+-- the new pages of an edit whose leaf needs n of them: one more where n index records have no room below the index's start
+unfoldable pub pagesFor : State → ℕ → ℕ
+pagesFor st n = n + pick (ltb (readHead (pageOf (st .image) (st .root)) .start - lineSize) (entrySize * n)) 1 0
+
+unfoldable pub tooFew : State → ℕ → ℕ
+tooFew st n = pick (ltb (length (st .free)) (pagesFor st n)) pagesOut 0
+
+-- a record of size s goes into the leaf p, whose records are then rs: in place, or else to one new page or two
+unfoldable pub room : State → Bool → ℕ → List ℕ → List Rec → ℕ
+room st ins s p rs =
+    pick (isFull ins s p)
+    (pick (leb (length rs) slotCount && leb (sizes rs) (pageSize - lineSize)) (tooFew st 1)
+    (pick (leb slotCount (length (children (st .image) (st .root)))) indexFull (tooFew st 2)))
+    0
+
+-- the number that refuses the edit, or 0
+unfoldable pub ground : State → Edit → ℕ
+ground st (insert k v) =
+    let p = leafOf st k in
+    pick (holds k (tableOf st)) keyPresent (room st true (size (recOf k v)) p (add k v (records p)))
+ground st (update k v) =
+    let p = leafOf st k in
+    pick (holds k (tableOf st)) (room st false (size (recOf k v)) p (replace k v (records p))) keyMissing
+ground st (delete k) = pick (holds k (tableOf st)) 0 keyMissing
+
+-- the list es on the image a is refused with k at edit i: those before it are made, and k is what the grounds say
+pub record Grounds (a : List ℕ) (es : List Edit) (k i : ℕ) : Type 0 where
+  pub before : List Edit
+  pub culprit : Edit
+  pub rest : List Edit
+  pub shape : es ≡ before ++ culprit ∷ rest
+  pub number : i ≡ length before
+  pub state : State
+  pub reached : editsFrom 0 before (begin a) ≡ finished state
+  pub holding : tableOf state ≡ applyEdits before (table a)
+  -- the free pages are the first ones, less those taken, which stood in front
+  pub taken : List ℕ
+  pub free : begin a .free ≡ taken ++ state .free
+  pub because : k ≡ ground state culprit

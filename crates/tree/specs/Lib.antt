@@ -1,0 +1,4 @@
+pub mod State
+pub mod Edits
+pub mod Whole
+pub mod Grounds

@@ -1,0 +1,4 @@
+pub mod Open
+pub mod Short
+pub mod Updates
+pub mod Claim

@@ -1,0 +1,111 @@
+-- A row of 'Worked on paper': transactions from a fresh store of 8 pages, one more, and what is read off its answer.
+-- Assumes nothing.
+use Prim.Native.Nat.{ℕ, _/_}
+use mathlib.Core.Path.{_≡_}
+use mathlib.Core.List.{List, [], _∷_, _++_}
+use lib.ListN.{length, getD, take, replicate}
+use lib.Dec.{eqb}
+use Rattle.codec.specs.Lists.{pick}
+use Rattle.device.specs.Tape.{Op, store, flush, malformed, decode}
+use Rattle.page.specs.Layout.{readHead}
+use Rattle.page.specs.Operations.{pageOf}
+use Rattle.image.specs.PageZero.{rootOf}
+use Rattle.image.specs.Image.{reached, among}
+use Rattle.image.specs.Table.{table}
+use Rattle.image.specs.Fresh.{fresh}
+use Rattle.edit.specs.EditList.{Edit, editBytes}
+use Rattle.transaction.specs.Calls.{Result, transactionCall}
+use Rattle.journal.specs.declared.Commit.{Commit}
+use Rattle.transaction.specs.declared.Transacted.{Transacted}
+use Rattle.transaction.specs.declared.Transacted.the-variants.{Accepted, Refused}
+
+-- the bytes of an edit list
+unfoldable pub listBytes : List Edit → List ℕ
+listBytes [] = []
+listBytes (e ∷ es) = editBytes e ++ listBytes es
+
+-- the tape lent: longer than any of these rows needs
+unfoldable pub lentTape : List ℕ
+lentTape = replicate 4096 0
+
+-- a transaction of these edits on the image a, which is lent for work too
+unfoldable pub transacted : List ℕ → List Edit → Result
+transacted a es = transactionCall a a lentTape (listBytes es)
+
+-- the image that accepted transactions leave, one after the other
+unfoldable pub after : List (List Edit) → List ℕ → List ℕ
+after [] a = a
+after (es ∷ ts) a = after ts (transacted a es .work)
+
+-- what is read off an answer
+pub data Probe : Type 0 where
+  refusal : Probe
+  editNumber : Probe
+  bytes : Probe
+  flushes : Probe
+  -- each command on the tape: its kind and its place
+  commands : Probe
+  -- of a page: its content start, its count, the offset in a slot, and whether it is reached (1 or 0)
+  start : ℕ → Probe
+  count : ℕ → Probe
+  slot : ℕ → ℕ → Probe
+  isReached : ℕ → Probe
+  -- the number of records in the table
+  records : Probe
+
+unfoldable pub refusalIn : Transacted → ℕ
+refusalIn (Accepted c) = 0
+refusalIn (Refused r) = r .number
+
+unfoldable pub editNumberIn : Transacted → ℕ
+editNumberIn (Accepted c) = 0
+editNumberIn (Refused r) = r .edit
+
+unfoldable pub bytesIn : Transacted → ℕ
+bytesIn (Accepted c) = c .bytes
+bytesIn (Refused r) = 0
+
+unfoldable pub flushesIn : Transacted → ℕ
+flushesIn (Accepted c) = c .flushes
+flushesIn (Refused r) = 0
+
+-- kind 1 and a word, kind 2 and a line, or kind 3 and a line
+unfoldable pub kindAndPlace : Op → List ℕ
+kindAndPlace (store p vs) = pick (eqb (length vs) 8) (1 ∷ p / 8 ∷ []) (2 ∷ p / 64 ∷ [])
+kindAndPlace (flush l) = 3 ∷ l ∷ []
+kindAndPlace malformed = []
+
+unfoldable pub kindsAndPlaces : List Op → List ℕ
+kindsAndPlaces [] = []
+kindsAndPlaces (o ∷ cs) = kindAndPlace o ++ kindsAndPlaces cs
+
+unfoldable pub readOff : Result → Probe → List ℕ
+readOff r refusal = refusalIn (r .answer) ∷ []
+readOff r editNumber = editNumberIn (r .answer) ∷ []
+readOff r bytes = bytesIn (r .answer) ∷ []
+readOff r flushes = flushesIn (r .answer) ∷ []
+readOff r commands = kindsAndPlaces (decode (length (r .work)) (take (bytesIn (r .answer)) (r .tape)))
+readOff r (start p) = readHead (pageOf (r .work) p) .start ∷ []
+readOff r (count p) = length (readHead (pageOf (r .work) p) .slots) ∷ []
+readOff r (slot p j) = getD (readHead (pageOf (r .work) p) .slots) j 0 ∷ []
+readOff r (isReached p) = pick (among p (reached (r .work) (rootOf (r .work)))) 1 0 ∷ []
+readOff r records = length (table (r .work)) ∷ []
+
+unfoldable pub readAll : Result → List Probe → List ℕ
+readAll r [] = []
+readAll r (p ∷ ps) = readOff r p ++ readAll r ps
+
+pub record Row : Type 0 where
+  -- accepted transactions before it
+  pub setup : List (List Edit)
+  pub edits : List Edit
+  pub asks : List Probe
+  -- the paper's numbers
+  pub says : List ℕ
+
+unfoldable pub found : Row → List ℕ
+found r = readAll (transacted (after (r .setup) (fresh 8)) (r .edits)) (r .asks)
+
+-- the row's claim: what is read is what the paper says
+abbrev pub Holds : Row → Type 0
+Holds r = found r ≡ r .says

@@ -1,0 +1,1 @@
+// The rows of 'Worked on paper' that document 01 marks with *: a table in specs/, and one claim that covers it in proofs/.

@@ -1,0 +1,50 @@
+//! Document 01, 'The plain ledger'.
+
+use crate::edits::{parse, Kind};
+use crate::image::table;
+use std::collections::BTreeMap;
+
+/// The tables at each count, from 0 on.
+pub struct Ledger {
+    tables: Vec<BTreeMap<u64, Vec<u8>>>,
+}
+
+impl Ledger {
+    /// "The ledger starts with the first image's table and count 0."
+    pub fn new(image: &[u8]) -> Ledger {
+        let first = table(image).expect("the first image is sound");
+        Ledger {
+            tables: vec![first.into_iter().collect()],
+        }
+    }
+
+    /// "It is fed each transaction's edit list and whether it was accepted."
+    pub fn feed(&mut self, list: &[u8], accepted: bool) {
+        // "Refused: no change."
+        if !accepted {
+            return;
+        }
+        let mut table = self.tables[self.count()].clone();
+        for edit in parse(list).expect("an accepted list is well formed") {
+            // "Insert adds key and value, update replaces the value and
+            // delete drops both."
+            match edit.kind {
+                Kind::Insert | Kind::Update => table.insert(edit.key, edit.value),
+                Kind::Delete => table.remove(&edit.key),
+            };
+        }
+        // "Then the count rises by 1."
+        self.tables.push(table);
+    }
+
+    pub fn count(&self) -> usize {
+        self.tables.len() - 1
+    }
+
+    /// "That a recovered store holds j transactions means that it is sound and
+    /// its table is the ledger's at count j."
+    pub fn holds(&self, image: &[u8], count: usize) -> bool {
+        let wanted = self.tables[count].clone().into_iter().collect();
+        table(image) == Some(wanted)
+    }
+}

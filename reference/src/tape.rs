@@ -1,0 +1,196 @@
+//! Document 01, 'The transaction's tape': the commands that lead from one
+//! image to the next, for a transaction and for recovery.
+
+use crate::device::{Command, LINE, PAGE, WORD};
+use crate::image::{reached, Mark};
+use crate::transaction::Fault;
+use crate::{refuse, Refusal};
+use std::collections::BTreeSet;
+
+/// "The answer names the commit place: a header, the root word or the log."
+#[derive(Clone, Copy, Debug, PartialEq, Eq)]
+pub enum CommitPlace {
+    Header { page: usize },
+    Root,
+    Log,
+}
+
+const LINES_IN_PAGE: usize = PAGE / LINE;
+const WORDS_IN_LINE: usize = LINE / WORD;
+
+fn word_store(word: usize, bytes: &[u8]) -> Command {
+    Command::WordStore {
+        word,
+        bytes: bytes.try_into().expect("a word has 8 bytes"),
+    }
+}
+
+fn line_store(line: usize, bytes: &[u8]) -> Command {
+    Command::LineStore {
+        line,
+        bytes: bytes.try_into().expect("a line has 64 bytes"),
+    }
+}
+
+/// A page's header line.
+pub fn header_bytes(image: &[u8], page: usize) -> &[u8] {
+    &image[page * PAGE..][..LINE]
+}
+
+/// The store of a page's header line.
+pub fn header_store(page: usize, bytes: &[u8]) -> Command {
+    line_store(page * LINES_IN_PAGE, bytes)
+}
+
+pub fn header_flush(page: usize) -> Command {
+    Command::Flush {
+        line: page * LINES_IN_PAGE,
+    }
+}
+
+pub fn root_store(image: &[u8]) -> Command {
+    word_store(1, &image[8..16])
+}
+
+pub fn mark_store(mark: Option<Mark>) -> Command {
+    word_store(0, &mark.map_or([0; WORD], |mark| mark.encode()))
+}
+
+/// The transaction's tape, and its commit place; refusal 12 if there are "more
+/// than 15 changed headers where the log is needed".
+pub fn commands(
+    before: &[u8],
+    after: &[u8],
+    fault: Fault,
+) -> Result<(Vec<Command>, CommitPlace), Refusal> {
+    let (mut tape, flushes) = stage_a(before, after);
+    let headers = changed_headers(before, after);
+    let root = before[8..16] != after[8..16];
+    let late = fault == Fault::RecordsFlushedLate;
+    if !late {
+        tape.extend(flushes.clone());
+    }
+    let place = match (headers.as_slice(), root) {
+        ([page], false) => {
+            tape.push(header_store(*page, header_bytes(after, *page)));
+            tape.push(header_flush(*page));
+            CommitPlace::Header { page: *page }
+        }
+        ([], true) => {
+            tape.push(root_store(after));
+            tape.push(header_flush(0));
+            CommitPlace::Root
+        }
+        // No place changes only if an update wrote over the old bytes.
+        ([], false) => CommitPlace::Root,
+        _ if headers.len() > 15 => return refuse(12),
+        _ => {
+            tape.extend(logged(before, after, &headers, fault));
+            CommitPlace::Log
+        }
+    };
+    if late {
+        tape.extend(flushes);
+    }
+    if fault == Fault::HeaderByWords {
+        tape = tape.into_iter().flat_map(by_words).collect();
+    }
+    Ok((tape, place))
+}
+
+/// "Stage A: a word store for each word that differs, outside page 0 and
+/// outside headers reached before, in rising order; then a flush of each line
+/// so stored, rising." Stores and flushes apart.
+fn stage_a(before: &[u8], after: &[u8]) -> (Vec<Command>, Vec<Command>) {
+    let reached_before = reached(before);
+    let mut stores = Vec::new();
+    let mut lines = BTreeSet::new();
+    for word in PAGE / WORD..before.len() / WORD {
+        let line = word / WORDS_IN_LINE;
+        let page = line / LINES_IN_PAGE;
+        let header = line.is_multiple_of(LINES_IN_PAGE);
+        let bytes = word * WORD..(word + 1) * WORD;
+        if before[bytes.clone()] == after[bytes.clone()] {
+            continue;
+        }
+        if header && reached_before.contains(&page) {
+            continue;
+        }
+        stores.push(word_store(word, &after[bytes]));
+        lines.insert(line);
+    }
+    let flushes = lines.into_iter().map(|line| Command::Flush { line });
+    (stores, flushes.collect())
+}
+
+/// "The changed places are headers of pages reached both before and after, and
+/// the root word": the headers, by rising page.
+fn changed_headers(before: &[u8], after: &[u8]) -> Vec<usize> {
+    let reached_after = reached(after);
+    let both = reached(before)
+        .into_iter()
+        .filter(|page| reached_after.contains(page));
+    both.filter(|&page| header_bytes(before, page) != header_bytes(after, page))
+        .collect()
+}
+
+/// "More: log lines 1 to k take the new headers by rising page, then their
+/// flushes; the mark; flush of line 0; header stores, rising; their flushes;
+/// the root word if it differs; mark 0; flush of line 0."
+fn logged(before: &[u8], after: &[u8], headers: &[usize], fault: Fault) -> Vec<Command> {
+    let k = headers.len();
+    let mut tape = Vec::new();
+    for (i, &page) in headers.iter().enumerate() {
+        tape.push(line_store(1 + i, header_bytes(after, page)));
+    }
+    tape.extend((1..=k).map(|line| Command::Flush { line }));
+    // "Bytes 2-3 = the new root page", also where the root stays.
+    let root = u64::from_le_bytes(after[8..16].try_into().unwrap()) as usize;
+    tape.push(mark_store(Some(Mark { headers: k, root })));
+    tape.push(header_flush(0));
+    for &page in headers {
+        tape.push(header_store(page, header_bytes(after, page)));
+    }
+    let flushes = headers.iter().map(|&page| header_flush(page));
+    if fault == Fault::MarkClearedEarly {
+        tape.extend(finish(before, after));
+        tape.extend(flushes);
+    } else {
+        tape.extend(flushes);
+        tape.extend(finish(before, after));
+    }
+    tape
+}
+
+/// "The root word if it differs; mark 0; flush of line 0."
+pub fn finish(before: &[u8], after: &[u8]) -> Vec<Command> {
+    let mut tape = Vec::new();
+    if before[8..16] != after[8..16] {
+        tape.push(root_store(after));
+    }
+    tape.push(mark_store(None));
+    tape.push(header_flush(0));
+    tape
+}
+
+/// "A header written as eight word stores."
+fn by_words(command: Command) -> Vec<Command> {
+    match command {
+        Command::LineStore { line, bytes } => (0..WORDS_IN_LINE)
+            .map(|i| word_store(line * WORDS_IN_LINE + i, &bytes[i * WORD..][..WORD]))
+            .collect(),
+        other => vec![other],
+    }
+}
+
+/// The tape's bytes.
+pub fn encode(commands: &[Command]) -> Vec<u8> {
+    commands.iter().flat_map(Command::encode).collect()
+}
+
+/// "The number of flushes in the answer is the number of flush commands on the
+/// tape."
+pub fn count_flushes(commands: &[Command]) -> usize {
+    let flushes = (commands.iter()).filter(|command| matches!(command, Command::Flush { .. }));
+    flushes.count()
+}

@@ -7,11 +7,15 @@ mod device;
 mod image;
 mod lean;
 mod measure;
+#[cfg(feature = "transaction")]
+mod transaction;
 
 fn main() {
     device::check();
     #[cfg(feature = "image")]
     image::check();
+    #[cfg(feature = "transaction")]
+    transaction::check();
     println!(
         "Times in nanoseconds a call: medians of {} repetitions,",
         measure::REPETITIONS
@@ -20,4 +24,6 @@ fn main() {
     device::measure();
     #[cfg(feature = "image")]
     image::measure();
+    #[cfg(feature = "transaction")]
+    transaction::measure();
 }

@@ -124,9 +124,12 @@ fn well_parted(leaves: &[Leaf]) -> bool {
     })
 }
 
+/// Keys and values, keys rising.
+pub type Table = Vec<(u64, Vec<u8>)>;
+
 /// "A sound image's table is the key and value of each record that its reached
 /// leaves list, keys rising."
-pub fn table(image: &[u8]) -> Option<Vec<(u64, Vec<u8>)>> {
+pub fn table(image: &[u8]) -> Option<Table> {
     let leaves = sound_leaves(image).ok()?;
     let records = leaves.into_iter().flat_map(|leaf| leaf.records);
     Some(records.map(|record| (record.key, record.value)).collect())

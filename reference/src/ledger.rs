@@ -1,7 +1,7 @@
 //! Document 01, 'The plain ledger'.
 
 use crate::edits::{parse, Kind};
-use crate::image::table;
+use crate::image::{table, Table};
 use std::collections::BTreeMap;
 
 /// The tables at each count, from 0 on.
@@ -42,9 +42,12 @@ impl Ledger {
     }
 
     /// "That a recovered store holds j transactions means that it is sound and
-    /// its table is the ledger's at count j."
-    pub fn holds(&self, image: &[u8], count: usize) -> bool {
-        let wanted = self.tables[count].clone().into_iter().collect();
-        table(image) == Some(wanted)
+    /// its table is the ledger's at count j." Its table is none if it is not
+    /// sound.
+    pub fn holds(&self, table: Option<&Table>, count: usize) -> bool {
+        table.is_some_and(|table| {
+            let entries = table.iter().map(|(key, value)| (key, value));
+            self.tables[count].iter().eq(entries)
+        })
     }
 }

@@ -5,6 +5,7 @@ pub mod device;
 pub mod edits;
 pub mod image;
 pub mod ledger;
+pub mod numbers;
 pub mod page;
 pub mod recovery;
 pub mod tape;

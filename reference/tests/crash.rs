@@ -1,30 +1,107 @@
-//! The reference's own crash test: random transactions, their tapes cut at
-//! every command, chains of cut recoveries, all held to the ledger. And each
-//! line of 'Shortcuts that break a curve', which the same test must catch.
+//! Random transactions, their tapes cut at every command, chains of cut
+//! recoveries, all held to the ledger. And each line of 'Shortcuts that break a
+//! curve', which the same test must catch.
+//!
+//! With the feature `transaction` the tapes and the cuts are the proved
+//! library's, else the reference's.
 
-use cases::images::{any_shape, build};
 use cases::lists::any_list;
 use cases::random::Random;
-use reference::device::{cut, decode, run, Command};
-use reference::image::{check, format, table};
+use cases::stores::any_store;
+use reference::device::{decode, run, Command};
+use reference::image::{table, Table};
 use reference::ledger::Ledger;
-use reference::recovery::recover;
-use reference::tape::{count_flushes, CommitPlace};
-use reference::transaction::{transaction_with, Accepted, Fault};
-use reference::Refusal;
+use reference::tape::count_flushes;
+use reference::transaction::Fault;
 use std::collections::BTreeMap;
 
 const SEED: u64 = 20_240_605;
-const STORES: usize = 60;
-const TRANSACTIONS: usize = 14;
+/// Cuts of transactions, besides those of recoveries.
+const CUTS: usize = 1_000_000;
+const TRANSACTIONS: usize = 16;
+
+/// At a point of a tape where a cut may keep pending stores in at most so many
+/// ways, all are tried, else so many of them: before the commit, from the
+/// commit on, and for a recovery.
+const EARLY: (usize, usize) = (8, 2);
+const LATE: (usize, usize) = (32, 16);
+const OF_RECOVERY: (usize, usize) = (16, 4);
+
+/// The calls under test, with the numbers of their answers.
+#[cfg(feature = "transaction")]
+mod calls {
+    use reference::numbers::of_transaction;
+    use reference::transaction::{transaction_with, Fault};
+
+    pub fn transaction(
+        fault: Fault,
+        image: &mut [u8],
+        work: &mut [u8],
+        tape: &mut [u8],
+        list: &mut [u8],
+    ) -> (u8, [u64; 5]) {
+        // There is no proved shortcut: these are the reference's.
+        if fault != Fault::None {
+            return of_transaction(&transaction_with(fault, image, work, tape, list));
+        }
+        let mut answer = [0; 5];
+        let number = proved::transaction(image, work, tape, list, &mut answer);
+        (number, answer)
+    }
+
+    pub fn recover(image: &mut [u8], work: &mut [u8], tape: &mut [u8]) -> (u8, [u64; 2]) {
+        let mut answer = [0; 2];
+        let number = proved::recover(image, work, tape, &mut answer);
+        (number, answer)
+    }
+
+    pub use proved::cut;
+}
+
+#[cfg(not(feature = "transaction"))]
+mod calls {
+    use reference::numbers::{of_recovery, of_transaction};
+    use reference::transaction::{transaction_with, Fault};
+    use reference::{device, recovery};
+
+    pub fn transaction(
+        fault: Fault,
+        image: &mut [u8],
+        work: &mut [u8],
+        tape: &mut [u8],
+        list: &mut [u8],
+    ) -> (u8, [u64; 5]) {
+        of_transaction(&transaction_with(fault, image, work, tape, list))
+    }
+
+    pub fn recover(image: &mut [u8], work: &mut [u8], tape: &mut [u8]) -> (u8, [u64; 2]) {
+        let (number, answer) = of_recovery(&recovery::recover(image, work, tape));
+        (number, answer.unwrap_or_default())
+    }
+
+    pub fn cut(
+        image: &mut [u8],
+        work: &mut [u8],
+        tape: &mut [u8],
+        c: usize,
+        choices: &mut [u8],
+    ) -> u8 {
+        let answer = device::cut(image, work, tape, c, choices);
+        answer.map_or_else(|refusal| refusal.number, |()| 0)
+    }
+}
 
 /// How often each thing happened.
 #[derive(Default)]
-struct Tally(BTreeMap<String, usize>);
+struct Tally {
+    times: BTreeMap<&'static str, usize>,
+    refused: [usize; 14],
+    cuts: usize,
+}
 
 impl Tally {
-    fn count(&mut self, what: impl Into<String>) {
-        *self.0.entry(what.into()).or_default() += 1;
+    fn count(&mut self, what: &'static str) {
+        *self.times.entry(what).or_default() += 1;
     }
 }
 
@@ -36,280 +113,396 @@ enum Phase {
     CommitFlushed,
 }
 
-/// All stores and transactions; an error says which promise was broken.
-fn survive(fault: Fault, tally: &mut Tally) -> Result<(), String> {
-    let mut random = Random::new(SEED);
-    for _ in 0..STORES {
-        let mut image = first_image(&mut random);
-        for _ in 0..TRANSACTIONS {
-            image = one_transaction(&mut random, fault, image, tally)?;
-        }
-    }
-    Ok(())
-}
-
-/// A fresh store, or a sound image of any shape; mostly small, some with an
-/// index that is nearly full.
-fn first_image(random: &mut Random) -> Vec<u8> {
-    if random.one_in(2) {
-        let mut image = vec![0; 1024 * random.between(8, 10)];
-        format(&mut image).unwrap();
-        return image;
-    }
-    let mut shape = any_shape(random);
-    if random.one_in(2) {
-        shape.pages = 64;
-        shape.leaves = random.pick(&[20, 27, 28, 28]);
-        shape.most = random.pick(&[14, 28, 28]);
-        shape.longest = 8;
-    } else {
-        shape.pages = random.between(8, 10);
-        shape.leaves = shape.leaves.min(shape.pages - 2);
-    }
-    build(random, shape).image
-}
-
-/// One transaction, with all its cuts; gives the image to go on with.
-fn one_transaction(
-    random: &mut Random,
+/// The test so far: a list of transactions on one store after another.
+struct Test {
+    random: Random,
+    tally: Tally,
     fault: Fault,
+}
+
+/// A tape to be cut, and the image it is for.
+struct Cuttable {
     image: Vec<u8>,
-    tally: &mut Tally,
-) -> Result<Vec<u8>, String> {
-    let keys: Vec<u64> = table(&image).unwrap().iter().map(|entry| entry.0).collect();
-    let list = any_list(random, &keys);
-    let old_work = random.bytes(image.len());
-    let old_tape = match random.below(12) {
-        0 => random.bytes(100),
-        _ => random.bytes(16_384),
-    };
-    let (mut work, mut tape) = (old_work.clone(), old_tape.clone());
-    let answer = transaction_with(fault, &image, &mut work, &mut tape, &list);
-    let mut ledger = Ledger::new(&image);
-    ledger.feed(&list, answer.is_ok());
-    let accepted = match answer {
-        Ok(accepted) => accepted,
-        Err(refusal) => {
-            tally.count(format!("transaction refused {:>2}", refusal.number));
-            let left = if refusal.number < 8 {
-                &old_work
-            } else {
-                &image
-            };
-            let stayed = work == *left && tape == old_tape;
-            return stayed
-                .then_some(image)
-                .ok_or("buffers after a refusal".to_string());
-        }
-    };
-    if tape[accepted.bytes..] != old_tape[accepted.bytes..] {
-        return Err("tape bytes past those used".to_string());
-    }
-    tape.truncate(accepted.bytes);
-    whole_tape(&image, &work, &tape, accepted, &ledger)?;
-    let crashed = all_cuts(random, &image, &tape, accepted, &ledger, tally)?;
-    Ok(if random.one_in(2) { work } else { crashed })
+    tape: Vec<u8>,
+    commands: Vec<Command>,
 }
 
-/// The accepted answer, its tape run to the end.
-fn whole_tape(
-    image: &[u8],
-    work: &[u8],
-    tape: &[u8],
-    accepted: Accepted,
-    ledger: &Ledger,
-) -> Result<(), String> {
-    let mut after = vec![0; image.len()];
-    run(image, &mut after, tape).map_err(|_| "tape malformed")?;
-    let commands = decode(tape, image.len()).unwrap();
-    if after != work {
-        return Err("work is not the image after the tape".to_string());
+impl Cuttable {
+    fn new(image: &[u8], tape: &[u8]) -> Cuttable {
+        Cuttable {
+            image: image.to_vec(),
+            tape: tape.to_vec(),
+            commands: decode(tape, image.len()).expect("the tape is well formed"),
+        }
     }
-    if !ledger.holds(work, ledger.count()) {
-        return Err("work does not hold the ledger's table".to_string());
+
+    fn cut(&mut self, c: usize, choices: &mut [u8]) -> Vec<u8> {
+        let mut work = vec![0; self.image.len()];
+        let number = calls::cut(&mut self.image, &mut work, &mut self.tape, c, choices);
+        assert_eq!(number, 0, "c is within the tape");
+        work
     }
-    if count_flushes(&commands) != accepted.flushes {
-        return Err("flush count".to_string());
-    }
-    Ok(())
 }
 
-/// Every cut of the tape, with several choices each, and recovery after it;
-/// gives one of the recovered images.
-fn all_cuts(
-    random: &mut Random,
-    image: &[u8],
-    tape: &[u8],
-    accepted: Accepted,
-    ledger: &Ledger,
-    tally: &mut Tally,
-) -> Result<Vec<u8>, String> {
-    let commands = decode(tape, image.len()).unwrap();
-    tally.count(format!("commit by {}", name(accepted.place)));
-    let mut going_on = image.to_vec();
-    for c in 0..=commands.len() {
-        let phase = phase(&commands[..c], accepted.place);
-        // On large images most of the many cuts before the commit are left
-        // out, to save time.
-        if image.len() > 16 * 1024 && phase == Phase::BeforeCommit && !random.one_in(16) {
-            continue;
-        }
-        for _ in 0..2 {
-            let crashed = any_cut(random, image, tape, c);
-            let recovered = recoveries(random, crashed, tally)?;
-            judge(&recovered, ledger, phase, tally)?;
-            if random.one_in(c + 1) {
-                going_on = recovered;
+/// The pending stores of each line that has some, as commands are done.
+#[derive(Default)]
+struct Pending(Vec<(usize, u8)>);
+
+impl Pending {
+    fn add(&mut self, command: &Command) {
+        let at = self.0.iter().position(|&(line, _)| line == command.line());
+        match (command, at) {
+            (Command::Flush { .. }, Some(at)) => {
+                self.0.swap_remove(at);
             }
+            (Command::Flush { .. }, None) => {}
+            (_, Some(at)) => self.0[at].1 += 1,
+            (_, None) => self.0.push((command.line(), 1)),
         }
     }
-    Ok(going_on)
-}
 
-fn name(place: CommitPlace) -> &'static str {
-    match place {
-        CommitPlace::Header { .. } => "a header",
-        CommitPlace::Root => "the root word",
-        CommitPlace::Log => "the log",
+    /// In how many ways a cut can keep "for each line on its own, some first
+    /// part of its pending stores".
+    fn ways(&self) -> usize {
+        let ways = |all: usize, &(_, stores): &(usize, u8)| all.saturating_mul(stores as usize + 1);
+        self.0.iter().fold(1, ways)
+    }
+
+    /// Sets the choices to one of the ways by its number.
+    fn choose(&self, mut way: usize, choices: &mut [u8]) {
+        for &(line, stores) in &self.0 {
+            choices[line] = (way % (stores as usize + 1)) as u8;
+            way /= stores as usize + 1;
+        }
+    }
+
+    /// Sets the choices to any way: mostly all stores ("or all if fewer"),
+    /// mostly none, or between.
+    fn choose_any(&self, random: &mut Random, choices: &mut [u8]) {
+        let manner = random.below(3);
+        for &(line, stores) in &self.0 {
+            let between = random.between(0, stores as usize) as u8;
+            choices[line] = match manner {
+                0 if !random.one_in(4) => 0,
+                1 if !random.one_in(4) => 255,
+                _ => between,
+            };
+        }
     }
 }
 
-/// "Whether a store is issued or flushed is judged by the commands before the
-/// cut." The commit store is the first store to its place's line.
-fn phase(done: &[Command], place: CommitPlace) -> Phase {
-    let line = match place {
-        CommitPlace::Header { page } => 16 * page,
-        CommitPlace::Root | CommitPlace::Log => 0,
-    };
-    let mut phase = Phase::BeforeCommit;
-    for command in done.iter().filter(|command| command.line() == line) {
-        phase = match (command, phase) {
+impl Phase {
+    /// "Whether a store is issued or flushed is judged by the commands before
+    /// the cut." The commit store is the first store to its place's line.
+    fn after(self, command: &Command, commit_line: usize) -> Phase {
+        if command.line() != commit_line {
+            return self;
+        }
+        match (command, self) {
             (Command::Flush { .. }, Phase::CommitPending) => Phase::CommitFlushed,
             (Command::Flush { .. }, same) => same,
             (_, Phase::BeforeCommit) => Phase::CommitPending,
             (_, same) => same,
-        };
+        }
     }
-    phase
 }
 
-/// Before the commit store the recovered store holds what it held, once that
-/// store is flushed what the ledger then holds, and between one of the two.
-fn judge(image: &[u8], ledger: &Ledger, phase: Phase, tally: &mut Tally) -> Result<(), String> {
-    let last = ledger.count();
-    let old = ledger.holds(image, last - 1);
-    let new = ledger.holds(image, last);
-    let good = match phase {
-        Phase::BeforeCommit => old,
-        Phase::CommitPending => old || new,
-        Phase::CommitFlushed => new,
-    };
-    if !good {
-        return Err(format!("{phase:?}: holds old {old}, holds new {new}"));
+impl Test {
+    fn new(fault: Fault) -> Test {
+        Test {
+            random: Random::new(SEED),
+            tally: Tally::default(),
+            fault,
+        }
     }
-    let held = if old == new {
-        "either"
-    } else if old {
-        "old"
-    } else {
-        "new"
-    };
-    tally.count(format!("cut, {phase:?}, holds {held}"));
-    Ok(())
-}
 
-fn any_cut(random: &mut Random, image: &[u8], tape: &[u8], c: usize) -> Vec<u8> {
-    let most = random.pick(&[0, 1, 1, 2, 4, 8, 8, 255]);
-    let choices: Vec<u8> = (0..image.len() / 64)
-        .map(|_| random.between(0, most) as u8)
-        .collect();
-    let mut work = vec![0; image.len()];
-    cut(image, &mut work, tape, c, &choices).expect("c is within the tape");
-    work
-}
+    /// Stores and transactions until there are cuts enough; an error says which
+    /// promise was broken.
+    fn survive(&mut self) -> Result<(), String> {
+        while self.tally.cuts < CUTS {
+            let mut image = any_store(&mut self.random);
+            let mut ledger = Ledger::new(&image);
+            for _ in 0..TRANSACTIONS {
+                self.one_transaction(&mut image, &mut ledger)?;
+            }
+        }
+        Ok(())
+    }
 
-/// Recoveries, cut again and again, the last one whole.
-fn recoveries(
-    random: &mut Random,
-    mut image: Vec<u8>,
-    tally: &mut Tally,
-) -> Result<Vec<u8>, String> {
-    loop {
-        if random.one_in(8) {
-            without_tape(&image, tally)?;
+    /// One transaction, with all its cuts. The store goes on after its whole
+    /// tape, or after a cut and recovery, which begins a new list.
+    fn one_transaction(&mut self, image: &mut Vec<u8>, ledger: &mut Ledger) -> Result<(), String> {
+        let keys: Vec<u64> = table(image).unwrap().iter().map(|entry| entry.0).collect();
+        let mut list = any_list(&mut self.random, &keys);
+        let old_work = self.random.bytes(image.len());
+        let short = self.random.one_in(12);
+        let old_tape = vec![self.random.byte(); if short { 100 } else { 65_536 }];
+        let (mut work, mut tape) = (old_work.clone(), old_tape.clone());
+        let (number, answer) =
+            calls::transaction(self.fault, image, &mut work, &mut tape, &mut list);
+        ledger.feed(&list, number == 0);
+        if number != 0 {
+            self.tally.refused[number as usize] += 1;
+            let left = if number < 8 { &old_work } else { &*image };
+            let stayed = work == *left && tape == old_tape;
+            return stayed.then_some(()).ok_or("a refusal's buffers".into());
         }
-        let mut work = vec![0; image.len()];
-        let mut tape = vec![0; 2_000];
-        let answer = recover(&image, &mut work, &mut tape)
-            .map_err(|refusal| format!("recovery refused {}", refusal.number))?;
-        tape.truncate(answer.bytes);
-        if answer.bytes > 0 && random.one_in(2) {
-            let commands = decode(&tape, image.len()).unwrap().len();
-            let c = random.between(0, commands);
-            image = any_cut(random, &image, &tape, c);
-            tally.count("recovery cut");
-            continue;
+        let [_, kind, page, bytes, flushes] = answer.map(|number| number as usize);
+        if tape[bytes..] != old_tape[bytes..] {
+            return Err("tape bytes past those used".into());
         }
-        let mut after = vec![0; image.len()];
-        run(&image, &mut after, &tape).expect("recovery's tape");
-        if after != work || check(&work).is_err() {
-            return Err("recovery's work".to_string());
+        let mut tape = Cuttable::new(image, &tape[..bytes]);
+        whole_tape(&tape, &work, flushes, ledger)?;
+        self.count_commit(kind, &tape);
+        let commit_line = if kind == 1 { 16 * page } else { 0 };
+        let crashed = self.all_cuts(&mut tape, commit_line, ledger)?;
+        *image = work;
+        if self.random.one_in(2) {
+            *image = crashed;
+            *ledger = Ledger::new(image);
         }
-        tally.count(if answer.bytes > 0 {
-            "recovery with a log"
-        } else {
-            "recovery without"
+        Ok(())
+    }
+
+    fn count_commit(&mut self, kind: usize, tape: &Cuttable) {
+        let logged = |command: &Command| matches!(command, Command::LineStore { line: 1..16, .. });
+        let full = tape
+            .commands
+            .iter()
+            .filter(|command| logged(command))
+            .count()
+            == 15;
+        self.tally.count(match kind {
+            1 => "commit by a header",
+            2 => "commit by the root word",
+            _ if full => "commit by a full log",
+            _ => "commit by the log",
         });
-        return Ok(work);
+    }
+
+    /// Every cut of the tape and recovery after it; gives one of the recovered
+    /// images.
+    fn all_cuts(
+        &mut self,
+        tape: &mut Cuttable,
+        commit_line: usize,
+        ledger: &Ledger,
+    ) -> Result<Vec<u8>, String> {
+        let mut going_on = tape.image.clone();
+        let (mut pending, mut phase) = (Pending::default(), Phase::BeforeCommit);
+        for c in 0..=tape.commands.len() {
+            if c > 0 {
+                pending.add(&tape.commands[c - 1]);
+                phase = phase.after(&tape.commands[c - 1], commit_line);
+            }
+            // Most of the many cuts before the commit of a large image are
+            // left out, to save time.
+            let early = phase == Phase::BeforeCommit;
+            if early && tape.image.len() > 12 * 1024 && !self.random.one_in(16) {
+                continue;
+            }
+            let ways = if early { EARLY } else { LATE };
+            for crashed in self.cuts_after(tape, c, &pending, ways) {
+                self.tally.cuts += 1;
+                if crashed[0] == 1 && self.random.one_in(32) {
+                    self.cut_recovery(&crashed, ledger, phase)?;
+                }
+                let recovered = self.recoveries(crashed)?;
+                self.judge(&recovered, ledger, phase)?;
+                if self.random.one_in(c + 1) {
+                    going_on = recovered;
+                }
+            }
+        }
+        // "An accepted call .. completes when its whole tape is done."
+        if phase != Phase::CommitFlushed || !pending.0.is_empty() {
+            return Err("a whole tape leaves stores pending".into());
+        }
+        Ok(going_on)
+    }
+
+    /// The images that a cut after c commands may leave: all of them if they
+    /// are at most so many, else some.
+    fn cuts_after(
+        &mut self,
+        tape: &mut Cuttable,
+        c: usize,
+        pending: &Pending,
+        (all, some): (usize, usize),
+    ) -> Vec<Vec<u8>> {
+        // A line with nothing pending may have any choice.
+        let mut choices = vec![self.random.byte(); tape.image.len() / 64];
+        let ways = pending.ways();
+        let count = if ways <= all { ways } else { some };
+        let mut images = Vec::new();
+        for way in 0..count {
+            if ways <= all {
+                pending.choose(way, &mut choices);
+            } else {
+                pending.choose_any(&mut self.random, &mut choices);
+            }
+            images.push(tape.cut(c, &mut choices));
+        }
+        images
+    }
+
+    /// The recovery of this image cut at every command, and recovered again.
+    fn cut_recovery(&mut self, image: &[u8], ledger: &Ledger, phase: Phase) -> Result<(), String> {
+        let (_, tape) = recover(&mut image.to_vec())?;
+        let mut tape = Cuttable::new(image, &tape);
+        let mut pending = Pending::default();
+        for c in 0..=tape.commands.len() {
+            if c > 0 {
+                pending.add(&tape.commands[c - 1]);
+            }
+            for crashed in self.cuts_after(&mut tape, c, &pending, OF_RECOVERY) {
+                self.tally.count("recovery cut");
+                let recovered = self.recoveries(crashed)?;
+                self.judge(&recovered, ledger, phase)?;
+            }
+        }
+        if !pending.0.is_empty() {
+            return Err("a whole recovery leaves stores pending".into());
+        }
+        Ok(())
+    }
+
+    /// Recoveries, cut again and again, the last one whole.
+    fn recoveries(&mut self, mut image: Vec<u8>) -> Result<Vec<u8>, String> {
+        loop {
+            if self.random.one_in(8) {
+                self.without_tape(&mut image)?;
+            }
+            let (work, tape) = recover(&mut image)?;
+            if tape.is_empty() || self.random.one_in(2) {
+                self.tally.count(if tape.is_empty() {
+                    "recovery without a log"
+                } else {
+                    "recovery with a log"
+                });
+                let mut after = vec![0; image.len()];
+                run(&image, &mut after, &tape).map_err(|_| "recovery's tape")?;
+                return if after == work {
+                    Ok(work)
+                } else {
+                    Err("recovery's work".into())
+                };
+            }
+            let mut tape = Cuttable::new(&image, &tape);
+            let c = self.random.between(0, tape.commands.len());
+            let mut pending = Pending::default();
+            tape.commands[..c]
+                .iter()
+                .for_each(|command| pending.add(command));
+            let mut cuts = self.cuts_after(&mut tape, c, &pending, (0, 1));
+            image = cuts.remove(0);
+            self.tally.count("recovery cut");
+        }
+    }
+
+    /// "13, work then holding the image", if there is anything to store.
+    fn without_tape(&mut self, image: &mut [u8]) -> Result<(), String> {
+        let mut work = vec![0; image.len()];
+        match calls::recover(image, &mut work, &mut []) {
+            (0, [0, 0]) => {}
+            (13, _) => self.tally.count("recovery refused 13"),
+            answer => return Err(format!("recovery without a tape: {answer:?}")),
+        }
+        if work != image {
+            return Err("work of a recovery without a tape".into());
+        }
+        Ok(())
+    }
+
+    /// Before the commit store the recovered store holds what it held, once
+    /// that store is flushed what the ledger then holds, and between one of the
+    /// two.
+    fn judge(&mut self, image: &[u8], ledger: &Ledger, phase: Phase) -> Result<(), String> {
+        let table: Option<Table> = table(image);
+        let last = ledger.count();
+        let old = ledger.holds(table.as_ref(), last - 1);
+        let new = ledger.holds(table.as_ref(), last);
+        self.tally.count(match (phase, old, new) {
+            (_, true, true) => "recovered, tables equal",
+            (Phase::BeforeCommit, true, false) => "before the commit, old",
+            (Phase::CommitPending, true, false) => "commit pending, old",
+            (Phase::CommitPending, false, true) => "commit pending, new",
+            (Phase::CommitFlushed, false, true) => "commit flushed, new",
+            _ => return Err(format!("{phase:?}: holds old {old}, holds new {new}")),
+        });
+        Ok(())
     }
 }
 
-/// "13, work then holding the image", if there is anything to store.
-fn without_tape(image: &[u8], tally: &mut Tally) -> Result<(), String> {
-    let mut work = vec![0; image.len()];
-    match recover(image, &mut work, &mut []) {
-        Ok(_) => {}
-        Err(Refusal { number: 13, .. }) => tally.count("recovery refused 13"),
-        Err(refusal) => return Err(format!("recovery refused {}", refusal.number)),
+/// The accepted answer, its tape run to the end.
+fn whole_tape(tape: &Cuttable, work: &[u8], flushes: usize, ledger: &Ledger) -> Result<(), String> {
+    let mut after = vec![0; work.len()];
+    run(&tape.image, &mut after, &tape.tape).map_err(|_| "tape malformed")?;
+    if after != work {
+        return Err("work is not the image after the tape".into());
     }
-    if work != image {
-        return Err("work of a recovery without a tape".to_string());
+    if !ledger.holds(table(work).as_ref(), ledger.count()) {
+        return Err("work does not hold the ledger's table".into());
+    }
+    if count_flushes(&tape.commands) != flushes {
+        return Err("flush count".into());
     }
     Ok(())
+}
+
+/// A recovery that must be accepted: work and tape.
+fn recover(image: &mut [u8]) -> Result<(Vec<u8>, Vec<u8>), String> {
+    let mut work = vec![0; image.len()];
+    let mut tape = vec![0; 2_000];
+    let (number, [bytes, _]) = calls::recover(image, &mut work, &mut tape);
+    if number != 0 {
+        return Err(format!("recovery refused {number}"));
+    }
+    tape.truncate(bytes as usize);
+    Ok((work, tape))
 }
 
 #[test]
 fn every_cut_recovers() {
     println!("seed {SEED}");
-    let mut tally = Tally::default();
-    let answer = survive(Fault::None, &mut tally);
-    for (what, times) in &tally.0 {
+    let mut test = Test::new(Fault::None);
+    let answer = test.survive();
+    let Tally {
+        times,
+        refused,
+        cuts,
+    } = &test.tally;
+    println!("{:<40}{cuts:>8}", "transactions cut");
+    for (what, times) in times {
         println!("{what:<40}{times:>8}");
     }
+    println!("transactions refused, by number: {refused:?}");
     assert_eq!(answer, Ok(()));
     let wanted = [
         "commit by a header",
         "commit by the root word",
         "commit by the log",
-        "cut, BeforeCommit, holds old",
-        "cut, CommitPending, holds old",
-        "cut, CommitPending, holds new",
-        "cut, CommitFlushed, holds new",
+        "commit by a full log",
+        "before the commit, old",
+        "commit pending, old",
+        "commit pending, new",
+        "commit flushed, new",
         "recovery cut",
         "recovery refused 13",
         "recovery with a log",
-        "recovery without",
+        "recovery without a log",
     ];
-    let refusals = (5..=13).map(|number| format!("transaction refused {number:>2}"));
-    for what in wanted.map(String::from).into_iter().chain(refusals) {
-        assert!(tally.0.contains_key(&what), "never came: {what}");
+    for what in wanted {
+        assert!(times.contains_key(what), "never came: {what}");
     }
+    assert!(refused[5..].iter().all(|&times| times > 0));
 }
 
 /// The faulty variant must be caught.
 fn caught(fault: Fault) {
-    let answer = survive(fault, &mut Tally::default());
-    println!("{fault:?}: {answer:?}");
+    let mut test = Test::new(fault);
+    let answer = test.survive();
+    println!("{fault:?}: {answer:?} after {} cuts", test.tally.cuts);
     assert!(answer.is_err(), "{fault:?} was not caught");
 }
 

@@ -1,13 +1,15 @@
 //! Document 01, 'Worked on paper': every row about the store, on the
-//! reference. Each test starts with its row.
+//! reference; with the feature `transaction` also on the proved library. Each
+//! test starts with its row.
 
 use cases::images::even;
+use cases::logs::waiting;
 use cases::random::Random;
 use reference::device::{decode, run, Command};
 use reference::edits::{Edit, Kind};
 use reference::image::{check, format, lookup, sound_leaves, table};
 use reference::page::Header;
-use reference::recovery::recover;
+use reference::recovery::{recover, Recovered};
 use reference::tape::CommitPlace;
 use reference::transaction::{transaction, Accepted};
 use reference::Refusal;
@@ -31,12 +33,42 @@ fn list(edits: &[Edit]) -> Vec<u8> {
     edits.iter().flat_map(Edit::encode).collect()
 }
 
+/// Work and tape as they are lent.
+fn buffers(image: &[u8]) -> (Vec<u8>, Vec<u8>) {
+    (vec![0xcc; image.len()], vec![0xdd; 16_384])
+}
+
+/// The same transaction by the proved library gives the same.
+#[cfg(feature = "transaction")]
+fn also_proved(image: &[u8], list: &[u8], answer: &Result<Accepted, Refusal>, left: [&[u8]; 2]) {
+    let (mut work, mut tape) = buffers(image);
+    let mut five = [7; 5];
+    let (lent, list) = (&mut image.to_vec(), &mut list.to_vec());
+    let number = proved::transaction(lent, &mut work, &mut tape, list, &mut five);
+    assert_eq!((number, five), reference::numbers::of_transaction(answer));
+    assert!(*lent == image && left == [&work[..], &tape[..]]);
+}
+
+/// The same recovery by the proved library gives the same.
+#[cfg(feature = "transaction")]
+fn also_proved_recovery(image: &[u8], answer: &Result<Recovered, Refusal>, left: [&[u8]; 2]) {
+    let (mut work, mut tape) = buffers(image);
+    let mut two = [7; 2];
+    let lent = &mut image.to_vec();
+    let number = proved::recover(lent, &mut work, &mut tape, &mut two);
+    let (wanted, numbers) = reference::numbers::of_recovery(answer);
+    assert_eq!((number, two), (wanted, numbers.unwrap_or([7; 2])));
+    assert!(*lent == image && left == [&work[..], &tape[..]]);
+}
+
 /// One transaction: its answer and tape. Accepted, the image becomes work,
 /// which is what its tape makes of the image.
 fn send(image: &mut Vec<u8>, edits: &[Edit]) -> Result<(Accepted, Vec<Command>), Refusal> {
-    let mut work = vec![0; image.len()];
-    let mut tape = vec![0xdd; 16_384];
-    let answer = transaction(image, &mut work, &mut tape, &list(edits))?;
+    let (mut work, mut tape) = buffers(image);
+    let answer = transaction(image, &mut work, &mut tape, &list(edits));
+    #[cfg(feature = "transaction")]
+    also_proved(image, &list(edits), &answer, [&work, &tape]);
+    let answer = answer?;
     assert!(tape[answer.bytes..].iter().all(|&byte| byte == 0xdd));
     tape.truncate(answer.bytes);
     let mut run_work = vec![0; image.len()];
@@ -48,6 +80,14 @@ fn send(image: &mut Vec<u8>, edits: &[Edit]) -> Result<(Accepted, Vec<Command>),
     let commands = decode(&tape, image.len())?;
     *image = work;
     Ok((answer, commands))
+}
+
+fn send_recovery(image: &[u8]) -> Result<Recovered, Refusal> {
+    let (mut work, mut tape) = buffers(image);
+    let answer = recover(image, &mut work, &mut tape);
+    #[cfg(feature = "transaction")]
+    also_proved_recovery(image, &answer, [&work, &tape]);
+    answer
 }
 
 fn refused<T>(answer: Result<T, Refusal>) -> (u8, usize) {
@@ -215,8 +255,24 @@ fn marks_out_of_range() {
         let mut image = fresh();
         image[..8].copy_from_slice(&[1, k, 1, 0, 0, 0, 0, 0]);
         assert_eq!(refused(check(&image)), (number, 0));
-        let (mut work, mut tape) = (image.clone(), vec![0; 16_384]);
+        assert_eq!(refused(send(&mut image, &[insert(1, 8)])), (number, 0));
         // The log holds zeros, which is no page number.
-        assert_eq!(refused(recover(&image, &mut work, &mut tape)), (4, 0));
+        assert_eq!(refused(send_recovery(&image)), (4, 0));
+    }
+}
+
+/// The same with a log of as many good headers: accepted, k from 1 to 15.
+#[test]
+fn marks_in_range() {
+    let built = even(&mut Random::new(1), 64, 16, 32);
+    for k in 1..=15 {
+        let image = waiting(&mut Random::new(k), &built, k as usize);
+        let recovered = send_recovery(&image).unwrap();
+        assert_eq!(recovered.flushes, k as usize + 1);
+        for k in [0, 16] {
+            let mut wrong = image.clone();
+            wrong[1] = k;
+            assert_eq!(refused(send_recovery(&wrong)), (4, 0));
+        }
     }
 }

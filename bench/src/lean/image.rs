@@ -7,16 +7,16 @@
 
 use super::{good_length, PAGE};
 
-const SLOTS: usize = 28;
-const KEYS: u64 = 1_000_000_000_000;
+pub const SLOTS: usize = 28;
+pub const KEYS: u64 = 1_000_000_000_000;
 
 #[inline(always)]
-unsafe fn word(at: *const u8) -> u64 {
+pub unsafe fn word(at: *const u8) -> u64 {
     (at as *const u64).read_unaligned()
 }
 
 #[inline(always)]
-unsafe fn half(at: *const u8) -> usize {
+pub unsafe fn half(at: *const u8) -> usize {
     (at as *const u16).read_unaligned() as usize
 }
 
@@ -96,7 +96,7 @@ pub fn next_key(image: &[u8], key: u64, answer: &mut [u64; 2]) -> u8 {
 
 /// The record of this slot.
 #[inline(always)]
-unsafe fn record(page: *const u8, slot: usize) -> *const u8 {
+pub unsafe fn record(page: *const u8, slot: usize) -> *const u8 {
     page.add(half(page.add(8 + 2 * slot)))
 }
 
@@ -110,13 +110,13 @@ unsafe fn leaf(image: &[u8], index: *const u8, which: usize) -> *const u8 {
 
 /// The last leaf whose separator is not above the key, else the first.
 #[inline(always)]
-unsafe fn route(index: *const u8, key: u64) -> usize {
+pub unsafe fn route(index: *const u8, key: u64) -> usize {
     not_above(index, key).saturating_sub(1)
 }
 
 /// How many of the page's records have a key not above this one.
 #[inline(always)]
-unsafe fn not_above(page: *const u8, key: u64) -> usize {
+pub unsafe fn not_above(page: *const u8, key: u64) -> usize {
     let (mut low, mut high) = (0, half(page));
     while low < high {
         let middle = (low + high) / 2;
@@ -132,76 +132,87 @@ unsafe fn not_above(page: *const u8, key: u64) -> usize {
 /// Checks the image; gives its index page if it is sound, else the refusal.
 #[inline(always)]
 fn index(image: &[u8]) -> Result<*const u8, u8> {
+    let (root, _) = reached(image)?;
+    Ok(unsafe { image.as_ptr().add(root * PAGE) })
+}
+
+/// Checks the image; gives the root and one bit a reached page, page 0 too, if
+/// it is sound, else the refusal.
+#[inline(always)]
+pub fn reached(image: &[u8]) -> Result<(usize, u64), u8> {
     if !good_length(image.len()) {
         return Err(1);
     }
     unsafe {
         let start = image.as_ptr();
         let pages = image.len() / PAGE;
-        let root = page_zero(start, pages as u64)?;
-        if sound(start, pages, root) {
-            Ok(start.add(root * PAGE))
-        } else {
-            Err(4)
+        match page_zero(start, pages as u64) {
+            None => Err(4),
+            Some((0, root)) => {
+                let reached = sound(start, pages, root, |page| start.add(page * PAGE));
+                reached.map(|pages| (root, pages)).ok_or(4)
+            }
+            Some(_) => Err(3),
         }
     }
 }
 
-/// The root's page number, or refusal 3 or 4.
+/// Page 0's mark and root, if line 0 is not wrong.
 #[inline(always)]
-unsafe fn page_zero(start: *const u8, pages: u64) -> Result<usize, u8> {
+pub unsafe fn page_zero(start: *const u8, pages: u64) -> Option<(u64, usize)> {
     let mark = word(start);
     let root = word(start.add(8));
     let zeros = (3..8).fold(0, |all, i| all | word(start.add(8 * i)));
     if zeros != 0 || word(start.add(16)) != (pages | 1 << 16) || root.wrapping_sub(1) >= pages - 1 {
-        return Err(4);
+        return None;
     }
-    if mark != 0 {
-        let headers = mark >> 8 & 0xff;
-        let new_root = mark >> 16;
-        let good = mark & 0xff == 1
-            && headers.wrapping_sub(1) < 15
-            && new_root.wrapping_sub(1) < pages - 1;
-        return Err(if good { 3 } else { 4 });
-    }
-    Ok(root as usize)
+    let headers = mark >> 8 & 0xff;
+    let new_root = mark >> 16;
+    let good =
+        mark & 0xff == 1 && headers.wrapping_sub(1) < 15 && new_root.wrapping_sub(1) < pages - 1;
+    (mark == 0 || good).then_some((mark, root as usize))
 }
 
+/// One bit a page that is reached from this root, and page 0's, if all of them
+/// are sound. `header` gives where a page's header is: it may wait in the log.
 #[inline(always)]
-unsafe fn sound(start: *const u8, pages: usize, root: usize) -> bool {
-    // One bit a page that no further record may name.
+pub unsafe fn sound(
+    start: *const u8,
+    pages: usize,
+    root: usize,
+    header: impl Fn(usize) -> *const u8,
+) -> Option<u64> {
+    // No further record may name one of these.
     let mut taken: u64 = 1 | 1 << root;
-    let index = start.add(root * PAGE);
-    let leaves = page(index, root, 2, 0, KEYS, |record| {
+    let (index_header, index) = (header(root), start.add(root * PAGE));
+    let leaves = page(index_header, index, root, 2, 0, KEYS, |record| {
         let number = half(record.add(16));
         let fresh = number < pages && taken >> number & 1 == 0;
         taken |= 1 << (number & 63);
         fresh && half(record.add(8)) == 2
-    });
-    let leaves = leaves.unwrap_or(0);
+    })?;
+    let record = |i: usize| index.add(half(index_header.add(8 + 2 * i)));
     let least = (leaves > 1) as usize;
     // The first leaf may hold keys below its separator.
     let mut low = 1;
     for i in 0..leaves {
         let last = i + 1 == leaves;
-        let high = if last {
-            KEYS
-        } else {
-            word(record(index, i + 1))
-        };
-        let number = half(record(index, i).add(16));
-        match page(start.add(number * PAGE), number, 1, low, high, |_| true) {
-            Some(count) if count >= least => low = high,
-            _ => return false,
+        let high = if last { KEYS } else { word(record(i + 1)) };
+        let number = half(record(i).add(16));
+        let leaf = start.add(number * PAGE);
+        if page(header(number), leaf, number, 1, low, high, |_| true)? < least {
+            return None;
         }
+        low = high;
     }
-    leaves > 0
+    (leaves > 0).then_some(taken)
 }
 
 /// The number of records of a page, if its header and records are good and the
 /// keys rise from `low` on to below `high`. Each record is handed to `each`.
 #[inline(always)]
 unsafe fn page(
+    header: *const u8,
     page: *const u8,
     number: usize,
     kind: u64,
@@ -209,20 +220,20 @@ unsafe fn page(
     high: u64,
     mut each: impl FnMut(*const u8) -> bool,
 ) -> Option<usize> {
-    let head = word(page);
+    let head = word(header);
     let count = (head & 0xffff) as usize;
     let start = (head >> 16 & 0xffff) as usize;
     // Kind, zero byte and own number at once.
     if head >> 32 != (kind | (number as u64) << 16) || count > SLOTS {
         return None;
     }
-    if start & 7 != 0 || !(64..=PAGE).contains(&start) || !zero_past(page, count) {
+    if start & 7 != 0 || !(64..=PAGE).contains(&start) || !zero_past(header, count) {
         return None;
     }
     // One bit for each eight bytes that a record covers.
     let mut covered: u128 = 0;
     for i in 0..count {
-        let slot = half(page.add(8 + 2 * i));
+        let slot = half(header.add(8 + 2 * i));
         if slot & 7 != 0 || slot < start || slot > PAGE - 16 {
             return None;
         }
@@ -241,14 +252,14 @@ unsafe fn page(
 
 /// Whether the slots past the count are zero, four at a time.
 #[inline(always)]
-unsafe fn zero_past(page: *const u8, count: usize) -> bool {
+unsafe fn zero_past(header: *const u8, count: usize) -> bool {
     let whole = count / 4;
     let mut rest = 0;
     if whole < SLOTS / 4 {
-        rest = word(page.add(8 + 8 * whole)) >> (16 * (count % 4));
+        rest = word(header.add(8 + 8 * whole)) >> (16 * (count % 4));
     }
     for i in whole + 1..SLOTS / 4 {
-        rest |= word(page.add(8 + 8 * i));
+        rest |= word(header.add(8 + 8 * i));
     }
     rest == 0
 }

@@ -7,9 +7,9 @@ use mathlib.Core.Logic.{_⊎_, inl, inr}
 use native.Mathlib.Omega.{arith}
 use native.Mathlib.Decide.{decLt}
 use native.Mathlib.Numerals.{add-one}
-use native.Mathlib.Nat.{add-zero, add-suc, not-suc-le-zero, sub-zero}
-use lib.ListN.{length, getD, take, drop, set, replicate, length-append, length-take, length-drop, length-set, length-replicate, take-append-drop, drop-of-length-le, List·getD-eq-default}
-use lib.Seq.{sets, sets-eq, length-sets, take-at, drop-at, take-append-le, drop-append-le, drop-append-add, take-take, drop-drop, take-length, drop-cons, getD-take, getD-drop, getD-set-same, getD-set-other, set-comm}
+use native.Mathlib.Nat.{add-zero, add-suc, not-suc-le-zero}
+use lib.ListN.{length, getD, take, drop, set, length-append, length-take, length-drop, length-set, take-append-drop, drop-of-length-le, List·getD-eq-default}
+use lib.Seq.{sets, sets-eq, take-at, drop-at, take-append-le, drop-append-le, drop-append-add, take-take, drop-drop, take-length, drop-cons, getD-take, getD-drop, getD-set-same, getD-set-other, set-comm}
 use Rattle.codec.specs.Lists.{part, splice, insertAt, removeAt}
 
 -- ---- a part

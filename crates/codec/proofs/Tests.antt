@@ -1,12 +1,11 @@
 -- The laws of the tests of `specs/Lists.antt`: what a test that holds says, and how one is made.
 -- Assumes nothing.
 use Prim.Native.Nat.{ℕ, zero, suc, _+_, _≤_, _<_}
-use mathlib.Core.Path.{_≡_, refl, ap}
+use mathlib.Core.Path.{_≡_, refl}
 use mathlib.Core.Bool.{Bool, true, false, _&&_, false≢true}
-use mathlib.Core.List.{List, [], _∷_}
-use native.Mathlib.Omega.{arith}
+use mathlib.Core.List.{List, [], _∷_, _++_}
 use native.Mathlib.Numerals.{add-one}
-use lib.ListN.{length, getD, drop, set, drop-of-length-le}
+use lib.ListN.{length, getD, take, drop, set, drop-of-length-le}
 use lib.Seq.{drop-cons}
 use lib.Dec.{eqb}
 use borrow.Author.Tests.{eqb-true, eq-eqb, ne-eqb}
@@ -75,6 +74,21 @@ module _ {ℓ} {A : Type ℓ} where
   All-remove P zero (x ∷ l) h = h .1
   All-remove P (suc i) (x ∷ l) h = (h .0, All-remove P i l (h .1))
 
+  pub All-take : (P : A → Type 0) (n : ℕ) (l : List A) → All P l → All P (take n l)
+  All-take P zero l h = tt
+  All-take P (suc n) [] h = tt
+  All-take P (suc n) (x ∷ l) h = (h .0, All-take P n l (h .1))
+
+  pub All-drop : (P : A → Type 0) (n : ℕ) (l : List A) → All P l → All P (drop n l)
+  All-drop P zero l h = h
+  All-drop P (suc n) [] h = tt
+  All-drop P (suc n) (x ∷ l) h = All-drop P n l (h .1)
+
+  -- what holds at each index
+  pub All-getD : (P : A → Type 0) (d : A) (l : List A) → ((i : ℕ) → P (getD l i d)) → All P l
+  All-getD P d [] h = tt
+  All-getD P d (x ∷ l) h = (h 0, All-getD P d l (λ i. h (suc i)))
+
 -- ---- lists compared
 
 pub eqs-true : (a b : List ℕ) → eqs a b ≡ true → a ≡ b
@@ -91,6 +105,12 @@ pub eqs-same : (a : List ℕ) → eqs a a ≡ true
 unfolding eqs
 eqs-same [] = refl
 eqs-same (x ∷ a) = both (eq-eqb x x refl) (eqs-same a)
+
+-- the same in front makes no difference
+pub eqs-append : (x a b : List ℕ) → eqs (x ++ a) (x ++ b) ≡ eqs a b
+unfolding eqs
+eqs-append [] a b = refl
+eqs-append (y ∷ x) a b = rw (eq-eqb y y refl) (eqs-append x a b)
 
 pub eqs-differ : (a b : List ℕ) → (a ≡ b → ⊥) → eqs a b ≡ false
 eqs-differ a b h = not-true (eqs a b) (λ e. h (eqs-true a b e))

@@ -1,7 +1,7 @@
 // Bytes: numbers read and written low byte first, parts copied, filled and compared.
 ghost use mathlib.Core.Path.{_≡_};
-ghost use Prim.Native.Nat.{ℕ, _+_, _≤_, _<_};
-ghost use lib.ListN.{length, replicate};
+ghost use Prim.Native.Nat.{_+_, _≤_, _<_};
+ghost use lib.ListN.{length, drop, replicate};
 ghost use Rattle.codec.specs.Lists.{part, splice, eqs};
 ghost use Rattle.codec.specs.Numbers.{number, bytesOf};
 
@@ -137,14 +137,12 @@ pub fn fill(dst: &mut [u8], at: usize, n: usize, value: u8)
     }
 }
 
-// Whether two slices hold the same bytes.
-pub fn same(a: &[u8], b: &[u8]) -> bool
-    ensures { λ r. ⌜ r ≡ eqs (now (a .entry)) (now (b .entry)) ⌝ }
+// Whether two slices hold the same bytes from `from` on.
+fn same_from(a: &[u8], b: &[u8], from: usize) -> bool
+    requires { ⌜ (length (now a) ≡ length (now b)) × (from ≤ length (now a)) ⌝ }
+    ensures { λ r. ⌜ r ≡ eqs (drop from (now (a .entry))) (drop from (now (b .entry))) ⌝ }
 {
-    if a.len() != b.len() {
-        return false;
-    }
-    let mut i = 0;
+    let mut i = from;
     while i < a.len() {
         if a[i] != b[i] {
             return false;
@@ -152,4 +150,21 @@ pub fn same(a: &[u8], b: &[u8]) -> bool
         i += 1;
     }
     true
+}
+
+// Whether two slices hold the same bytes: eight at a time, and then the rest.
+pub fn same(a: &[u8], b: &[u8]) -> bool
+    ensures { λ r. ⌜ r ≡ eqs (now (a .entry)) (now (b .entry)) ⌝ }
+{
+    if a.len() != b.len() {
+        return false;
+    }
+    let mut i = 0;
+    while 8 <= a.len() - i {
+        if long_at(a, i) != long_at(b, i) {
+            return false;
+        }
+        i += 8;
+    }
+    same_from(a, b, i)
 }

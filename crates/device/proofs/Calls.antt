@@ -13,7 +13,6 @@ use Rattle.codec.proofs.Tests.{first, second}
 use Rattle.device.specs.Tape.{Op, wellFormed}
 use Rattle.device.specs.Counts.{scanned}
 use Rattle.device.specs.Calls.{isImageSize, Ran, refused, unless}
-use Rattle.device.specs.declared.Scan.{Scan}
 use Rattle.device.specs.declared.Scan.the-variants.{Commands, Broken}
 
 module _ (test : Bool) (k : ℕ) (old : List ℕ) (ran : Ran) where

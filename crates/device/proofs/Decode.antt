@@ -1,22 +1,22 @@
 -- Commands on a tape: what stands at a place of it, and the commands from there on.
 -- Assumes nothing.
-use Prim.Native.Nat.{ℕ, zero, suc, _+_, _-_, _*_, _/_, _%_, _≤_, _<_}
+use Prim.Native.Nat.{ℕ, zero, suc, _+_, _*_, _≤_, _<_}
 use mathlib.Core.Path.{_≡_, refl, sym, ap, _∙_}
-use mathlib.Core.Bool.{Bool, true, false, false≢true}
-use mathlib.Core.List.{List, [], _∷_, _++_, append-assoc}
+use mathlib.Core.Bool.{Bool, true, false}
+use mathlib.Core.List.{List, [], _∷_}
 use native.Mathlib.Omega.{arith}
-use native.Mathlib.Nat.{add-zero, add-assoc, not-suc-le-zero}
-use lib.ListN.{length, getD, take, drop, length-drop, length-append, drop-of-length-le}
-use lib.Seq.{drop-drop, drop-length, take-at, drop-at, getD-drop}
-use lib.Dec.{ltb, leb, eqb}
-use borrow.Author.Tests.{ltb-true, ltb-false, leb-true, le-leb, eqb-true, eqb-false, eq-eqb, ne-eqb}
-use Rattle.codec.specs.Lists.{pick, part, every}
-use Rattle.codec.specs.Numbers.{number, bytesOf}
+use native.Mathlib.Nat.{add-zero, not-suc-le-zero}
+use lib.ListN.{length, getD, drop, length-drop, drop-of-length-le}
+use lib.Seq.{drop-drop, drop-length, getD-drop}
+use lib.Dec.{ltb, eqb}
+use borrow.Author.Tests.{ltb-true, ltb-false, leb-true, le-leb, eqb-true, eq-eqb, ne-eqb}
+use Rattle.codec.specs.Lists.{pick, part}
+use Rattle.codec.specs.Numbers.{number}
 use Rattle.codec.proofs.Tests.{everything, all-every}
 use Rattle.codec.proofs.Tests as tests
-use Rattle.codec.proofs.Lists.{length-part, part-drop, part-whole, part-append-left}
-use Rattle.codec.proofs.Numbers.{number-two, length-bytesOf, number-bytesOf}
-use Rattle.device.specs.Tape.{Op, store, flush, malformed, kindOf, placeOf, unit, follows, isCommand, front, extent, beyond, scan, decode, wellFormed, headBytes, wordBytes, lineBytes, flushBytes}
+use Rattle.codec.proofs.Lists.{length-part, part-drop}
+use Rattle.codec.proofs.Numbers.{number-two}
+use Rattle.device.specs.Tape.{Op, store, flush, malformed, kindOf, placeOf, unit, follows, isCommand, front, extent, scan, decode, wellFormed}
 use Rattle.device.specs.Counts.{sizeOf}
 
 -- ---- the command that a tape starts with

@@ -12,11 +12,13 @@ use Rattle.device.specs.Tape.{Op, store, flush, malformed}
 
 -- ---- the image after all stores
 
+-- a store writes its bytes at its place, all at once; a flush changes nothing of the image
 abbrev pub apply : List ℕ → Op → List ℕ
 apply image (store p vs) = sets image p vs
 apply image (flush l) = image
 apply image malformed = image
 
+-- "the image after all stores"
 unfoldable pub after : List ℕ → List Op → List ℕ
 after image [] = image
 after image (o ∷ cs) = after (apply image o) cs
@@ -38,6 +40,7 @@ flushed l (malformed ∷ cs) = flushed l cs
 abbrev pub less : (ℕ → ℕ) → ℕ → ℕ → ℕ
 less f l m = pick (eqb m l) (f m - 1) (f m)
 
+-- the list with o in front of it, if so tested
 abbrev pub consIf : Bool → Op → List Op → List Op
 consIf true o cs = o ∷ cs
 consIf false o cs = cs

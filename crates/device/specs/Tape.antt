@@ -33,7 +33,8 @@ unit kind = pick (eqb kind 1) 8 64
 unfoldable pub follows : ℕ → ℕ
 follows kind = pick (eqb kind 1) 8 (pick (eqb kind 2) 64 0)
 
--- whether t starts with a whole command of a known kind, at a place of an image of n bytes
+-- whether t starts with a command at a place of an image of n bytes: the head is whole, the kind known, the second byte zero,
+-- the bytes that follow are whole, and the place is not outside
 unfoldable pub isCommand : ℕ → List ℕ → Bool
 isCommand n t =
     every
@@ -90,15 +91,19 @@ flushCount (malformed ∷ cs) = flushCount cs
 
 -- ---- writing
 
+-- "its kind (1 byte), a zero byte and its place (2 bytes)"
 unfoldable pub headBytes : ℕ → ℕ → List ℕ
 headBytes kind place = kind ∷ 0 ∷ bytesOf 2 place
 
+-- "Kind 1, word store: place is the word number in the image; 8 bytes follow."
 abbrev pub wordBytes : ℕ → List ℕ → List ℕ
 wordBytes word vs = headBytes 1 word ++ vs
 
+-- "Kind 2, line store: place is the line number; 64 bytes follow."
 abbrev pub lineBytes : ℕ → List ℕ → List ℕ
 lineBytes line vs = headBytes 2 line ++ vs
 
+-- "Kind 3, flush: place is the line number; nothing follows."
 abbrev pub flushBytes : ℕ → List ℕ
 flushBytes line = headBytes 3 line
 

@@ -54,10 +54,7 @@ impl Refusal {
     pub fn of(number: u8) -> Refusal
         ensures { λ r. ⌜ r ≡ refusal number ⌝ }
     {
-        Refusal {
-            number: number,
-            edit: 0,
-        }
+        Refusal { number, edit: 0 }
     }
 }
 

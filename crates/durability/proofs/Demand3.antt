@@ -15,7 +15,7 @@ use Rattle.page.specs.Layout.{Rec}
 use Rattle.image.specs.Image.{sound}
 use Rattle.image.specs.Table.{table}
 use Rattle.edit.specs.Ledger.{Ledger, opened, applyEdits}
-use Rattle.journal.specs.declared.CommitPlace.{CommitPlace}
+use Rattle.journal.specs.Tape.{commitOf}
 use Rattle.journal.proofs.Replay.{Holds}
 use Rattle.journal.proofs.Taken.{txn-before, txn-between, txn-after}
 use Rattle.journal.specs.declared.Commit.{Commit}
@@ -56,6 +56,7 @@ module _ (a : List ℕ) (ks : List Call) (k : Call) (c : ℕ) (f : ℕ → ℕ) 
 
   -- the commit store is found where it was put
   found : commitAt (d .place) cs ≡ taken img sound-img k d e .commitAt
+  unfolding commitOf
   found =
       ap (commitAt (d .place)) (commands-are img sound-img k d e)
       ∙ ap (λ (x : Commit). commitAt (x .place) (taken img sound-img k d e .tape)) (answer-is img sound-img k d e)

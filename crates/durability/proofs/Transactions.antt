@@ -9,7 +9,7 @@ use lib.ListN.{length, take}
 use borrow.Author.Tests.{le-leb}
 use Rattle.codec.specs.Lists.{part, splice}
 use Rattle.codec.proofs.Lists.{part-splice-same}
-use Rattle.device.specs.Tape.{decode, tapeBytes, flushCount}
+use Rattle.device.specs.Tape.{decode, tapeBytes}
 use Rattle.device.specs.Cut.{after}
 use Rattle.page.specs.Layout.{Rec}
 use Rattle.image.specs.Image.{sound}
@@ -17,7 +17,7 @@ use Rattle.image.specs.Table.{table}
 use Rattle.edit.specs.Ledger.{Ledger, applyEdits, fed}
 use Rattle.image.specs.PageZero.{logMost}
 use Rattle.journal.specs.Changes.{changedPages}
-use Rattle.journal.specs.Tape.{Taken, roomInLog, takenFor}
+use Rattle.journal.specs.Tape.{Taken, commitOf, roomInLog, takenFor}
 use Rattle.journal.specs.Edited.{Edited}
 use Rattle.journal.proofs.Taken.{taken-run, taken-sound}
 use Rattle.journal.proofs.Fitting.{taken-decode}
@@ -58,7 +58,7 @@ module _ (a : List ℕ) (s : sound a ≡ true) (k : Call) (d : Commit) (e : onIm
   room = le-leb (length (changedPages a target)) logMost (run .few)
 
   -- the answer, and the tape
-  pub answer-is : d ≡ record { place = taken .place; bytes = length (tapeBytes (taken .tape)); flushes = flushCount (taken .tape) }
+  pub answer-is : d ≡ commitOf taken
   unfolding acceptedWith
   answer-is =
       let r : Accepted d ≡ acceptedWith taken (k .tape) .answer = sym e ∙ ap (λ (x : Result). x .answer) (run .result) in
@@ -70,6 +70,7 @@ module _ (a : List ℕ) (s : sound a ≡ true) (k : Call) (d : Commit) (e : onIm
 
   -- the tape's bytes say its commands
   pub commands-are : commandsOn a (d .bytes) (onImage a k .tape) ≡ taken .tape
+  unfolding commitOf
   commands-are =
       ap (λ (t : List ℕ). decode (length a) (take (d .bytes) t)) tape-is
       ∙ ap (λ (c : Commit). decode (length a) (take (c .bytes) (splice (k .tape) 0 (tapeBytes (taken .tape))))) answer-is

@@ -3,3 +3,4 @@ pub mod Ledger
 pub mod Places
 pub mod Reading
 pub mod Parsing
+pub mod Judging

@@ -1,2 +1,3 @@
 pub mod EditList
 pub mod Ledger
+pub mod Judged

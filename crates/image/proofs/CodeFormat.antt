@@ -2,13 +2,13 @@
 -- Assumes nothing.
 use Prim.Native.Nat.{ℕ, _+_, _-_, _*_, _/_, _≤_, _<_}
 use mathlib.Core.Path.{_≡_, refl, sym, ap, _∙_}
-use mathlib.Core.List.{List, [], _∷_, _++_, append-assoc, append-nil}
+use mathlib.Core.List.{List, [], _∷_, _++_, append-assoc}
 use native.Mathlib.Omega.{arith}
-use lib.ListN.{length, take, drop, replicate, length-append, length-take, length-drop, length-replicate, replicate-append-replicate, drop-of-length-le}
+use lib.ListN.{length, take, drop, replicate, length-append, length-take, length-drop, length-replicate, replicate-append-replicate}
 use lib.Seq.{take-at, drop-at, take-append-le, drop-append-le, drop-append-add}
 use Rattle.codec.specs.Lists.{part, splice}
 use Rattle.codec.specs.Numbers.{bytesOf}
-use Rattle.codec.proofs.Lists.{length-splice, splice-next}
+use Rattle.codec.proofs.Lists.{length-splice, splice-next, splice-over}
 use Rattle.codec.proofs.Numbers.{length-bytesOf}
 use Rattle.page.specs.Layout.{pageSize, lineSize, slotCount, leafKind, indexKind, recOf, up8, size, recordBytes, Head, unusedHead, headOf, headerOf, rawBytes}
 use Rattle.page.specs.Operations.{written, insertHead, fillHead, fillBytes, fill, pageOf, putPage}
@@ -29,11 +29,6 @@ unfolding splice
 splice-left a b o new h =
     let k : o ≤ length a = omega arith in
     rw (take-append-le o a b k, drop-append-le (o + length new) a b h, append-assoc (take o a) (new ++ drop (o + length new) a) b, append-assoc new (drop (o + length new) a) b)
-
--- a whole list written over another
-pub splice-all : (l new : List ℕ) → length new ≡ length l → splice l 0 new ≡ new
-unfolding splice
-splice-all l new e = ap (λ (t : List ℕ). new ++ t) (drop-of-length-le l {i = 0 + length new} (omega arith)) ∙ append-nil new
 
 -- ---- a page between others
 
@@ -155,7 +150,7 @@ module _ (i0 i1 i2 i3 i4 i5 : List ℕ) (fits : Size (length i0)) (n : ℕ) (cou
   unfolding rest
   wiped =
       let e : length i0 ≡ pageSize * n = omega (arith, fits .whole) in
-      e1 ∙ splice-all i0 (replicate (length i0) 0) (length-replicate (length i0) 0) ∙ ap (λ (m : ℕ). replicate {A = ℕ} m 0) e ∙ zero-pages n (omega (arith, fits .low))
+      e1 ∙ splice-over i0 (replicate (length i0) 0) (length-replicate (length i0) 0) ∙ ap (λ (m : ℕ). replicate {A = ℕ} m 0) e ∙ zero-pages n (omega (arith, fits .low))
 
   first-made : i3 ≡ freshZero n ++ (zeroPage ++ (zeroPage ++ rest))
   first-made =

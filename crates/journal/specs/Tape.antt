@@ -7,13 +7,14 @@ use lib.ListN.{length}
 use lib.Dec.{leb}
 use Rattle.codec.specs.Lists.{part, splice}
 use Rattle.codec.specs.Numbers.{bytesOf}
-use Rattle.device.specs.Tape.{Op, store, flush}
+use Rattle.device.specs.Tape.{Op, store, flush, tapeBytes, flushCount}
 use Rattle.page.specs.Layout.{pageSize, lineSize}
 use Rattle.image.specs.PageZero.{rootOf, logMost, markBytes}
 use Rattle.journal.specs.Changes.{stageA, headerLine, changedPages, sameRoot}
 use Rattle.journal.specs.Log.{pageLines, logStores, logTape, replayTape}
 use Rattle.journal.specs.declared.CommitPlace.{CommitPlace}
 use Rattle.journal.specs.declared.CommitPlace.the-variants.{Header, Root, Log}
+use Rattle.journal.specs.declared.Commit.{Commit}
 
 -- the commands of an accepted transaction, the number of commands before its commit store, its commit place, and the image that it leaves
 pub record Taken : Type 0 where
@@ -69,3 +70,8 @@ roomInLog ps = leb (length ps) logMost
 -- the transaction from the image a to the edited image w
 unfoldable pub takenFor : List ℕ → List ℕ → Taken
 takenFor a w = choose (stageA a w) w (sameRoot a w) (changedPages a w)
+
+-- what it answers: "The answer names the commit place .. It also gives the tape bytes used, and the number of flushes in the answer is the
+-- number of flush commands on the tape."
+unfoldable pub commitOf : Taken → Commit
+commitOf t = record { place = t .place; bytes = length (tapeBytes (t .tape)); flushes = flushCount (t .tape) }

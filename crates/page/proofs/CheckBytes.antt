@@ -9,21 +9,21 @@ use native.Mathlib.Nat.{pow-suc, div-eq-of-lt, add-mul-div-left, zero-add}
 use lib.Dec.{leb}
 use borrow.Author.Tests.{leb-true, leb-false}
 use lib.Pow.{pow-add}
-use lib.ListN.{length, getD, take, drop, replicate, length-take, length-replicate, getD-replicate}
+use lib.ListN.{length, getD, take, drop, replicate, length-replicate, getD-replicate}
 use lib.Seq.{take-add, drop-drop, take-at, drop-at, ext-getD}
 use Rattle.codec.specs.Lists.{part, eqs, All}
 use Rattle.codec.specs.Numbers.{number, bytesOf}
 use Rattle.codec.proofs.Lists.{length-part, getD-part}
-use Rattle.codec.proofs.Tests.{eqs-true, eqs-same}
+use Rattle.codec.proofs.Tests.{All-take, All-drop, All-getD, eqs-true, eqs-same}
 use Rattle.codec.proofs.Numbers.{number-bound, bytesOf-number}
+
+-- ---- general laws that codec does not have: tests, lists, numbers in two pieces
 
 -- two tests that hold together
 pub same-test : (a b : Bool) → (a ≡ true → b ≡ true) → (b ≡ true → a ≡ true) → a ≡ b
 same-test true b f g = sym (f refl)
 same-test false true f g = g refl
 same-test false false f g = refl
-
--- ---- lists
 
 -- a part in two pieces
 pub part-add : (l : List ℕ) (o a n : ℕ) → part l o (a + n) ≡ part l o a ++ part l (o + a) n
@@ -51,59 +51,13 @@ module _ (a₁ a₂ a₃ a₄ a₅ b₁ b₂ b₃ b₄ b₅ : List ℕ) where
         same-rest a₄ b₄ a₅ b₅ h₄ e₄,
       )
 
--- ---- bytes
-
--- what is known of a slice of bytes
-abbrev pub Bytes : List ℕ → Type 0
-Bytes p = (i : ℕ) → getD p i 0 < 256
-
-all-bytes : (l : List ℕ) → ((i : ℕ) → i < length l → getD l i 0 < 256) → All (λ (b : ℕ). b < 256) l
-all-bytes [] h = tt
-all-bytes (b ∷ l) h = (h 0 (omega arith), all-bytes l (λ i k. h (suc i) (omega arith)))
-
-pub part-bytes : (p : List ℕ) → Bytes p → (o n : ℕ) → All (λ (b : ℕ). b < 256) (part p o n)
-unfolding part
-part-bytes p h o n =
-    let short : length (take n (drop o p)) ≤ n = simp length-take (omega arith) in
-    all-bytes (take n (drop o p)) (λ i k. rw (getD-part p o n i (omega arith)) (h (o + i)))
-
--- the bytes of the number that stands in a part
-pub bytes-part : (p : List ℕ) → Bytes p → (o n : ℕ) → o + n ≤ length p → bytesOf n (number (part p o n)) ≡ part p o n
-bytes-part p h o n fits = ap (λ (m : ℕ). bytesOf m (number (part p o n))) (sym (length-part p o n fits)) ∙ bytesOf-number (part p o n) (part-bytes p h o n)
-
--- ---- numbers in two pieces
-
+-- the number of bytes in two pieces
 number-append : (a b : List ℕ) → number (a ++ b) ≡ number a + 256 ^ length a * number b
 unfolding number
 number-append [] b = omega arith
 number-append (x ∷ a) b = rw (pow-suc 256 (length a)) (omega (arith, number-append a b))
 
-module _ (p : List ℕ) (o a n : ℕ) (fits : o + a ≤ length p) where
-  pub number-part : number (part p o (a + n)) ≡ number (part p o a) + 256 ^ a * number (part p (o + a) n)
-  number-part =
-      ap number (part-add p o a n)
-      ∙ number-append (part p o a) (part p (o + a) n)
-      ∙ ap (λ (m : ℕ). number (part p o a) + 256 ^ m * number (part p (o + a) n)) (length-part p o a fits)
-
-  -- the number without its a low bytes
-  pub number-rest : Bytes p → number (part p o (a + n)) / 256 ^ a ≡ number (part p (o + a) n)
-  number-rest h =
-      let small : number (part p o a) < 256 ^ a = rw (length-part p o a fits) at (number-bound (part p o a) (part-bytes p h o a)) in
-      let pos : 0 < 256 ^ a = omega arith in
-      ap (λ (m : ℕ). m / 256 ^ a) number-part
-      ∙ add-mul-div-left (number (part p o a)) (number (part p (o + a) n)) pos
-      ∙ ap (λ (m : ℕ). m + number (part p (o + a) n)) (div-eq-of-lt small)
-      ∙ zero-add (number (part p (o + a) n))
-
--- k bytes are 8 * k bits
-pub bytes-bits : (k : ℕ) → 2 ^ (8 * k) ≡ 256 ^ k
-bytes-bits zero = refl
-bytes-bits (suc k) =
-    let e : 8 * suc k ≡ 8 * k + 8 = omega arith in
-    ap (λ (n : ℕ). 2 ^ n) e ∙ pow-add 2 (8 * k) 8 ∙ ap (λ (n : ℕ). n * 256) (bytes-bits k) ∙ sym (pow-suc 256 k)
-
--- ---- zero bytes
-
+-- the number of zeros
 pub zeros-number : (n : ℕ) → number (replicate n 0) ≡ 0
 unfolding number
 zeros-number zero = refl
@@ -117,17 +71,58 @@ number-zeros (b ∷ l) e =
     let g : l ≡ replicate (length l) 0 = number-zeros l (omega arith) in
     cc
 
+-- k bytes are 8 * k bits
+bytes-bits : (k : ℕ) → 2 ^ (8 * k) ≡ 256 ^ k
+bytes-bits zero = refl
+bytes-bits (suc k) =
+    let e : 8 * suc k ≡ 8 * k + 8 = omega arith in
+    ap (λ (n : ℕ). 2 ^ n) e ∙ pow-add 2 (8 * k) 8 ∙ ap (λ (n : ℕ). n * 256) (bytes-bits k) ∙ sym (pow-suc 256 k)
+
+-- ---- bytes and their numbers
+
+-- what is known of a slice of bytes
+abbrev pub Bytes : List ℕ → Type 0
+Bytes p = (i : ℕ) → getD p i 0 < 256
+
+part-bytes : (p : List ℕ) → Bytes p → (o n : ℕ) → All (λ (b : ℕ). b < 256) (part p o n)
+unfolding part
+part-bytes p h o n =
+    All-take (λ (b : ℕ). b < 256) n (drop o p) (All-drop (λ (b : ℕ). b < 256) o p (All-getD (λ (b : ℕ). b < 256) 0 p h))
+
+-- the bytes of the number that stands in a part
+pub bytes-part : (p : List ℕ) → Bytes p → (o n : ℕ) → o + n ≤ length p → bytesOf n (number (part p o n)) ≡ part p o n
+bytes-part p h o n fits = ap (λ (m : ℕ). bytesOf m (number (part p o n))) (sym (length-part p o n fits)) ∙ bytesOf-number (part p o n) (part-bytes p h o n)
+
+module _ (p : List ℕ) (o a n : ℕ) (fits : o + a ≤ length p) where
+  pub number-part : number (part p o (a + n)) ≡ number (part p o a) + 256 ^ a * number (part p (o + a) n)
+  number-part =
+      ap number (part-add p o a n)
+      ∙ number-append (part p o a) (part p (o + a) n)
+      ∙ ap (λ (m : ℕ). number (part p o a) + 256 ^ m * number (part p (o + a) n)) (length-part p o a fits)
+
+  -- the number without its a low bytes
+  number-rest : Bytes p → number (part p o (a + n)) / 256 ^ a ≡ number (part p (o + a) n)
+  number-rest h =
+      let small : number (part p o a) < 256 ^ a = rw (length-part p o a fits) at (number-bound (part p o a) (part-bytes p h o a)) in
+      let pos : 0 < 256 ^ a = omega arith in
+      ap (λ (m : ℕ). m / 256 ^ a) number-part
+      ∙ add-mul-div-left (number (part p o a)) (number (part p (o + a) n)) pos
+      ∙ ap (λ (m : ℕ). m + number (part p (o + a) n)) (div-eq-of-lt small)
+      ∙ zero-add (number (part p (o + a) n))
+
+-- ---- zero bytes
+
 -- the bytes from a on, below b, are zero
 abbrev pub Blank : List ℕ → ℕ → ℕ → Type 0
 Blank p a b = (i : ℕ) → a ≤ i → i < b → getD p i 0 ≡ 0
 
-pub blank-part : (p : List ℕ) (a n : ℕ) → a + n ≤ length p → Blank p a (a + n) → part p a n ≡ replicate n 0
+blank-part : (p : List ℕ) (a n : ℕ) → a + n ≤ length p → Blank p a (a + n) → part p a n ≡ replicate n 0
 blank-part p a n fits h =
     let e = length-part p a n fits in
     ext-getD 0 (part p a n) (replicate n 0) (e ∙ sym (length-replicate n 0))
     (λ i k. getD-part p a n i (omega arith) ∙ h (a + i) (omega arith) (omega arith) ∙ sym (getD-replicate n i 0 0 (omega arith)))
 
-pub part-blank : (p : List ℕ) (a n : ℕ) → part p a n ≡ replicate n 0 → Blank p a (a + n)
+part-blank : (p : List ℕ) (a n : ℕ) → part p a n ≡ replicate n 0 → Blank p a (a + n)
 part-blank p a n e i h k =
     let f : i ≡ a + (i - a) = omega arith in
     ap (λ (m : ℕ). getD p m 0) f ∙ sym (getD-part p a n (i - a) (omega arith)) ∙ ap (λ (l : List ℕ). getD l (i - a) 0) e ∙ getD-replicate n (i - a) 0 0 (omega arith)
@@ -152,21 +147,18 @@ module _ (p : List ℕ) (bytes : Bytes p) (o k n : ℕ) (fits : o + (k + n) ≤ 
   word-rest : number (part p o (k + n)) / 2 ^ (8 * k) ≡ number (part p (o + k) n)
   word-rest = ap (λ (m : ℕ). number (part p o (k + n)) / m) (bytes-bits k) ∙ number-rest p o k n (omega arith) bytes
 
-  pub word-blank : number (part p o (k + n)) / 2 ^ (8 * k) ≡ 0 → Blank p (o + k) (o + k + n)
+  word-blank : number (part p o (k + n)) / 2 ^ (8 * k) ≡ 0 → Blank p (o + k) (o + k + n)
   word-blank e =
       let f = number-zeros (part p (o + k) n) (sym word-rest ∙ e) in
       part-blank p (o + k) n (f ∙ ap (λ (m : ℕ). replicate m 0) (length-part p (o + k) n (omega arith)))
 
-  pub blank-word : Blank p (o + k) (o + k + n) → number (part p o (k + n)) / 2 ^ (8 * k) ≡ 0
+  blank-word : Blank p (o + k) (o + k + n) → number (part p o (k + n)) / 2 ^ (8 * k) ≡ 0
   blank-word h = word-rest ∙ ap number (blank-part p (o + k) n (omega arith) h) ∙ zeros-number n
 
 -- the word in which the byte a stands, its bytes below a left out, where the bytes up to a multiple of 8 are asked for
 module _ (p : List ℕ) (bytes : Bytes p) (a end : ℕ) (less : a < end) (even : end % 8 ≡ 0) (fits : end ≤ length p) where
   whole : a % 8 + (8 - a % 8) ≡ 8
   whole = omega arith
-
-  back : a - a % 8 + a % 8 ≡ a
-  back = omega arith
 
   pub word-from : number (part p (a - a % 8) 8) / 2 ^ (8 * (a % 8)) ≡ 0 → Blank p a (a - a % 8 + 8)
   word-from e i h k =

@@ -72,16 +72,16 @@ module _ (p : List ℕ) (bytes : Bytes p) (whole : length p ≡ pageSize) (n : �
   slots-length = count-is p ∙ sym count
 
   -- all 28 slots: those in use as they stand, and zeros
-  slots-bytes : slotBytes (padded (readHead p .slots)) ≡ part p 8 (2 * n) ++ replicate (56 - 2 * n) 0
+  slots-bytes : slotBytes (padded (readHead p .slots)) ≡ part p 8 (2 * n) ++ replicate (lineSize - (8 + 2 * n)) 0
   unfolding padded readHead
   slots-bytes =
       let os = slotsIn (number (part p 0 2)) (drop 8 p) in
       let used : slotBytes os ≡ part p 8 (2 * n) = ap (λ (k : ℕ). slotBytes (slotsIn k (drop 8 p))) (sym count) ∙ slots-part p bytes n 8 (omega arith) in
-      let free : 2 * (slotCount - length os) ≡ 56 - 2 * n = omega (arith, slots-length) in
+      let free : 2 * (slotCount - length os) ≡ lineSize - (8 + 2 * n) = omega (arith, slots-length) in
       slotBytes-append os (replicate (slotCount - length os) 0) ∙ rw (used, slotBytes-zeros (slotCount - length os), free)
 
-  slots-split : part p 8 56 ≡ part p 8 (2 * n) ++ part p (8 + 2 * n) (56 - 2 * n)
-  slots-split = let e : 56 ≡ 2 * n + (56 - 2 * n) = omega arith in ap (part p 8) e ∙ part-add p 8 (2 * n) (56 - 2 * n)
+  slots-split : part p 8 56 ≡ part p 8 (2 * n) ++ part p (8 + 2 * n) (lineSize - (8 + 2 * n))
+  slots-split = let e : 56 ≡ 2 * n + (lineSize - (8 + 2 * n)) = omega arith in ap (part p 8) e ∙ part-add p 8 (2 * n) (lineSize - (8 + 2 * n))
 
   line-split : take lineSize p ≡ part p 0 2 ++ (part p 2 2 ++ (part p 4 2 ++ (part p 6 2 ++ part p 8 56)))
   unfolding part
@@ -100,7 +100,7 @@ module _ (p : List ℕ) (bytes : Bytes p) (whole : length p ≡ pageSize) (n : �
       × (part p 6 2 ≡ bytesOf 2 (h .own))
       × (part p 8 56 ≡ slotBytes (padded (h .slots)))
 
-  pub line-facts : take lineSize p ≡ headerBytes (readHead p) → (getD p 5 0 ≡ 0) × (part p (8 + 2 * n) (56 - 2 * n) ≡ replicate (56 - 2 * n) 0)
+  pub line-facts : take lineSize p ≡ headerBytes (readHead p) → (getD p 5 0 ≡ 0) × (part p (8 + 2 * n) (lineSize - (8 + 2 * n)) ≡ replicate (lineSize - (8 + 2 * n)) 0)
   unfolding headerBytes Pieces
   line-facts line =
       let h = readHead p in
@@ -114,7 +114,7 @@ module _ (p : List ℕ) (bytes : Bytes p) (whole : length p ≡ pageSize) (n : �
       let five : getD p 5 0 ≡ 0 = ap (λ (l : List ℕ). getD l 1 0) (sym (part-two p 4 (omega arith)) ∙ k .2) in
       (five, same-rest (part p 8 (2 * n)) (part p 8 (2 * n)) _ _ refl (sym slots-split ∙ k .4 ∙ slots-bytes))
 
-  pub facts-line : getD p 5 0 ≡ 0 → part p (8 + 2 * n) (56 - 2 * n) ≡ replicate (56 - 2 * n) 0 → take lineSize p ≡ headerBytes (readHead p)
+  pub facts-line : getD p 5 0 ≡ 0 → part p (8 + 2 * n) (lineSize - (8 + 2 * n)) ≡ replicate (lineSize - (8 + 2 * n)) 0 → take lineSize p ≡ headerBytes (readHead p)
   unfolding headerBytes Pieces readHead
   facts-line five free =
       let k : Pieces = (
@@ -165,13 +165,10 @@ module _ (kind own : ℕ) (p : List ℕ) where
   pub head-blank : Bytes p → length p ≡ pageSize → (n : ℕ) → n ≡ number (part p 0 2) → n ≤ slotCount →
       number (part p 2 2) % 8 ≡ 0 → lineSize ≤ number (part p 2 2) → number (part p 2 2) ≤ pageSize →
       getD p 4 0 ≡ kind → getD p 5 0 ≡ 0 → number (part p 6 2) ≡ own →
-      eqs (part p (8 + 2 * n) (64 - (8 + 2 * n))) (replicate (64 - (8 + 2 * n)) 0) ≡ headB kind own p
+      eqs (part p (8 + 2 * n) (lineSize - (8 + 2 * n))) (replicate (lineSize - (8 + 2 * n)) 0) ≡ headB kind own p
   head-blank bytes whole n count few even low high four five six = same-test _ _ there back
     where
-      e : 64 - (8 + 2 * n) ≡ 56 - 2 * n
-      e = omega arith
-
-      there : eqs (part p (8 + 2 * n) (64 - (8 + 2 * n))) (replicate (64 - (8 + 2 * n)) 0) ≡ true → headB kind own p ≡ true
+      there : eqs (part p (8 + 2 * n) (lineSize - (8 + 2 * n))) (replicate (lineSize - (8 + 2 * n)) 0) ≡ true → headB kind own p ≡ true
       there t =
           headed-head
           (record {
@@ -185,10 +182,10 @@ module _ (kind own : ℕ) (p : List ℕ) where
                   kindFits = rw (kind-is p) (bytes 4);
                   ownFits = omega (arith, own-is p, number-two p 6 (omega arith), bytes 6, bytes 7);
                 };
-            line = facts-line p bytes whole n count few five (rw e at (eqs-true _ _ t));
+            line = facts-line p bytes whole n count few five (eqs-true _ _ t);
             kind = kind-is p ∙ four;
             own = own-is p ∙ six;
           })
 
-      back : headB kind own p ≡ true → eqs (part p (8 + 2 * n) (64 - (8 + 2 * n))) (replicate (64 - (8 + 2 * n)) 0) ≡ true
-      back t = rw (e, line-facts p bytes whole n count few (head-headed t .line) .1) (eqs-same _)
+      back : headB kind own p ≡ true → eqs (part p (8 + 2 * n) (lineSize - (8 + 2 * n))) (replicate (lineSize - (8 + 2 * n)) 0) ≡ true
+      back t = rw (line-facts p bytes whole n count few (head-headed t .line) .1) (eqs-same _)

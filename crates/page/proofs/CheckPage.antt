@@ -1,26 +1,23 @@
 -- What a pass over the listed records keeps: the least key that may come next and the units taken, with what is left to be shown of the rest.
 -- Assumes nothing.
-use Prim.Native.Nat.{ℕ, zero, suc, _+_, _-_, _*_, _/_, _^_, _≤_, _<_}
+use Prim.Native.Nat.{ℕ, suc, _+_, _-_, _*_, _/_, _^_, _≤_, _<_}
 use mathlib.Core.Path.{_≡_, refl, sym, ap, _∙_}
 use mathlib.Core.Bool.{Bool, true, false, false≢true}
-use mathlib.Core.List.{List, [], _∷_, map}
+use mathlib.Core.List.{List, [], _∷_}
 use mathlib.Core.Logic.{_⊎_, inl, inr}
 use native.Mathlib.Omega.{arith}
-use native.Mathlib.Numerals.{add-one}
-use native.Mathlib.Nat.{not-suc-le-zero}
-use lib.ListN.{length, getD, drop, length-map, List·getD-map, drop-of-length-le}
-use lib.Seq.{drop-cons, drop-drop}
+use lib.ListN.{length, drop, drop-of-length-le}
 use lib.Bits.{bitAnd, bitOr, and-comm}
 use lib.Dec.{leb, eqb}
 use borrow.Author.Tests.{leb-true, le-leb}
 use Rattle.codec.specs.Lists.{part, All, pick}
 use Rattle.codec.specs.Numbers.{number}
 use Rattle.codec.proofs.Tests.{first, second, both, All-map}
-use Rattle.page.specs.Layout.{leafKind, Rec, up8, size, recordAt, readHead, slotsIn}
-use Rattle.page.specs.Page.{Entry, entryAt, recs, entries, formOk, startsAt, keysRise, pageOk, Held, Off, Apart, PageOk}
+use Rattle.page.specs.Layout.{leafKind, Rec, up8, size, recordAt, readHead}
+use Rattle.page.specs.Page.{Entry, entryAt, recs, entries, records, formOk, startsAt, keysRise, pageOk, Held, Off, Apart, PageOk}
 use Rattle.page.proofs.Records.{size-even, size-least}
-use Rattle.page.proofs.Headers.{length-slotsIn}
-use Rattle.page.proofs.Facts.{length-entries, at-entries, recs-entries, is-ok, ok-is, true-pageOk, not-pageOk}
+use Rattle.page.proofs.Listed.{entries-next}
+use Rattle.page.proofs.Facts.{length-entries, length-records, at-entries, recs-entries, is-ok, ok-is, true-pageOk, not-pageOk}
 use Rattle.page.proofs.CheckRecord.{fitting}
 use Rattle.page.proofs.CheckHeader.{Headed, headB, headed-head}
 use Rattle.page.proofs.CheckBits.{run, run-before, run-off, free-first, free-second, free-both}
@@ -78,16 +75,16 @@ module _ {ℓ} {A : Type ℓ} (P Q R : A → Type 0) (f : (x : A) → P x → Q 
   All-zip (x ∷ l) p q = (f x (p .0) (q .0), All-zip l (p .1) (q .1))
 
 module _ (kind : ℕ) (p : List ℕ) (low marks : ℕ) where
-  pub left-end : Left kind p low marks []
+  left-end : Left kind p low marks []
   unfolding startsAt keysRise
   left-end = record { held = tt; apart = tt; clear = tt; forms = tt; above = refl; rise = refl }
 
   module _ (e : Entry) (es : List Entry) where
-    pub left-first : Left kind p low marks (e ∷ es) → Next kind p low marks e
+    left-first : Left kind p low marks (e ∷ es) → Next kind p low marks e
     unfolding startsAt
     left-first k = record { held = k .held .0; form = k .forms .0; above = leb-true _ _ (k .above); clear = k .clear .0 }
 
-    pub left-rest : Left kind p low marks (e ∷ es) → Left kind p (suc (e .rec .key)) (bitOr marks (units e)) es
+    left-rest : Left kind p low marks (e ∷ es) → Left kind p (suc (e .rec .key)) (bitOr marks (units e)) es
     unfolding keysRise
     left-rest k =
         let others = All-zip (Held p (readHead p .start)) (Off e) (Clear (units e)) (λ f h o. off-units p (readHead p .start) e f (k .held .0) h o) es (k .held .1) (k .apart .0) in
@@ -100,7 +97,7 @@ module _ (kind : ℕ) (p : List ℕ) (low marks : ℕ) where
           rise = second (startsAt (suc (e .rec .key)) (recs es)) (keysRise (recs es)) (k .rise);
         }
 
-    pub next-left : Next kind p low marks e → Left kind p (suc (e .rec .key)) (bitOr marks (units e)) es → Left kind p low marks (e ∷ es)
+    next-left : Next kind p low marks e → Left kind p (suc (e .rec .key)) (bitOr marks (units e)) es → Left kind p low marks (e ∷ es)
     unfolding keysRise startsAt
     next-left n k =
         let taken = bitOr marks (units e) in
@@ -166,7 +163,7 @@ module _ (kind own : ℕ) (p : List ℕ) where
   pub head-stop : headB kind own p ≡ false → pageOk kind own p ≡ false
   head-stop e = not-pageOk kind own p (λ k. false≢true (sym e ∙ headed-head kind own p (page-headed k)))
 
-  pub page-left : PageOk kind own p → Left kind p (least kind) 0 (entries p)
+  page-left : PageOk kind own p → Left kind p (least kind) 0 (entries p)
   page-left k =
       let i = ok-is p (k .laid) in
       let e = recs-entries p in
@@ -180,7 +177,7 @@ module _ (kind own : ℕ) (p : List ℕ) where
         rise = rw (← e) at (k .rise);
       }
 
-  pub left-page : Headed kind own p → Left kind p (least kind) 0 (entries p) → PageOk kind own p
+  left-page : Headed kind own p → Left kind p (least kind) 0 (entries p) → PageOk kind own p
   left-page h k =
       let e = recs-entries p in
       record {
@@ -191,25 +188,6 @@ module _ (kind own : ℕ) (p : List ℕ) where
         rise = rw e at (k .rise);
       }
 
--- ---- the i-th listed record
-
-slot-at : (n i : ℕ) (p : List ℕ) (o : ℕ) → i < n → getD (slotsIn n (drop o p)) i 0 ≡ number (part p (o + 2 * i) 2)
-unfolding slotsIn part
-slot-at zero i p o h = absurd (not-suc-le-zero h)
-slot-at (suc n) zero p o h = let e : o + 2 * 0 ≡ o = omega arith in rw e
-slot-at (suc n) (suc i) p o h =
-    let e : o + 2 * suc i ≡ o + 2 + 2 * i = omega arith in
-    rw (drop-drop 2 o p, e) (slot-at n i p (o + 2) (omega arith))
-
-pub entries-next : (p : List ℕ) (i : ℕ) → i < length (readHead p .slots) → drop i (entries p) ≡ entryAt p (number (part p (8 + 2 * i) 2)) ∷ drop (i + 1) (entries p)
-unfolding entries readHead
-entries-next p i h =
-    let n = number (part p 0 2) in
-    let os = slotsIn n (drop 8 p) in
-    let long : i < length (map (entryAt p) os) = omega (arith, length-map os (entryAt p)) in
-    let less : i < n = omega (arith, length-slotsIn n (drop 8 p)) in
-    drop-cons (map (entryAt p) os) i (entryAt p 0) long ∙ rw (List·getD-map (entryAt p) os i 0, slot-at n i p 8 less, add-one)
-
 -- ---- a pass: the i-th record comes next, and what is left to be shown of the rest is as much as of all
 
 pub record Pass (kind : ℕ) (p : List ℕ) (low marks i : ℕ) : Type 0 where
@@ -217,19 +195,18 @@ pub record Pass (kind : ℕ) (p : List ℕ) (low marks i : ℕ) : Type 0 where
   pub there : Left kind p (least kind) 0 (entries p) → Left kind p low marks (drop i (entries p))
   pub back : Left kind p low marks (drop i (entries p)) → Left kind p (least kind) 0 (entries p)
 
-module _ (kind : ℕ) (p : List ℕ) where
-  pub pass-start : (low marks : ℕ) → low ≡ least kind → marks ≡ 0 → Pass kind p low marks 0
-  pass-start low marks e f = rw (e, f) (record { above = omega arith; there = λ k. k; back = λ k. k })
+pub pass-start : (kind : ℕ) (p : List ℕ) (low marks : ℕ) → low ≡ least kind → marks ≡ 0 → Pass kind p low marks 0
+pass-start kind p low marks e f = rw (e, f) (record { above = omega arith; there = λ k. k; back = λ k. k })
 
 module _ (kind own : ℕ) (p : List ℕ) (low marks i : ℕ) (pass : Pass kind p low marks i) where
-  pub pass-end : Headed kind own p → length (readHead p .slots) ≤ i → pageOk kind own p ≡ true
+  pub pass-end : Headed kind own p → length (records p) ≤ i → pageOk kind own p ≡ true
   pass-end h done =
-      let none : drop i (entries p) ≡ [] = drop-of-length-le (entries p) {i = i} (omega (arith, length-entries p)) in
+      let none : drop i (entries p) ≡ [] = drop-of-length-le (entries p) {i = i} (omega (arith, length-entries p, length-records p)) in
       true-pageOk kind own p (left-page kind own p h (pass .back (rw none (left-end kind p low marks))))
 
-  module _ (o : ℕ) (at : o ≡ number (part p (8 + 2 * i) 2)) (less : i < length (readHead p .slots)) where
+  module _ (o : ℕ) (at : o ≡ number (part p (8 + 2 * i) 2)) (less : i < length (records p)) where
     next : drop i (entries p) ≡ entryAt p o ∷ drop (i + 1) (entries p)
-    next = rw at (entries-next p i less)
+    next = entries-next p i less o at
 
     pub pass-stop : (Next kind p low marks (entryAt p o) → ⊥) → pageOk kind own p ≡ false
     pass-stop not = not-pageOk kind own p (λ k. not (left-first kind p low marks (entryAt p o) (drop (i + 1) (entries p)) (rw next at (pass .there (page-left kind own p k)))))

@@ -114,18 +114,20 @@ module _ (p : List ℕ) (o : ℕ) (r : Rec) (fits : o + size r ≤ length p) whe
   unfolding recordBytes
   pieces-record k = size-pieces ∙ (λ i. k .0 i ++ (k .1 i ++ (k .2 i ++ (k .3 i ++ k .4 i))))
 
--- of a record that is laid out, the word after the key is the length alone
+-- the word after the key: the length and the six zeros
+word-split : (p : List ℕ) (o : ℕ) → o + 16 ≤ length p → number (part p (o + 8) 8) ≡ number (part p (o + 8) 2) + 65536 * number (part p (o + 10) 6)
+word-split p o fits = let e : o + 8 + 2 ≡ o + 10 = omega arith in rw e at (number-part p (o + 8) 2 6 (omega arith))
+
+-- of a record that is laid out, it is the length alone
 held-word : (p : List ℕ) (start o : ℕ) → length p ≡ pageSize → Held p start (entryAt p o) → number (part p (o + 8) 8) ≡ length (recordAt p o .value)
 held-word p start o whole k =
     let r = recordAt p o in
     let pieces = record-pieces p o r (omega (arith, k .high)) (k .bytes) in
-    let e : o + 8 + 2 ≡ o + 10 = omega arith in
     let two : number (part p (o + 8) 2) ≡ length (r .value) = ap number (pieces .1) ∙ number-bytesOf 2 (length (r .value)) (omega (arith, k .ok .few)) in
     let none : number (part p (o + 10) 6) ≡ 0 = ap number (pieces .2) ∙ zeros-number 6 in
-    let split = rw e at (number-part p (o + 8) 2 6 (omega (arith, k .high, size-least r))) in
-    omega arith
+    omega (arith, word-split p o (omega (arith, k .high, size-least r)))
 
--- its numbers, as the code reads them
+-- the numbers of a record that is laid out, as the code reads them
 pub record Numbers (p : List ℕ) (o : ℕ) : Type 0 where
   pub inside : o + 16 ≤ pageSize
   pub word : number (part p (o + 8) 8) ≡ length (recordAt p o .value)
@@ -164,23 +166,22 @@ module _ (kind : ℕ) (p : List ℕ) (start o : ℕ) where
   pub not-record : (Held p start (entryAt p o) → fitting kind (length (recordAt p o .value)) ≡ true → ⊥) → recordB kind p start o ≡ false
   not-record h = not-true (recordB kind p start o) (λ t. h (record-held t) (record-fits t))
 
--- what that word says, where it is a length
-module _ (p : List ℕ) (o n : ℕ) (inside : o + 16 ≤ length p) (word : n ≡ number (part p (o + 8) 8)) (few : n ≤ valueMost) where
-  word-split : number (part p (o + 8) 8) ≡ number (part p (o + 8) 2) + 65536 * number (part p (o + 10) 6)
-  word-split = let e : o + 8 + 2 ≡ o + 10 = omega arith in rw e at (number-part p (o + 8) 2 6 (omega arith))
+-- ---- the tests, one by one
 
+-- what the word says, where it is a length
+module _ (p : List ℕ) (o n : ℕ) (inside : o + 16 ≤ length p) (word : n ≡ number (part p (o + 8) 8)) (few : n ≤ valueMost) where
   word-six : part p (o + 10) 6 ≡ replicate 6 0
-  word-six = number-zeros (part p (o + 10) 6) (omega (arith, word-split)) ∙ ap (λ (m : ℕ). replicate m 0) (length-part p (o + 10) 6 (omega arith))
+  word-six = number-zeros (part p (o + 10) 6) (omega (arith, word-split p o inside)) ∙ ap (λ (m : ℕ). replicate m 0) (length-part p (o + 10) 6 (omega arith))
 
   word-count : n ≡ number (part p (o + 8) 2)
-  word-count = omega (arith, word-split)
+  word-count = omega (arith, word-split p o inside)
 
 module _ (p : List ℕ) (bytes : Bytes p) (whole : length p ≡ pageSize) (o n : ℕ) (word : n ≡ number (part p (o + 8) 8)) (few : n ≤ valueMost) (inside : o + (16 + up8 n) ≤ pageSize) where
   value-length : length (recordAt p o .value) ≡ n
   value-length =
       ap (λ (r : Rec). length (r .value)) (record-is p o n (word-count p o n (omega arith) word few)) ∙ length-part p (o + 16) n (omega (arith, up8-least n))
 
-  pub size-is : size (recordAt p o) ≡ 16 + up8 n
+  size-is : size (recordAt p o) ≡ 16 + up8 n
   unfolding size
   size-is = ap (λ (m : ℕ). 16 + up8 m) value-length
 

@@ -10,8 +10,20 @@ ghost use Rattle.codec.specs.Lists.{part, eqs, every, pick};
 ghost use Rattle.page.specs.Layout.{pageSize, lineSize, leafKind, valueMost, recordAt, headerBytes, readHead};
 ghost use Rattle.page.specs.Page.{entryAt, headOk, heldB, pageOk};
 
+const PAGE: usize = 1024;
+
+const LINE: usize = 64;
+
+const SLOTS: usize = 28;
+
+const LEAF: u8 = 1;
+
+const TOP_KEY: u64 = 999_999_999_999;
+
+const VALUE_MOST: u64 = 200;
+
 // A set of the page's 128 units of eight bytes, a bit for each: the lower 64 and the higher 64.
-pub(crate) struct Marks {
+struct Marks {
     low: u64,
     high: u64,
 }
@@ -63,7 +75,7 @@ impl Marks {
     }
 }
 
-// Whether the bytes from `at` on, up to `end`, are zero. A word's bytes below `at` are shifted out of its number.
+// Whether the bytes from `at` on, up to `end`, are zero: a word at a time, whose bytes below `at` are shifted out.
 fn blank(page: &[u8], at: usize, end: usize) -> bool
     requires { ⌜ (at ≤ end) × (end ≤ length (now page)) × (end % 8 ≡ 0) ⌝ }
     ensures { λ r. ⌜ r ≡ eqs (part (now (page .entry)) at (end - at)) (replicate (end - at) 0) ⌝ }
@@ -81,23 +93,24 @@ fn blank(page: &[u8], at: usize, end: usize) -> bool
 
 // Whether the header is laid out as it must be, and is of this kind and number.
 fn head_ok(page: &[u8], kind: u8, own: usize) -> bool
-    ensures { λ r. ⌜ r ≡ every (eqb (length (now (page .entry))) pageSize ∷ headOk (readHead (now (page .entry))) ∷ eqs (take lineSize (now (page .entry))) (headerBytes (readHead (now (page .entry)))) ∷ eqb (readHead (now (page .entry)) .kind) kind ∷ eqb (readHead (now (page .entry)) .own) own ∷ []) ⌝ }
+    ensures { λ r. ⌜ (let p = now (page .entry) in let h = readHead p in
+        r ≡ every (eqb (length p) pageSize ∷ headOk h ∷ eqs (take lineSize p) (headerBytes h) ∷ eqb (h .kind) kind ∷ eqb (h .own) own ∷ [])) ⌝ }
 {
-    if page.len() != 1024 {
+    if page.len() != PAGE {
         return false;
     }
     let count = codec::number_at(page, 0);
-    if 28 < count {
+    if SLOTS < count {
         return false;
     }
     let start = codec::number_at(page, 2);
     if start % 8 != 0 {
         return false;
     }
-    if start < 64 {
+    if start < LINE {
         return false;
     }
-    if 1024 < start {
+    if PAGE < start {
         return false;
     }
     if page[4] != kind {
@@ -109,40 +122,35 @@ fn head_ok(page: &[u8], kind: u8, own: usize) -> bool
     if codec::number_at(page, 6) != own {
         return false;
     }
-    blank(page, 8 + 2 * count, 64)
+    // "Slots past the count are zero."
+    blank(page, 8 + 2 * count, LINE)
 }
 
-// The least and the most bytes of a value in a page of this kind: "values 0 to 200 bytes", in an index "a 2-byte page number".
-fn fewest(kind: u8) -> u64
-    ensures { λ r. ⌜ r ≡ pick (eqb kind leafKind) 0 2 ⌝ }
+// The first of two numbers for a leaf, the second for an index.
+fn by_kind(kind: u8, leaf: u64, index: u64) -> u64
+    ensures { λ r. ⌜ r ≡ pick (eqb kind leafKind) leaf index ⌝ }
 {
-    if kind == 1 {
-        return 0;
+    if kind == LEAF {
+        return leaf;
     }
-    2
+    index
 }
 
-fn most(kind: u8) -> u64
-    ensures { λ r. ⌜ r ≡ pick (eqb kind leafKind) valueMost 2 ⌝ }
-{
-    if kind == 1 {
-        return 200;
-    }
-    2
-}
-
-// Whether a value of n bytes may stand in a page of this kind. A difference that wraps is one test for both ends.
+// Whether a value of n bytes may stand in a page of this kind: "values 0 to 200 bytes", in an index "a 2-byte page number".
+// The difference wraps, so that one test is for both ends.
 fn length_ok(kind: u8, n: u64) -> bool
     ensures { λ r. ⌜ r ≡ pick (eqb kind leafKind) (leb n valueMost) (eqb n 2) ⌝ }
 {
-    let low = fewest(kind);
-    std::num::wrapping_sub_u64(n, low) <= most(kind) - low
+    let fewest = by_kind(kind, 0, 2);
+    let most = by_kind(kind, VALUE_MOST, 2);
+    std::num::wrapping_sub_u64(n, fewest) <= most - fewest
 }
 
-// Whether a record stands at `at`, not below start, laid out as it must be and with a value as long as its kind has it.
+// Whether a record stands at `at`, not below start, laid out as it must be and as long as its kind has it.
 fn record_ok(page: &[u8], kind: u8, start: usize, at: usize) -> bool
     requires { ⌜ (length (now page) ≡ pageSize) × (at < 65536) ⌝ }
-    ensures { λ r. ⌜ r ≡ (heldB (now (page .entry)) start (entryAt (now (page .entry)) at) && pick (eqb kind leafKind) true (eqb (length (recordAt (now (page .entry)) at .value)) 2)) ⌝ }
+    ensures { λ r. ⌜ (let p = now (page .entry) in
+        r ≡ (heldB p start (entryAt p at) && pick (eqb kind leafKind) true (eqb (length (recordAt p at .value)) 2))) ⌝ }
 {
     if at < start {
         return false;
@@ -150,7 +158,7 @@ fn record_ok(page: &[u8], kind: u8, start: usize, at: usize) -> bool
     if at % 8 != 0 {
         return false;
     }
-    if 1008 < at {
+    if PAGE < at + 16 {
         return false;
     }
     // The length and the six zeros after it are one number.
@@ -160,23 +168,13 @@ fn record_ok(page: &[u8], kind: u8, start: usize, at: usize) -> bool
     }
     let length = n as usize;
     let end = at + 16 + (length + 7) / 8 * 8;
-    if 1024 < end {
+    if PAGE < end {
         return false;
     }
-    if 999_999_999_999 < codec::long_at(page, at) {
+    if TOP_KEY < codec::long_at(page, at) {
         return false;
     }
     blank(page, at + 16 + length, end)
-}
-
-// The least key of a page of this kind.
-fn least_key(kind: u8) -> u64
-    ensures { λ r. ⌜ r ≡ pick (eqb kind leafKind) 1 0 ⌝ }
-{
-    if kind == 1 {
-        return 1;
-    }
-    0
 }
 
 // Whether a page is sound as the page of this kind and number.
@@ -188,7 +186,8 @@ pub fn page_ok(page: &[u8], kind: u8, own: usize) -> bool
     }
     let count = codec::number_at(page, 0);
     let start = codec::number_at(page, 2);
-    let mut low = least_key(kind);
+    // The least key that may come next, "1 to .." in a leaf and "0 to .." in an index, and the units that are taken.
+    let mut low = by_kind(kind, 1, 0);
     let mut marks = Marks::none();
     let mut i = 0;
     while i < count {

@@ -6,7 +6,7 @@ use mathlib.Core.List.{List, [], _∷_}
 use lib.ListN.{length}
 use lib.Dec.{eqb, leb}
 use Rattle.codec.specs.Lists.{splice, pick}
-use Rattle.device.specs.Tape.{tapeBytes, flushCount}
+use Rattle.device.specs.Tape.{tapeBytes}
 use Rattle.device.specs.Calls.{imageSize, workSize, logFull, tapeShort, isImageSize}
 use Rattle.device.specs.declared.Refusal.{Refusal}
 use Rattle.device.specs.declared.Answer.{Answer}
@@ -14,7 +14,7 @@ use Rattle.device.specs.declared.Answer.the-variants as answers
 use Rattle.image.specs.Calls.{checkCall}
 use Rattle.edit.specs.EditList.{Edit, Listed, listed, faulty, editList}
 use Rattle.journal.specs.Changes.{changedPages}
-use Rattle.journal.specs.Tape.{Taken, roomInLog, takenFor}
+use Rattle.journal.specs.Tape.{Taken, commitOf, roomInLog, takenFor}
 use Rattle.tree.specs.Whole.{Outcome, finished, stopped, editsOn, editedImage}
 use Rattle.journal.specs.declared.Commit.{Commit}
 use Rattle.transaction.specs.declared.Transacted.{Transacted}
@@ -35,7 +35,7 @@ unfoldable pub acceptedWith : Taken → List ℕ → Result
 acceptedWith t tape =
     let bytes = tapeBytes (t .tape) in
     record {
-      answer = Accepted (record { place = t .place; bytes = length bytes; flushes = flushCount (t .tape) });
+      answer = Accepted (commitOf t);
       work = t .work;
       tape = splice tape 0 bytes;
     }

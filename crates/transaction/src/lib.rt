@@ -1,4 +1,5 @@
-// The transaction: a list of edits made on an image, with the tape that commits them.
+// The transaction: a list of edits made on an image, with the tape that commits them. Its definition is in specs/, what it answers in
+// proofs/; the code that makes the edits is in tree_edit, and the code that writes the tape in tape_write.
 use device::Refusal;
 use journal::Commit;
 

@@ -5,5 +5,7 @@
 pub mod damage;
 pub mod images;
 pub mod lists;
+pub mod logs;
 pub mod random;
+pub mod stores;
 pub mod tapes;

@@ -1,110 +1,252 @@
-//! Edit lists for a store that holds given keys.
+//! Edit lists for a store that holds given keys: lists that can be made, and
+//! lists with a fault.
 
 use crate::images::LAST_KEY;
 use crate::random::Random;
-use std::collections::BTreeSet;
+
+/// Edits, each as its own bytes, and the keys that the store holds after them,
+/// rising.
+pub struct List {
+    pub edits: Vec<Vec<u8>>,
+    present: Vec<u64>,
+}
+
+/// What the edits of one list have in common.
+#[derive(Clone, Copy)]
+struct Manner {
+    /// The kind that most edits have; 0 if none.
+    favourite: u8,
+    longest: usize,
+    /// A key that most others are beside, so that they meet in one leaf.
+    near: Option<u64>,
+}
+
+/// What may be wrong with a list, and the refusal that it then gets if nothing
+/// comes before it.
+pub const FAULTS: [(&str, u8); 11] = [
+    ("no edit", 5),
+    ("a seventeenth edit", 5),
+    ("head cut short", 5),
+    ("unknown kind", 5),
+    ("delete with a length", 5),
+    ("length above 200", 7),
+    ("value cut short", 5),
+    ("key out of range", 6),
+    ("insert of a key present", 8),
+    ("update of a missing key", 9),
+    ("delete of a missing key", 9),
+];
+
+/// A list of edits, most of them possible one after the other on a store with
+/// these keys, which rise; one list in eight has a fault.
+pub fn any_list(random: &mut Random, keys: &[u64]) -> Vec<u8> {
+    let mut list = List::any(random, keys);
+    if random.one_in(8) {
+        let fault = random.below(FAULTS.len());
+        list.spoil(random, fault);
+    }
+    list.bytes()
+}
 
 /// One edit's bytes.
 fn edit(random: &mut Random, kind: u8, key: u64, length: usize) -> Vec<u8> {
     let mut bytes = vec![kind, length as u8];
     bytes.extend(key.to_le_bytes());
-    bytes.extend(random.bytes(length));
+    // Words of zeros often make no store.
+    match random.below(4) {
+        0 => bytes.resize(10 + length, 0),
+        _ => bytes.extend(random.bytes(length)),
+    }
     bytes
 }
 
-/// A list of edits, most of them possible one after the other on a store with
-/// these keys; one list in eight is damaged, or asks for the impossible.
-pub fn any_list(random: &mut Random, keys: &[u64]) -> Vec<u8> {
-    if keys.len() >= 16 && random.one_in(5) {
-        return spread_list(random, keys);
-    }
-    let mut present: BTreeSet<u64> = keys.iter().copied().collect();
-    let count = match random.below(6) {
-        0 => 16,
-        1 => random.between(1, 16),
-        2 | 3 => random.between(1, 4),
-        _ => 1,
-    };
-    let favourite = random.pick(&[1, 2, 2, 3, 0, 0]);
-    let longest = random.pick(&[8, 8, 40, 200]);
-    let mut list = Vec::new();
-    for _ in 0..count {
-        let kind = if favourite > 0 && !random.one_in(4) {
-            favourite
-        } else {
-            random.pick(&[1, 2, 3])
+impl List {
+    /// A list whose keys are right: 1 to 16 edits of every mix.
+    pub fn any(random: &mut Random, keys: &[u64]) -> List {
+        if keys.len() >= 16 && random.one_in(4) {
+            return List::spread(random, keys);
+        }
+        let mut list = List {
+            edits: Vec::new(),
+            present: keys.to_vec(),
         };
-        list.extend(one_edit(random, &mut present, kind, longest));
+        let count = match random.below(6) {
+            0 => 16,
+            1 => random.between(1, 16),
+            2 | 3 => random.between(1, 4),
+            _ => 1,
+        };
+        let manner = Manner {
+            favourite: random.pick(&[1, 1, 2, 2, 3, 0, 0]),
+            longest: random.pick(&[8, 40, 200, 200]),
+            near: random.one_in(3).then(|| list.any_key(random)),
+        };
+        for _ in 0..count {
+            list.add(random, manner);
+        }
+        list
     }
-    if random.one_in(8) {
-        damage(random, &mut list, &present);
-    }
-    list
-}
 
-/// Updates and deletes far apart, so in as many leaves as can be.
-fn spread_list(random: &mut Random, keys: &[u64]) -> Vec<u8> {
-    let count = random.pick(&[2, 4, 8, 15, 16, 16]);
-    let keys = (0..count).map(|i| keys[i * keys.len() / count]);
-    keys.flat_map(|key| match random.below(20) {
-        0 => edit(random, 3, key, 0),
-        _ => edit(random, 2, key, 8),
-    })
-    .collect()
-}
-
-/// An edit that is possible now, of this kind if there is one.
-fn one_edit(random: &mut Random, present: &mut BTreeSet<u64>, kind: u8, longest: usize) -> Vec<u8> {
-    let kind = if present.is_empty() { 1 } else { kind };
-    let length = if random.one_in(2) {
-        longest
-    } else {
-        random.between(0, longest)
-    };
-    if kind == 1 {
-        let key = new_key(random, present);
-        present.insert(key);
-        return edit(random, 1, key, length);
+    /// Updates far apart, so in as many leaves as can be; a few are deletes.
+    pub fn spread(random: &mut Random, keys: &[u64]) -> List {
+        let mut list = List {
+            edits: Vec::new(),
+            present: keys.to_vec(),
+        };
+        let count = random.pick(&[2, 4, 8, 15, 16, 16]);
+        for i in 0..count {
+            let key = keys[i * keys.len() / count];
+            if random.one_in(60) {
+                list.present.retain(|&other| other != key);
+                list.edits.push(edit(random, 3, key, 0));
+            } else {
+                list.edits.push(edit(random, 2, key, 8));
+            }
+        }
+        list
     }
-    let key = *present.iter().nth(random.below(present.len())).unwrap();
-    if kind == 3 {
-        present.remove(&key);
-        return edit(random, 3, key, 0);
-    }
-    edit(random, 2, key, length)
-}
 
-/// A key that is not present: small, beside another, or anywhere.
-fn new_key(random: &mut Random, present: &BTreeSet<u64>) -> u64 {
-    loop {
-        let key = match random.below(4) {
+    pub fn bytes(&self) -> Vec<u8> {
+        self.edits.concat()
+    }
+
+    /// An edit more that is then possible, of the favoured kind mostly.
+    fn add(&mut self, random: &mut Random, manner: Manner) {
+        let kind = match manner.favourite {
+            _ if self.present.is_empty() => 1,
+            0 => random.pick(&[1, 2, 3]),
+            _ if random.one_in(4) => random.pick(&[1, 2, 3]),
+            favourite => favourite,
+        };
+        let length = match random.below(2) {
+            0 => manner.longest,
+            _ => random.between(0, manner.longest),
+        };
+        let near = manner.near.filter(|_| !random.one_in(8));
+        if kind == 1 {
+            let key = self.new_key(random, near);
+            let at = self.present.partition_point(|&other| other < key);
+            self.present.insert(at, key);
+            return self.edits.push(edit(random, 1, key, length));
+        }
+        let at = match near {
+            None => random.below(self.present.len()),
+            Some(key) => {
+                let at = self.present.partition_point(|&other| other < key);
+                (at + random.below(4)).min(self.present.len() - 1)
+            }
+        };
+        let key = self.present[at];
+        if kind == 3 {
+            self.present.remove(at);
+            return self.edits.push(edit(random, 3, key, 0));
+        }
+        self.edits.push(edit(random, 2, key, length));
+    }
+
+    /// A key that is present, if one is.
+    fn any_key(&self, random: &mut Random) -> u64 {
+        match self.present.len() {
             0 => 1 + random.number() % LAST_KEY,
-            1 => 1 + random.number() % 100,
-            _ if present.is_empty() => 1,
-            _ => *present.iter().nth(random.below(present.len())).unwrap() + 1,
-        };
-        if key <= LAST_KEY && !present.contains(&key) {
-            return key;
+            count => self.present[random.below(count)],
         }
     }
+
+    /// A key that is not present: at a limit, small, beside another, anywhere.
+    fn new_key(&self, random: &mut Random, near: Option<u64>) -> u64 {
+        loop {
+            let beside = near.unwrap_or_else(|| self.any_key(random));
+            let key = match random.below(16) {
+                0 => random.pick(&[1, LAST_KEY]),
+                1 | 2 => 1 + random.number() % LAST_KEY,
+                3 | 4 => 1 + random.number() % 100,
+                5 | 6 => beside - 1,
+                7 | 8 => beside + 1,
+                _ => beside + random.number() % 64,
+            };
+            let good = (1..=LAST_KEY).contains(&key);
+            if good && self.present.binary_search(&key).is_err() {
+                return key;
+            }
+        }
+    }
+
+    /// Puts a fault into the list, by its number in `FAULTS`. It may then be
+    /// hidden behind another, or not be one after all.
+    pub fn spoil(&mut self, random: &mut Random, fault: usize) {
+        match fault {
+            0 => self.edits.clear(),
+            1 => self.seventeenth(random),
+            8..=10 => self.wrong_key(random, fault),
+            _ if self.edits.is_empty() => {}
+            _ => {
+                let at = random.below(self.edits.len());
+                // What is cut short must be the last edit.
+                if fault == 2 || fault == 6 {
+                    self.edits.truncate(at + 1);
+                }
+                spoil_edit(random, &mut self.edits[at], fault);
+            }
+        }
+    }
+
+    /// "A seventeenth" edit, whole or not.
+    fn seventeenth(&mut self, random: &mut Random) {
+        let manner = Manner {
+            favourite: 0,
+            longest: 8,
+            near: None,
+        };
+        while self.edits.len() < 17 {
+            self.add(random, manner);
+        }
+        if random.one_in(2) {
+            let length = random.between(1, 12);
+            self.edits[16] = random.bytes(length);
+        }
+    }
+
+    /// An insert of a key that is there, or an update or delete of one that is
+    /// not, among edits that leave this key alone.
+    fn wrong_key(&mut self, random: &mut Random, fault: usize) {
+        let key = match fault {
+            8 => self.any_key(random),
+            _ => self.new_key(random, None),
+        };
+        let touched = |edit: &Vec<u8>| edit.get(2..10) == Some(&key.to_le_bytes()[..]);
+        let first = self.edits.iter().rposition(touched).map_or(0, |at| at + 1);
+        let at = random.between(first, self.edits.len());
+        let (kind, length) = [(1, 8), (2, 8), (3, 0)][fault - 8];
+        self.edits.insert(at, edit(random, kind, key, length));
+    }
 }
 
-/// Changes a byte, cuts the list short, or adds an edit that can't be made.
-fn damage(random: &mut Random, list: &mut Vec<u8>, present: &BTreeSet<u64>) {
-    match random.below(8) {
-        0 => list.clear(),
-        1 => list.truncate(list.len() - 1),
-        2 => list[0] = random.pick(&[0, 4]),
-        3 => list[1] = random.pick(&[201, 255]),
-        4 => list[2..10].copy_from_slice(&random.pick(&[0, LAST_KEY + 1, u64::MAX]).to_le_bytes()),
+/// One edit with a fault of its own.
+fn spoil_edit(random: &mut Random, bytes: &mut Vec<u8>, fault: usize) {
+    let Some(key) = bytes.get(2..10) else {
+        return;
+    };
+    let key = u64::from_le_bytes(key.try_into().unwrap());
+    match fault {
+        2 => bytes.truncate(random.between(1, 9)),
+        3 => bytes[0] = random.pick(&[0, 4, 255]),
+        4 => {
+            let length = random.between(1, 201);
+            *bytes = edit(random, 3, key, length);
+        }
         5 => {
-            let key = new_key(random, present);
-            list.extend(edit(random, 3, key, 0));
+            let (kind, length) = (random.pick(&[1, 2]), random.pick(&[201, 201, 202, 255]));
+            *bytes = edit(random, kind, key, length);
+            bytes.truncate(random.pick(&[10, 210, 265]));
         }
         6 => {
-            let key = present.first().copied().unwrap_or(1);
-            list.extend(edit(random, 1, key, 1));
+            let (kind, length) = (random.pick(&[1, 2]), random.between(1, 200));
+            *bytes = edit(random, kind, key, length);
+            bytes.truncate(random.between(10, 9 + length));
         }
-        _ => list.extend(random.bytes(3)),
+        _ => {
+            let key = random.pick(&[0, LAST_KEY + 1, 1 << 63, u64::MAX]);
+            bytes[2..10].copy_from_slice(&key.to_le_bytes());
+        }
     }
 }

@@ -44,6 +44,28 @@ mod interface {
             answer: *mut u64,
             answer_length: usize,
         ) -> u8;
+        pub fn quote_transaction(
+            image: *mut u8,
+            image_length: usize,
+            work: *mut u8,
+            work_length: usize,
+            tape: *mut u8,
+            tape_length: usize,
+            edits: *mut u8,
+            edits_length: usize,
+            answer: *mut u64,
+            answer_length: usize,
+        ) -> u8;
+        pub fn quote_recover(
+            image: *mut u8,
+            image_length: usize,
+            work: *mut u8,
+            work_length: usize,
+            tape: *mut u8,
+            tape_length: usize,
+            answer: *mut u64,
+            answer_length: usize,
+        ) -> u8;
     }
 }
 
@@ -118,6 +140,54 @@ pub fn next_key(image: &mut [u8], key: u64, answer: &mut [u64; 2]) -> u8 {
             image.as_mut_ptr(),
             image.len(),
             key,
+            answer.as_mut_ptr(),
+            answer.len(),
+        )
+    }
+}
+
+/// The answer is five numbers: edit number, kind of the commit place (1 header,
+/// 2 root word, 3 log), page (of a header, else 0), tape bytes used, flushes.
+/// On a refusal they are the edit number and four zeros. They are written only
+/// where there is room for five.
+#[inline]
+pub fn transaction(
+    image: &mut [u8],
+    work: &mut [u8],
+    tape: &mut [u8],
+    edits: &mut [u8],
+    answer: &mut [u64],
+) -> u8 {
+    // Sound: each pointer is lent with its own length, for this call alone.
+    unsafe {
+        interface::quote_transaction(
+            image.as_mut_ptr(),
+            image.len(),
+            work.as_mut_ptr(),
+            work.len(),
+            tape.as_mut_ptr(),
+            tape.len(),
+            edits.as_mut_ptr(),
+            edits.len(),
+            answer.as_mut_ptr(),
+            answer.len(),
+        )
+    }
+}
+
+/// The answer is bytes and flushes, written only on acceptance and where there
+/// is room for two.
+#[inline]
+pub fn recover(image: &mut [u8], work: &mut [u8], tape: &mut [u8], answer: &mut [u64]) -> u8 {
+    // Sound: each pointer is lent with its own length, for this call alone.
+    unsafe {
+        interface::quote_recover(
+            image.as_mut_ptr(),
+            image.len(),
+            work.as_mut_ptr(),
+            work.len(),
+            tape.as_mut_ptr(),
+            tape.len(),
             answer.as_mut_ptr(),
             answer.len(),
         )

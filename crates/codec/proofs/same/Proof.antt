@@ -5,7 +5,8 @@ use mathlib.Core.Path.{_≡_, refl, sym, ap, _∙_}
 use native.Mathlib.Omega.{arith}
 use lib.ListN.{length, drop}
 use Rattle.codec.specs.Lists.{eqs}
-use Rattle.codec.proofs.Tests.{eqs-differ, eqs-same-next, eqs-other-next, eqs-end}
+use Rattle.codec.proofs.Tests.{eqs-differ}
+use Rattle.codec.proofs.Numbers.{eqs-same-part, eqs-other-part}
 use Rattle.codec.proofs.same.Statement.{statement}
 use Rattle.codec.proofs.same.Tie as tie
 
@@ -16,22 +17,25 @@ abbrev μ-loop : tie.MeasureT-loop
 μ-loop a b i₀ i = length a - i
 
 returns : tie.Need-returns Inv-loop μ-loop
-returns c = sym (eqs-differ (c .before .args .a .now) (c .before .args .b .now) (λ e. c .if1 .taken (ap length e)))
+returns c = sym (eqs-differ (c .before .before .before .args .a .now) (c .before .before .before .args .b .now) (λ e. c .if1 .taken (ap length e)))
 
 loop-holds : tie.Need-loop-holds Inv-loop μ-loop
 loop-holds c = (omega arith, refl)
 
-shared-slice-read-if2 : tie.Need-shared-slice-read-if2 Inv-loop μ-loop
-shared-slice-read-if2 c = omega arith
+sub-loop : tie.Need-sub-loop Inv-loop μ-loop
+sub-loop c = omega arith
 
-shared-slice-read-if2-2 : tie.Need-shared-slice-read-if2-2 Inv-loop μ-loop
-shared-slice-read-if2-2 c = omega arith
+long-at-requires : tie.Need-long-at-requires Inv-loop μ-loop
+long-at-requires c κs = omega arith
+
+long-at-requires-2 : tie.Need-long-at-requires-2 Inv-loop μ-loop
+long-at-requires-2 c κs = omega arith
 
 returns-2 : tie.Need-returns-2 Inv-loop μ-loop
 returns-2 c =
-    let a = c .before .before .before .before .before .before .args in
+    let a = c .before .before .before .before .before .before .before .before .args in
     let l = c .before .before .before .before .loop in
-    sym (eqs-other-next (a .a .now) (a .b .now) (l .i) (omega arith) (omega (arith, c .before .before .before .before .before .if1 .left)) (c .if2 .taken)) ∙ l .inv .1
+    sym (eqs-other-part (a .a .now) (a .b .now) (λ i. omega (arith, c .before .before .before .before .before .before .before .shared-slice-known .given i)) (λ i. omega (arith, c .before .before .before .before .before .before .shared-slice-known2 .given i)) (l .i) 8 (omega arith) (omega arith) (λ e. c .if2 .taken (c .before .before .long-at .ensures ∙ e ∙ sym (c .before .long-at2 .ensures)))) ∙ l .inv .1
 
 add-i : tie.Need-add-i Inv-loop μ-loop
 add-i c = omega arith
@@ -41,15 +45,15 @@ loop-less c = omega arith
 
 loop-again : tie.Need-loop-again Inv-loop μ-loop
 loop-again c =
-    let a = c .before .before .before .before .before .before .args in
+    let a = c .before .before .before .before .before .before .before .before .args in
     let l = c .before .before .before .before .loop in
-    (omega arith, sym (eqs-same-next (a .a .now) (a .b .now) (l .i) (omega arith) (omega (arith, c .before .before .before .before .before .if1 .left)) (c .if2 .left)) ∙ l .inv .1)
+    (omega arith, sym (eqs-same-part (a .a .now) (a .b .now) (λ i. omega (arith, c .before .before .before .before .before .before .before .shared-slice-known .given i)) (λ i. omega (arith, c .before .before .before .before .before .before .shared-slice-known2 .given i)) (l .i) 8 (omega arith) (omega arith) (sym (c .before .before .long-at .ensures) ∙ c .if2 .left ∙ c .before .long-at2 .ensures)) ∙ l .inv .1)
+
+same-from-requires : tie.Need-same-from-requires Inv-loop μ-loop
+same-from-requires c κs = (c .before .before .if1 .left, omega arith)
 
 returns-3 : tie.Need-returns-3 Inv-loop μ-loop
-returns-3 c =
-    let a = c .before .before .before .args in
-    let l = c .before .loop in
-    sym (eqs-end (a .a .now) (a .b .now) (l .i) (omega arith) (omega (arith, c .before .before .if1 .left))) ∙ l .inv .1
+returns-3 c = c .same-from .ensures ∙ c .before .before .loop .inv .1
 
 pub same-spec : {M : Type 1} → statement M
 same-spec =
@@ -59,10 +63,12 @@ same-spec =
     μ-loop
     returns
     loop-holds
-    shared-slice-read-if2
-    shared-slice-read-if2-2
+    sub-loop
+    long-at-requires
+    long-at-requires-2
     returns-2
     add-i
     loop-less
     loop-again
+    same-from-requires
     returns-3)

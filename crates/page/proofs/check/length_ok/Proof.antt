@@ -6,21 +6,22 @@ use borrow.Author.Needs.{needs}
 use Rattle.page.proofs.check.length_ok.Statement.{statement}
 use Rattle.page.proofs.check.length_ok.Tie as tie
 
-fewest-requires : tie.Need-fewest-requires
-fewest-requires c κs = search needs
+by-kind-requires : tie.Need-by-kind-requires
+by-kind-requires c κs = search needs
+
+by-kind-requires-2 : tie.Need-by-kind-requires-2
+by-kind-requires-2 c κs = search needs
 
 wrapping-sub-u64-requires : tie.Need-wrapping-sub-u64-requires
 wrapping-sub-u64-requires c κs = search needs
 
-most-requires : tie.Need-most-requires
-most-requires c κs = search needs
-
 sub-result : tie.Need-sub-result
-sub-result c = length-range (c .before .before .before .args .kind) (c .before .before .before .args .n) (c .before .before .fewest .result) (c .most .result) (c .before .wrapping-sub-u64 .result) (c .before .before .fewest .ensures) (c .most .ensures) (omega arith) (c .before .wrapping-sub-u64 .ensures) .0
+sub-result c = length-range (c .before .before .before .args .kind) (c .before .before .before .args .n) (c .before .before .by-kind .result) (c .before .by-kind2 .result) (c .wrapping-sub-u64 .result) (c .before .before .by-kind .ensures) (c .before .by-kind2 .ensures) (omega arith) (c .wrapping-sub-u64 .ensures) .0
 
 returns : tie.Need-returns
-returns c = length-range (c .before .before .before .args .kind) (c .before .before .before .args .n) (c .before .before .fewest .result) (c .most .result) (c .before .wrapping-sub-u64 .result) (c .before .before .fewest .ensures) (c .most .ensures) (omega arith) (c .before .wrapping-sub-u64 .ensures) .1
+returns c = length-range (c .before .before .before .args .kind) (c .before .before .before .args .n) (c .before .before .by-kind .result) (c .before .by-kind2 .result) (c .wrapping-sub-u64 .result) (c .before .before .by-kind .ensures) (c .before .by-kind2 .ensures) (omega arith) (c .wrapping-sub-u64 .ensures) .1
 
 pub length-ok-spec : {M : Type 1} → statement M
 length-ok-spec =
-    tie.close (tie.spec fewest-requires wrapping-sub-u64-requires most-requires sub-result returns)
+    tie.close
+    (tie.spec by-kind-requires by-kind-requires-2 wrapping-sub-u64-requires sub-result returns)

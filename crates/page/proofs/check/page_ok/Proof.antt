@@ -9,9 +9,11 @@ use lib.ListN.{length}
 use lib.Dec.{eqb}
 use lib.Bits.{bitAnd, bitOr}
 use borrow.Author.Tests.{not-true, not-false, eqb-true, eq-eqb}
-use Rattle.page.specs.Layout.{readHead}
-use Rattle.page.specs.Page.{entryAt, pageOk, Held}
-use Rattle.page.proofs.CheckHeader.{Headed, count-is, start-is, head-headed}
+use Rattle.page.specs.Layout.{slotCount, readHead}
+use Rattle.page.specs.Page.{entryAt, records, pageOk, Held}
+use Rattle.page.proofs.Facts.{length-records}
+use Rattle.page.proofs.Listed.{count-at}
+use Rattle.page.proofs.CheckHeader.{Headed, start-is, head-headed}
 use Rattle.page.proofs.CheckRecord.{Numbers, held-numbers, recordB, record-held, record-fits, held-record}
 use Rattle.page.proofs.CheckPage.{units, units-are, Next, form-fitting, fitting-form, Pass, head-stop, pass-start, pass-end, pass-stop, pass-next}
 use Rattle.page.proofs.check.page_ok.Statement.{statement}
@@ -52,9 +54,12 @@ taken c = c .before .before .loop .marks .high * 2 ^ 64 + c .before .before .loo
 headed : (c : tie.Else1 Inv-loop μ-loop) → Headed (c .before .before .before .args .kind) (c .before .before .before .args .own) (c .before .before .before .args .page .now)
 headed c = head-headed _ _ _ (sym (c .before .head-ok .ensures) ∙ not-false _ (c .if1 .left))
 
--- the record is listed
-less : (c : tie.In-loop Inv-loop μ-loop) → c .before .loop .i < length (readHead (c .before .before .before .before .before .before .before .before .before .args .page .now) .slots)
-less c = omega (arith, c .loop-test .taken, c .before .before .before .before .before .number-at .ensures .0, count-is (c .before .before .before .before .before .before .before .before .before .args .page .now))
+-- the record is listed, in the header line
+less : (c : tie.In-loop Inv-loop μ-loop) → c .before .loop .i < length (records (c .before .before .before .before .before .before .before .before .before .args .page .now))
+less c = omega (arith, c .loop-test .taken, c .before .before .before .before .before .number-at .ensures .0, count-at (c .before .before .before .before .before .before .before .before .before .args .page .now))
+
+within : (c : tie.In-loop Inv-loop μ-loop) → c .before .loop .i < slotCount
+within c = omega (arith, less c, length-records (c .before .before .before .before .before .before .before .before .before .args .page .now), headed (c .before .before .before .before .before .before) .head .few)
 
 -- if it may not come next
 stop : (h : Turn) → (Next (kind h) (p h) (low h) (taken h) (entryAt (p h) (o h)) → ⊥) → pageOk (kind h) (own h) (p h) ≡ false
@@ -100,23 +105,23 @@ number-at-requires c κs = omega (arith, headed c .whole)
 number-at-requires-2 : tie.Need-number-at-requires-2 Inv-loop μ-loop
 number-at-requires-2 c κs = omega (arith, headed (c .before) .whole)
 
-least-key-requires : tie.Need-least-key-requires Inv-loop μ-loop
-least-key-requires c κs = tt
+by-kind-requires : tie.Need-by-kind-requires Inv-loop μ-loop
+by-kind-requires c κs = tt
 
 none-requires : tie.Need-none-requires Inv-loop μ-loop
 none-requires c κs = tt
 
 loop-holds : tie.Need-loop-holds Inv-loop μ-loop
-loop-holds c = (omega arith, pass-start _ _ _ _ (c .before .least-key .ensures) (c .none .ensures))
+loop-holds c = (omega arith, pass-start _ _ _ _ (c .before .by-kind .ensures) (c .none .ensures))
 
 mul-number-at : tie.Need-mul-number-at Inv-loop μ-loop
-mul-number-at c = omega (arith, less c, headed (c .before .before .before .before .before .before) .head .few)
+mul-number-at c = omega (arith, within c)
 
 add-number-at : tie.Need-add-number-at Inv-loop μ-loop
-add-number-at c = omega (arith, less c, headed (c .before .before .before .before .before .before) .head .few)
+add-number-at c = omega (arith, within c)
 
 number-at-requires-3 : tie.Need-number-at-requires-3 Inv-loop μ-loop
-number-at-requires-3 c κs = omega (arith, less c, headed (c .before .before .before .before .before .before) .head .few, headed (c .before .before .before .before .before .before) .whole)
+number-at-requires-3 c κs = omega (arith, within c, headed (c .before .before .before .before .before .before) .whole)
 
 record-ok-requires : tie.Need-record-ok-requires Inv-loop μ-loop
 record-ok-requires c κs = (headed (c .before .before .before .before .before .before .before) .whole, c .number-at3 .ensures .1)
@@ -177,7 +182,7 @@ loop-again c =
 returns-5 : tie.Need-returns-5 Inv-loop μ-loop
 returns-5 c =
     let l = c .before .loop in
-    sym (pass-end _ _ _ (l .low) _ (l .i) (l .inv .1) (headed (c .before .before .before .before .before .before)) (omega (arith, c .loop-test .left, c .before .before .before .before .before .number-at .ensures .0, count-is (c .before .before .before .before .before .before .before .before .before .args .page .now))))
+    sym (pass-end _ _ _ (l .low) _ (l .i) (l .inv .1) (headed (c .before .before .before .before .before .before)) (omega (arith, c .loop-test .left, c .before .before .before .before .before .number-at .ensures .0, count-at (c .before .before .before .before .before .before .before .before .before .args .page .now))))
 
 pub page-ok-spec : {M : Type 1} → statement M
 page-ok-spec =
@@ -189,7 +194,7 @@ page-ok-spec =
     returns
     number-at-requires
     number-at-requires-2
-    least-key-requires
+    by-kind-requires
     none-requires
     loop-holds
     mul-number-at

@@ -28,6 +28,9 @@ returns c = refuse (c .before) (λ k f. omega (arith, k .low, c .if1 .taken))
 returns-2 : tie.Need-returns-2
 returns-2 c = refuse (c .before .before) (λ k f. c .if2 .taken (k .even))
 
+add-if3 : tie.Need-add-if3
+add-if3 c = omega arith
+
 returns-3 : tie.Need-returns-3
 returns-3 c = refuse (c .before .before .before) (λ k f. omega (arith, c .if3 .taken, numbers (c .before .before .before) k .inside))
 
@@ -98,6 +101,7 @@ record-ok-spec =
     (tie.spec
     returns
     returns-2
+    add-if3
     returns-3
     add-long-at
     long-at-requires

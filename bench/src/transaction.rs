@@ -1,0 +1,287 @@
+//! Transaction and recovery: the check that the three agree, and their rows.
+
+use crate::{lean, measure};
+use cases::images::{even, Built};
+use cases::lists::any_list;
+use cases::logs;
+use cases::random::Random;
+use cases::stores::{any_built, any_store};
+use reference::device::{cut, decode};
+use reference::image::table;
+use reference::numbers::{of_recovery, of_transaction};
+use std::hint::black_box;
+
+const SEED: u64 = 20_240_607;
+const CHECKED: usize = 30_000;
+
+/// The buffers of one call; recovery uses no edits and the first two numbers.
+#[derive(Clone, PartialEq)]
+struct Call {
+    image: Vec<u8>,
+    work: Vec<u8>,
+    tape: Vec<u8>,
+    edits: Vec<u8>,
+    answer: [u64; 5],
+}
+
+impl Call {
+    fn new(image: &[u8], edits: Vec<u8>) -> Call {
+        Call {
+            image: image.to_vec(),
+            work: vec![0xcc; image.len()],
+            tape: vec![0xdd; 65_536],
+            edits,
+            answer: [7; 5],
+        }
+    }
+}
+
+/// A way to make one of the calls; the answer is 0 or the refusal's number.
+type Way = fn(&mut Call) -> u8;
+
+const TRANSACTION: [Way; 3] = [
+    |call| {
+        let (work, tape) = (&mut call.work, &mut call.tape);
+        lean::transaction::transaction(&call.image, work, tape, &call.edits, &mut call.answer)
+    },
+    |call| {
+        proved::transaction(
+            &mut call.image,
+            &mut call.work,
+            &mut call.tape,
+            &mut call.edits,
+            &mut call.answer,
+        )
+    },
+    |call| {
+        let (work, tape) = (&mut call.work, &mut call.tape);
+        let answer = reference::transaction::transaction(&call.image, work, tape, &call.edits);
+        let (number, five) = of_transaction(&answer);
+        call.answer = five;
+        number
+    },
+];
+
+const RECOVERY: [Way; 3] = [
+    |call| {
+        let (work, tape) = (&mut call.work, &mut call.tape);
+        lean::recovery::recover(&call.image, work, tape, two(&mut call.answer))
+    },
+    |call| {
+        let (work, tape) = (&mut call.work, &mut call.tape);
+        proved::recover(&mut call.image, work, tape, two(&mut call.answer))
+    },
+    |call| {
+        let (work, tape) = (&mut call.work, &mut call.tape);
+        let answer = reference::recovery::recover(&call.image, work, tape);
+        let (number, numbers) = of_recovery(&answer);
+        if let Some(numbers) = numbers {
+            *two(&mut call.answer) = numbers;
+        }
+        number
+    },
+];
+
+fn two(answer: &mut [u64; 5]) -> &mut [u64; 2] {
+    answer.first_chunk_mut().unwrap()
+}
+
+/// How many calls were compared, and how many of them were accepted.
+#[derive(Default)]
+struct Compared {
+    calls: usize,
+    accepted: usize,
+}
+
+impl Compared {
+    /// Stops the program if the three differ in an answer or a buffer; gives
+    /// the answer and the buffers.
+    fn agree(&mut self, ways: [Way; 3], call: &Call) -> (u8, Call) {
+        let [lean, proved, reference] = ways.map(|way| {
+            let mut after = call.clone();
+            (way(&mut after), after)
+        });
+        let which = self.calls;
+        assert!(
+            lean == reference,
+            "lean and reference differ on call {which}, seed {SEED}"
+        );
+        assert!(
+            proved == reference,
+            "proved and reference differ on call {which}, seed {SEED}"
+        );
+        self.calls += 1;
+        self.accepted += usize::from(reference.0 == 0);
+        reference
+    }
+}
+
+pub fn check() {
+    let mut random = Random::new(SEED);
+    let mut compared = Compared::default();
+    while compared.calls < CHECKED {
+        let mut image = any_store(&mut random);
+        for _ in 0..20 {
+            image = check_transaction(&mut random, image, &mut compared);
+        }
+        let built = any_built(&mut random);
+        let headers = random.between(1, 15);
+        let mut image = logs::waiting(&mut random, &built, headers);
+        compared.agree(RECOVERY, &Call::new(&image, Vec::new()));
+        let field = random.below(logs::FIELDS.len());
+        logs::damage(&mut random, &mut image, field);
+        compared.agree(RECOVERY, &Call::new(&image, Vec::new()));
+    }
+    println!(
+        "transaction and recovery: the three agree on {} calls, {} accepted",
+        compared.calls, compared.accepted
+    );
+}
+
+/// A transaction, the same with too short a tape, and the recovery of a cut;
+/// gives the image to go on with.
+fn check_transaction(random: &mut Random, image: Vec<u8>, compared: &mut Compared) -> Vec<u8> {
+    let keys: Vec<u64> = table(&image).unwrap().iter().map(|entry| entry.0).collect();
+    let mut call = Call::new(&image, any_list(random, &keys));
+    let (number, after) = compared.agree(TRANSACTION, &call);
+    if number != 0 {
+        return image;
+    }
+    let bytes = after.answer[3] as usize;
+    call.tape.truncate(bytes - 1);
+    compared.agree(TRANSACTION, &call);
+    let tape = &after.tape[..bytes];
+    let commands = decode(tape, image.len()).unwrap().len();
+    let c = random.between(0, commands);
+    let choices: Vec<u8> = (0..image.len() / 64)
+        .map(|_| random.below(4) as u8)
+        .collect();
+    let mut crashed = vec![0; image.len()];
+    cut(&image, &mut crashed, tape, c, &choices).unwrap();
+    let mut call = Call::new(&crashed, Vec::new());
+    let (_, recovered) = compared.agree(RECOVERY, &call);
+    call.tape
+        .truncate((recovered.answer[0] as usize).saturating_sub(1));
+    compared.agree(RECOVERY, &call);
+    after.work
+}
+
+pub fn measure() {
+    measure::heading("transaction                  pages");
+    for pages in [8, 64] {
+        for (name, call) in transactions(pages) {
+            row(name, pages, TRANSACTION, call);
+        }
+    }
+    measure::heading("recovery                     pages");
+    for pages in [8, 64] {
+        for headers in [0, 2, 7, 15] {
+            // 8 pages have seven headers.
+            if headers < pages {
+                let call = Call::new(&logged(pages, headers), Vec::new());
+                row(&format!("{headers} logged headers"), pages, RECOVERY, call);
+            }
+        }
+    }
+}
+
+/// The transactions that are timed, all accepted.
+fn transactions(pages: usize) -> [(&'static str, Call); 7] {
+    let leaves = if pages == 8 { 4 } else { 26 };
+    let built = book(pages, leaves, 14);
+    let full = book(pages, leaves, 28);
+    // On 64 pages the index is then copied too.
+    let to_split = book(pages, if pages == 8 { 2 } else { 14 }, 28);
+    let call =
+        |name, built: &Built, edits: Vec<Vec<u8>>| (name, Call::new(&built.image, edits.concat()));
+    let mut without_room = built.clone();
+    let page = built.leaves[1].page;
+    without_room.image[page * 1024 + 2..][..2].copy_from_slice(&[64, 0]);
+    [
+        call("1 edit", &built, vec![update(built.table[20].0)]),
+        call("16 edits, neighbours", &built, neighbours(&built)),
+        call("16 edits, spread", &built, spread(&built)),
+        call("insert and delete in turn", &built, in_turn(&built)),
+        call(
+            "copy of a leaf",
+            &without_room,
+            vec![update(key(&built, 1, 5))],
+        ),
+        call("split of a leaf", &full, vec![insert(key(&full, 1, 0) + 1)]),
+        call("split of every leaf", &to_split, in_every_leaf(&to_split)),
+    ]
+}
+
+/// A store with so many quotes in each leaf, and no two keys side by side.
+fn book(pages: usize, leaves: usize, each: usize) -> Built {
+    let mut random = Random::new(SEED);
+    loop {
+        let built = even(&mut random, pages, leaves, leaves * each);
+        let apart = |two: &[(u64, Vec<u8>)]| two[0].0 + 1 < two[1].0;
+        if built.table.windows(2).all(apart) {
+            return built;
+        }
+    }
+}
+
+fn logged(pages: usize, headers: usize) -> Vec<u8> {
+    let built = book(pages, if pages == 8 { 4 } else { 26 }, 14);
+    match headers {
+        0 => built.image,
+        _ => logs::waiting(&mut Random::new(SEED), &built, headers),
+    }
+}
+
+/// The key of a record by its leaf and its place there.
+fn key(built: &Built, leaf: usize, place: usize) -> u64 {
+    built.leaves[leaf].places[place].key
+}
+
+fn edit(kind: u8, key: u64, value: &[u8]) -> Vec<u8> {
+    [&[kind, value.len() as u8], &key.to_le_bytes()[..], value].concat()
+}
+
+fn insert(key: u64) -> Vec<u8> {
+    edit(1, key, &[0x5a; 8])
+}
+
+fn update(key: u64) -> Vec<u8> {
+    edit(2, key, &[0x5a; 8])
+}
+
+fn neighbours(built: &Built) -> Vec<Vec<u8>> {
+    (20..36).map(|i| update(built.table[i].0)).collect()
+}
+
+/// Over as many leaves as the log has lines, if there are so many.
+fn spread(built: &Built) -> Vec<Vec<u8>> {
+    let leaves = built.leaves.len().min(15);
+    let edits = (0..16).map(|i| update(key(built, i % leaves, i / leaves)));
+    edits.collect()
+}
+
+fn in_turn(built: &Built) -> Vec<Vec<u8>> {
+    let both = |i| [insert(key(built, 1, i) + 1), edit(3, key(built, 1, i), &[])];
+    (0..8).flat_map(both).collect()
+}
+
+fn in_every_leaf(built: &Built) -> Vec<Vec<u8>> {
+    let leaves = 0..built.leaves.len();
+    leaves.map(|leaf| insert(key(built, leaf, 0) + 1)).collect()
+}
+
+fn row(name: &str, pages: usize, ways: [Way; 3], call: Call) {
+    let mut calls = [call.clone(), call.clone(), call];
+    let [lean, proved, reference] = &mut calls;
+    let times = measure::medians(&mut [
+        &mut || timed(ways[0], lean),
+        &mut || timed(ways[1], proved),
+        &mut || timed(ways[2], reference),
+    ]);
+    measure::row(&format!("{name:<29}{pages:>5}"), times);
+}
+
+fn timed(way: Way, call: &mut Call) {
+    let answer = way(black_box(call));
+    assert_eq!(answer, 0, "a timed call was refused");
+}

@@ -1,0 +1,75 @@
+-- `fault_at`: each test is one of `faultIn`'s, by the numbers that stand at the edit.
+-- Assumes nothing.
+use Prim.Native.Nat.{ℕ}
+use mathlib.Core.Path.{sym, ap, _∙_}
+use borrow.Author.Needs.{needs}
+use Rattle.codec.specs.Lists.{pick}
+use Rattle.image.specs.Calls.{keyOk}
+use Rattle.edit.proofs.Judging.{fault-short, fault-head, fault-value, fault-cut, fault-key}
+use Rattle.edit.proofs.fault_at.Statement.{statement}
+use Rattle.edit.proofs.fault_at.Tie as tie
+
+sub-left : tie.Need-sub-left
+sub-left c = search needs
+
+returns : tie.Need-returns
+returns c = sym (fault-short (c .before .before .args .list .now) (c .before .before .args .at) (c .if1 .taken))
+
+add-wide : tie.Need-add-wide
+add-wide c = search needs
+
+shared-slice-read-wide : tie.Need-shared-slice-read-wide
+shared-slice-read-wide c = search needs
+
+wide-requires : tie.Need-wide-requires
+wide-requires c κs = search needs
+
+shared-slice-read-bad-head : tie.Need-shared-slice-read-bad-head
+shared-slice-read-bad-head c = search needs
+
+bad-head-requires : tie.Need-bad-head-requires
+bad-head-requires c κs = search needs
+
+returns-2 : tie.Need-returns-2
+returns-2 c = sym (fault-head (c .before .before .before .before .before .before .before .args .list .now) (c .before .before .before .before .before .before .before .args .at) (c .before .before .before .before .before .if1 .left) (c .before .before .before .wide .result) (c .before .before .before .wide .ensures .0) (sym (c .before .bad-head .ensures) ∙ c .if2 .taken))
+
+add-whole : tie.Need-add-whole
+add-whole c = search needs
+
+returns-3 : tie.Need-returns-3
+returns-3 c = sym (fault-value (c .before .before .before .before .before .before .before .before .args .list .now) (c .before .before .before .before .before .before .before .before .args .at) (c .before .before .before .before .before .before .if1 .left) (c .before .before .before .before .wide .result) (c .before .before .before .before .wide .ensures .0) (sym (c .before .before .bad-head .ensures) ∙ c .before .if2 .left) (c .if3 .taken))
+
+returns-4 : tie.Need-returns-4
+returns-4 c = sym (fault-cut (c .before .before .before .before .before .before .before .before .before .args .list .now) (c .before .before .before .before .before .before .before .before .before .args .at) (c .before .before .before .before .before .before .before .if1 .left) (c .before .before .before .before .before .wide .result) (c .before .before .before .before .before .wide .ensures .0) (sym (c .before .before .before .bad-head .ensures) ∙ c .before .before .if2 .left) (c .before .if3 .left) (c .if4 .taken))
+
+add-long-at : tie.Need-add-long-at
+add-long-at c = search needs
+
+long-at-requires : tie.Need-long-at-requires
+long-at-requires c κs = search needs
+
+key-fault-requires : tie.Need-key-fault-requires
+key-fault-requires c κs = search needs
+
+returns-5 : tie.Need-returns-5
+returns-5 c = c .key-fault .ensures ∙ ap (λ (k : ℕ). pick (keyOk k) 0 6) (c .before .long-at .ensures) ∙ sym (fault-key (c .before .before .before .before .before .before .before .before .before .before .before .args .list .now) (c .before .before .before .before .before .before .before .before .before .before .before .args .at) (c .before .before .before .before .before .before .before .before .before .if1 .left) (c .before .before .before .before .before .before .before .wide .result) (c .before .before .before .before .before .before .before .wide .ensures .0) (sym (c .before .before .before .before .before .bad-head .ensures) ∙ c .before .before .before .before .if2 .left) (c .before .before .before .if3 .left) (c .before .before .if4 .left))
+
+pub fault-at-spec : {M : Type 1} → statement M
+fault-at-spec =
+    tie.close
+    (tie.spec
+    sub-left
+    returns
+    add-wide
+    shared-slice-read-wide
+    wide-requires
+    shared-slice-read-bad-head
+    bad-head-requires
+    returns-2
+    add-whole
+    returns-3
+    returns-4
+    add-long-at
+    long-at-requires
+    key-fault-requires
+    returns-5)

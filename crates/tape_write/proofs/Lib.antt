@@ -1,0 +1,10 @@
+pub mod Encoding
+pub mod Collecting
+pub mod StageWords
+pub mod StageTape
+pub mod HeaderPages
+pub mod LogLines
+pub mod Endings
+pub mod Choosing
+pub mod Committing
+pub mod Redoing

@@ -1,0 +1,31 @@
+-- `line_for`: the own page number is read in the log line.
+-- Assumes nothing.
+use Prim.Native.Nat.{ℕ, _*_}
+use mathlib.Core.Path.{ap, _∙_}
+use borrow.Author.Needs.{needs}
+use Rattle.tape_write.proofs.LogLines.{line-own, line-log}
+use Rattle.tape_write.proofs.headers.line_for.Statement.{statement}
+use Rattle.tape_write.proofs.headers.line_for.Tie as tie
+
+mul-number-at : tie.Need-mul-number-at
+mul-number-at c = search needs
+
+add-number-at : tie.Need-add-number-at
+add-number-at c = search needs
+
+number-at-requires : tie.Need-number-at-requires
+number-at-requires c κs = search needs
+
+mul-result : tie.Need-mul-result
+mul-result c = search needs
+
+returns : tie.Need-returns
+returns c = rw (c .before .if1 .taken) (ap (λ (n : ℕ). 16 * n) (c .number-at .ensures .0) ∙ line-own (c .before .before .before .args .src .now) (c .before .before .before .args .l))
+
+returns-2 : tie.Need-returns-2
+returns-2 c = rw (c .if1 .left) (line-log (c .before .before .args .src .now) (c .before .before .args .l))
+
+pub line-for-spec : {M : Type 1} → statement M
+line-for-spec =
+    tie.close
+    (tie.spec mul-number-at add-number-at number-at-requires mul-result returns returns-2)

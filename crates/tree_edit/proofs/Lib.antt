@@ -1,0 +1,15 @@
+pub mod Free
+pub mod Room
+pub mod Sized
+pub mod Said
+pub mod Index
+pub mod IndexTwo
+pub mod Places
+pub mod Copied
+pub mod SplitOver
+pub mod Moved
+pub mod Dropped
+pub mod Routed
+pub mod EditsLeft
+pub mod Marked
+pub mod Back

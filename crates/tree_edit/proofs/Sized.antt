@@ -1,0 +1,139 @@
+-- The sizes of a page's records with a change made: one by one, their sum, and where they are split.
+-- Assumes nothing.
+use Prim.Native.Nat.{ℕ, suc, _+_, _-_, _*_, _≤_, _<_}
+use mathlib.Core.Path.{_≡_, refl, sym, ap, _∙_}
+use mathlib.Core.Bool.{Bool, true, false}
+use mathlib.Core.List.{List, [], _∷_}
+use native.Mathlib.Omega.{arith}
+use lib.ListN.{length, getD, drop, drop-of-length-le}
+use lib.Dec.{ltb, leb}
+use borrow.Author.Tests.{lt-ltb, le-ltb, le-leb, lt-leb}
+use Rattle.codec.specs.Lists.{part, pick}
+use Rattle.codec.specs.Numbers.{number}
+use Rattle.page.specs.Layout.{pageSize, lineSize, slotCount, valueMost, Rec, recOf, up8, size, readHead}
+use Rattle.page.specs.Page.{records, laidOut, RecOk}
+use Rattle.page.specs.Operations.{sizes}
+use Rattle.page.proofs.Facts.{ok-is}
+use Rattle.page.proofs.Sizes.{page-sizes}
+use Rattle.page.proofs.Listed.{few-listed}
+use Rattle.page.proofs.Made.{length-made, oldSlot, made-less, made-new-next, made-old-next}
+use Rattle.image.proofs.Soundness.{records-ok}
+use Rattle.image.proofs.CodePages.{All-at, drop-next, slot, value-in, length-here}
+use Rattle.tree.specs.Edits.{splitFrom, splitPoint}
+use Rattle.tree.proofs.Sizes.{sizeMost, size-most, sizes-made, made-most}
+use Rattle.tree_edit.specs.Steps.{recBy, madeBy}
+use Rattle.tree_edit.specs.Asked.{CanPut}
+use Rattle.tree_edit.specs.declared.Change.{Change}
+
+abbrev none : Rec
+none = recOf 0 []
+
+-- ---- a record of the page
+
+module _ (p : List ℕ) (ok : laidOut p ≡ true) (i : ℕ) (less : i < length (records p)) (o : ℕ) (e : o ≡ slot p i) where
+  pub length-in : o + 8 + 2 ≤ length p
+  length-in = omega (arith, value-in p ok i less none)
+
+  pub length-small : (n : ℕ) → n ≡ number (part p (o + 8) 2) → n ≤ valueMost
+  length-small n f =
+      omega (
+        arith,
+        f ∙ ap (λ (k : ℕ). number (part p (k + 8) 2)) e ∙ length-here p ok i less none,
+        All-at RecOk (records p) i none (records-ok p ok) less .few,
+      )
+
+  pub size-here : (n : ℕ) → n ≡ number (part p (o + 8) 2) → 16 + up8 n ≡ size (getD (records p) i (recOf 0 []))
+  unfolding size
+  size-here n f = ap (λ (m : ℕ). 16 + up8 m) (f ∙ ap (λ (k : ℕ). number (part p (k + 8) 2)) e ∙ length-here p ok i less none)
+
+-- ---- with the change made
+
+module _ {p : List ℕ} {new : Change} {v : List ℕ} (can : CanPut p new v) where
+  abbrev l : List Rec
+  l = madeBy new v p
+
+  pub made-listed : length (madeBy new v p) ≡ pick (new .ins) (suc (length (records p))) (length (records p))
+  made-listed = length-made (new .ins) (new .at) (recBy new v) (records p)
+
+  pub made-few : length (madeBy new v p) ≤ suc slotCount
+  made-few = omega (arith, made-most (new .ins) (new .at) (recBy new v) (records p), few-listed p (can .ok))
+
+  pub value-small : length v ≤ valueMost
+  value-small = can .good .few
+
+  -- at most a record more than a page holds
+  pub made-small : sizes (madeBy new v p) ≤ pageSize - lineSize + sizeMost
+  made-small =
+      omega (
+        arith,
+        sizes-made (new .ins) (new .at) (recBy new v) (records p),
+        size-most (recBy new v) (can .good),
+        page-sizes p (can .ok),
+        ok-is p (can .ok) .body .head .low,
+      )
+
+  module _ (k : ℕ) (less : k < length (madeBy new v p)) where
+    pub next : drop k (madeBy new v p) ≡ getD (madeBy new v p) k (recOf 0 []) ∷ drop (k + 1) (madeBy new v p)
+    next = drop-next l k none less
+
+    pub sizes-next : sizes (drop k (madeBy new v p)) ≡ size (getD (madeBy new v p) k (recOf 0 [])) + sizes (drop (k + 1) (madeBy new v p))
+    unfolding sizes
+    sizes-next = ap sizes next
+
+    -- the new record
+    pub size-new : k ≡ new .at → 16 + up8 (length v) ≡ size (getD (madeBy new v p) k (recOf 0 []))
+    unfolding size
+    size-new e =
+        let f = made-new-next (recBy new v) none (new .ins) (new .at) (records p) (can .place) in
+        let g : drop k l ≡ recBy new v ∷ drop (k + 1) l = rw e f in
+        let h : getD l k none ≡ recBy new v = cc next in
+        ap (λ (r : Rec). 16 + up8 (length (r .value))) (sym h)
+
+    -- another one, by its old slot j
+    module _ (other : k ≡ new .at → ⊥) (j : ℕ) (e : oldSlot (new .ins) (new .at) k ≡ j) where
+      pub old-less : j < length (records p)
+      old-less = omega (arith, e, made-less (recBy new v) none (new .ins) (new .at) k (records p) (can .place) less other)
+
+      pub size-old : size (getD (records p) j (recOf 0 [])) ≡ size (getD (madeBy new v p) k (recOf 0 []))
+      size-old =
+          let f = made-old-next (recBy new v) none (new .ins) (new .at) k (records p) (can .place) less other in
+          let h : getD l k none ≡ getD (records p) (oldSlot (new .ins) (new .at) k) none = cc (next, f) in
+          ap size (ap (λ (m : ℕ). getD (records p) m none) (sym e) ∙ sym h)
+
+pub sizes-none : (l : List Rec) (k : ℕ) → length l ≤ k → sizes (drop k l) ≡ 0
+unfolding sizes
+sizes-none l k h = ap sizes (drop-of-length-le l {i = k} h)
+
+-- the old slot, where the test is made
+pub slot-before : (ins : Bool) (i k : ℕ) → k < i → oldSlot ins i k ≡ k
+slot-before true i k h = rw (lt-ltb k i h)
+slot-before false i k h = refl
+
+pub slot-after : (ins : Bool) (i k : ℕ) → i ≤ k → ins ≡ true → oldSlot ins i k ≡ k - 1
+slot-after ins i k h z = rw (z, le-ltb k i h)
+
+pub slot-same : (ins : Bool) (i k : ℕ) → ins ≡ false → oldSlot ins i k ≡ k
+slot-same ins i k z = rw z
+
+-- ---- where they are split
+
+pub split-end : (total seen k : ℕ) (l : List Rec) → length l ≤ k → splitFrom total seen (drop k l) ≡ 0
+unfolding splitFrom
+split-end total seen k l h = rw (drop-of-length-le l {i = k} h)
+
+split-reached : (total seen : ℕ) (l : List Rec) → total ≤ 2 * seen → splitFrom total seen l ≡ 0
+unfolding splitFrom
+split-reached total seen [] h = refl
+split-reached total seen (r ∷ l) h = rw (le-leb total (2 * seen) h)
+
+pub split-done : (total seen k : ℕ) (l : List Rec) → total ≤ 2 * seen → splitFrom total seen (drop k l) ≡ 0
+split-done total seen k l h = split-reached total seen (drop k l) h
+
+pub split-more : (total seen k : ℕ) (r : Rec) (l : List Rec) → 2 * seen < total → drop k l ≡ r ∷ drop (k + 1) l →
+    splitFrom total seen (drop k l) ≡ suc (splitFrom total (seen + size r) (drop (k + 1) l))
+unfolding splitFrom
+split-more total seen k r l h e = rw (e, lt-leb total (2 * seen) h)
+
+pub split-whole : (l : List Rec) (m : ℕ) → m ≡ splitFrom (sizes l) 0 (drop 0 l) → m ≡ splitPoint l
+unfolding splitPoint
+split-whole l m e = e

@@ -1,0 +1,100 @@
+// Where the records of a full leaf are split.
+use crate::Change;
+use crate::pages::made_count;
+use crate::pages::size_of;
+use image::pages::slot_at;
+ghost use mathlib.Core.Path.{_≡_};
+ghost use mathlib.Core.Bool.{true, _&&_};
+ghost use mathlib.Core.List.{[]};
+ghost use Prim.Native.Nat.{_+_, _-_, _≤_, _<_};
+ghost use lib.ListN.{length, getD, drop};
+ghost use lib.Dec.{leb};
+ghost use Rattle.page.specs.Layout.{pageSize, lineSize, slotCount, recOf, size};
+ghost use Rattle.page.specs.Page.{laidOut, records};
+ghost use Rattle.page.specs.Operations.{sizes};
+ghost use Rattle.tree.specs.Edits.{splitFrom, splitPoint};
+ghost use Rattle.tree_edit.specs.Steps.{madeBy};
+ghost use Rattle.tree_edit.specs.Asked.{CanPut};
+
+// The size of the i-th record of a page.
+pub(crate) fn size_at(page: &[u8], i: usize) -> usize
+    requires { ⌜ (laidOut (now page) ≡ true) × (i < length (records (now page))) ⌝ }
+    ensures { λ r. ⌜ r ≡ size (getD (records (now (page .entry))) i (recOf 0 [])) ⌝ }
+{
+    size_of(codec::number_at(page, slot_at(page, i) + 8))
+}
+
+// The size of the k-th record once the change is made.
+pub(crate) fn size_made(page: &[u8], new: Change, value: &[u8], k: usize) -> usize
+    requires { ⌜ CanPut (now page) new (now value) × (k < length (madeBy new (now value) (now page))) ⌝ }
+    ensures { λ r. ⌜ r ≡ size (getD (madeBy new (now (value .entry)) (now (page .entry))) k (recOf 0 [])) ⌝ }
+{
+    if k == new.at {
+        return size_of(value.len());
+    }
+    if k < new.at {
+        return size_at(page, k);
+    }
+    if new.ins {
+        return size_at(page, k - 1);
+    }
+    size_at(page, k)
+}
+
+// The sum of the records' sizes once the change is made.
+pub(crate) fn total_made(page: &[u8], new: Change, value: &[u8]) -> usize
+    requires { ⌜ CanPut (now page) new (now value) ⌝ }
+    ensures { λ r. ⌜ r ≡ sizes (madeBy new (now (value .entry)) (now (page .entry))) ⌝ }
+{
+    let n = made_count(page, new.ins);
+    let mut sum = 0;
+    let mut k = 0;
+    while k < n {
+        sum += size_made(page, new, value, k);
+        k += 1;
+    }
+    sum
+}
+
+// Whether the records fit one page once the change is made: "If they are at most 28 and at most 960 bytes".
+pub(crate) fn fits_one(page: &[u8], new: Change, value: &[u8]) -> bool
+    requires { ⌜ CanPut (now page) new (now value) ⌝ }
+    ensures { λ r. ⌜ r ≡ (leb (length (madeBy new (now (value .entry)) (now (page .entry)))) slotCount && leb (sizes (madeBy new (now (value .entry)) (now (page .entry)))) (pageSize - lineSize)) ⌝ }
+{
+    if 28 < made_count(page, new.ins) {
+        return false;
+    }
+    total_made(page, new, value) <= 960
+}
+
+// How many of the records from the k-th on the left page takes, where those before it have `seen` bytes: "m smallest with twice their
+// bytes at least the total". It calls itself on the rest of the list.
+pub(crate) fn split_from(
+    page: &[u8],
+    new: Change,
+    value: &[u8],
+    total: usize,
+    seen: usize,
+    k: usize,
+) -> usize
+    requires { ⌜ CanPut (now page) new (now value) × (k ≤ length (madeBy new (now value) (now page))) ⌝ }
+    requires { ⌜ seen + sizes (drop k (madeBy new (now value) (now page))) ≤ sizes (madeBy new (now value) (now page)) ⌝ }
+    ensures { λ r. ⌜ (r ≡ splitFrom total seen (drop k (madeBy new (now (value .entry)) (now (page .entry))))) × (r + k ≤ length (madeBy new (now (value .entry)) (now (page .entry)))) ⌝ }
+{
+    if made_count(page, new.ins) <= k {
+        return 0;
+    }
+    if total <= 2 * seen {
+        return 0;
+    }
+    let s = size_made(page, new, value, k);
+    1 + split_from(page, new, value, total, seen + s, k + 1)
+}
+
+// How many records the left page takes.
+pub(crate) fn split_point(page: &[u8], new: Change, value: &[u8]) -> usize
+    requires { ⌜ CanPut (now page) new (now value) ⌝ }
+    ensures { λ r. ⌜ r ≡ splitPoint (madeBy new (now (value .entry)) (now (page .entry))) ⌝ }
+{
+    split_from(page, new, value, total_made(page, new, value), 0, 0)
+}

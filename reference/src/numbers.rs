@@ -1,0 +1,36 @@
+//! Answers as the numbers of the proved library's C interface, to compare the
+//! two.
+
+use crate::recovery::Recovered;
+use crate::tape::CommitPlace;
+use crate::transaction::Accepted;
+use crate::Refusal;
+
+/// A transaction's: 0 or the refusal's number, and five numbers: edit number,
+/// kind of the commit place (1 header, 2 root word, 3 log), page of a header,
+/// bytes and flushes.
+pub fn of_transaction(answer: &Result<Accepted, Refusal>) -> (u8, [u64; 5]) {
+    match answer {
+        Ok(accepted) => {
+            let (kind, page) = match accepted.place {
+                CommitPlace::Header { page } => (1, page),
+                CommitPlace::Root => (2, 0),
+                CommitPlace::Log => (3, 0),
+            };
+            let five = [0, kind, page, accepted.bytes, accepted.flushes];
+            (0, five.map(|number| number as u64))
+        }
+        Err(refusal) => (refusal.number, [refusal.edit as u64, 0, 0, 0, 0]),
+    }
+}
+
+/// Recovery's: 0 or the refusal's number; bytes and flushes only if accepted.
+pub fn of_recovery(answer: &Result<Recovered, Refusal>) -> (u8, Option<[u64; 2]>) {
+    match answer {
+        Ok(recovered) => {
+            let two = [recovered.bytes, recovered.flushes];
+            (0, Some(two.map(|number| number as u64)))
+        }
+        Err(refusal) => (refusal.number, None),
+    }
+}

@@ -7,3 +7,4 @@ pub mod Clauses
 pub mod Cuts
 pub mod Lines
 pub mod Segments
+pub mod Writing

@@ -12,8 +12,10 @@ use lib.Dec.{eqb, leb, ltb}
 use borrow.Author.Tests.{eqb-true, eq-eqb, ne-eqb, le-leb, lt-ltb}
 use Rattle.codec.specs.Lists.{All}
 use Rattle.codec.specs.Numbers.{bytesOf}
+use Rattle.codec.proofs.Agree.{or-left, or-right}
 use Rattle.device.specs.Tape.{Op, store, flush, malformed, Writable}
 use Rattle.device.specs.Cut.{hits, touches, flushed}
+use Rattle.device.proofs.Clauses.{touches-store, touches-flush, flushed-nil}
 use Rattle.page.specs.Layout.{pageSize, lineSize}
 use Rattle.image.specs.PageZero.{rootOf, markBytes}
 use Rattle.image.specs.Image.{sound, reached, among}
@@ -40,22 +42,15 @@ stores-first n o p vs h e q = true≢false (sym (covers h) ∙ e)
     covers (inl k) = rw (le-leb p o (omega arith), lt-ltb o (p + length vs) (omega (arith, k .0)))
     covers (inr k) = rw (le-leb p o (omega arith), lt-ltb o (p + length vs) (omega (arith, k .0)))
 
-none-left : (x y : Bool) → (x || y) ≡ false → x ≡ false
-none-left true y e = e
-none-left false y e = refl
-
-none-right : (x y : Bool) → (x || y) ≡ false → y ≡ false
-none-right true y e = absurd (true≢false e)
-none-right false y e = e
-
 -- the first store at o, after commands that do not store byte o
 pub first-store : (n o : ℕ) (vs : List ℕ) (rest cs : List Op) → All (Writable n) cs → touches cs o ≡ false → storeAt o (cs ++ (store o vs ∷ rest)) ≡ length cs
-unfolding storeAt touches
+unfolding storeAt
 first-store n o vs rest [] w t = rw (eq-eqb o o refl)
 first-store n o vs rest (store p us ∷ cs) w t =
-    rw (ne-eqb p o (stores-first n o p us (w .0) (none-left (hits (store p us) o) (touches cs o) t)))
-    (ap suc (first-store n o vs rest cs (w .1) (none-right (hits (store p us) o) (touches cs o) t)))
-first-store n o vs rest (flush l ∷ cs) w t = ap suc (first-store n o vs rest cs (w .1) t)
+    let e = sym (touches-store p us cs o) ∙ t in
+    rw (ne-eqb p o (stores-first n o p us (w .0) (or-left (hits (store p us) o) (touches cs o) e)))
+    (ap suc (first-store n o vs rest cs (w .1) (or-right (hits (store p us) o) (touches cs o) e)))
+first-store n o vs rest (flush l ∷ cs) w t = ap suc (first-store n o vs rest cs (w .1) (sym (touches-flush l cs o) ∙ t))
 first-store n o vs rest (malformed ∷ cs) w t = absurd (w .0)
 
 -- ---- the commit place of a transaction from a to w
@@ -101,10 +96,9 @@ module _ (a w : List ℕ) (s : sound a ≡ true) (d : Edited a w) (room : roomIn
 
 -- a store that is flushed before the cut has its own command and one more before it
 pub flushed-late : (l i c : ℕ) (cs : List Op) → flushed l (drop (suc i) (take c cs)) ≡ true → i + 2 ≤ c
-unfolding flushed
 flushed-late l i c cs e = go (decLe (i + 2) c)
   where
     go : Dec (i + 2 ≤ c) → i + 2 ≤ c
     go (yes h) = h
     go (no h) =
-        absurd (true≢false (sym e ∙ ap (flushed l) (drop-of-length-le (take c cs) {i = suc i} (simp length-take (omega arith)))))
+        absurd (true≢false (sym e ∙ ap (flushed l) (drop-of-length-le (take c cs) {i = suc i} (simp length-take (omega arith))) ∙ flushed-nil l))

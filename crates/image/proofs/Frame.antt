@@ -14,6 +14,7 @@ use Rattle.codec.specs.Lists.{part, All}
 use Rattle.codec.specs.Numbers.{number}
 use Rattle.codec.proofs.Tests.{first}
 use Rattle.codec.proofs.Lists.{getD-part}
+use Rattle.codec.proofs.Agree.{part-agree}
 use Rattle.page.specs.Layout.{pageSize, lineSize, leafKind, indexKind, Rec, size}
 use Rattle.page.specs.Page.{Entry, end, entries, laidOut, pageOk}
 use Rattle.page.specs.Operations.{pageOf}
@@ -32,20 +33,6 @@ use Rattle.image.proofs.Soundness.{Tree, sound-facts, sound-tree, tree-
 use Rattle.image.proofs.Values.{page-fits}
 
 -- ---- parts and pages that agree
-
--- parts are equal if their bytes are
-pub part-agree : (a b : List ℕ) (o n : ℕ) → length a ≡ length b → ((i : ℕ) → o ≤ i → i < o + n → getD a i 0 ≡ getD b i 0) → part b o n ≡ part a o n
-unfolding part
-part-agree a b o n l h =
-    sym (ext-getD 0 (part a o n) (part b o n) same at)
-  where
-    at : (i : ℕ) → i < length (part a o n) → getD (part a o n) i 0 ≡ getD (part b o n) i 0
-    at i k =
-        let small : i < n = omega (arith, length-take n (drop o a)) in
-        getD-part a o n i small ∙ h (o + i) (omega arith) (omega arith) ∙ sym (getD-part b o n i small)
-
-    same : length (part a o n) ≡ length (part b o n)
-    same = simp (length-take, length-drop) (omega arith)
 
 agrees : (p q : List ℕ) (es : List Entry) → length p ≡ length q → ((o : ℕ) → covered o es ≡ true → getD p o 0 ≡ getD q o 0) → All (Agree p q) es
 unfolding covered

@@ -13,6 +13,7 @@ use Rattle.codec.specs.Lists.{part, splice, eqs, All}
 use Rattle.codec.specs.Numbers.{bytesOf}
 use Rattle.codec.proofs.Lists.{sets-apart, length-splice}
 use Rattle.codec.proofs.Numbers.{length-bytesOf}
+use Rattle.codec.proofs.Agree.{part-sets, part-agree}
 use Rattle.device.specs.Tape.{Op, store, flush}
 use Rattle.device.specs.Cut.{after, touches}
 use Rattle.device.proofs.Cuts.{length-after, after-append}
@@ -25,15 +26,14 @@ use Rattle.image.specs.Live.{live}
 use Rattle.image.proofs.General.{All-append}
 use Rattle.image.proofs.Zero.{Size, Line, ready-facts, facts-waiting}
 use Rattle.image.proofs.Soundness.{sound-facts}
-use Rattle.image.proofs.Frame.{part-agree, frame, live-place}
+use Rattle.image.proofs.Frame.{frame, live-place}
 use Rattle.journal.specs.Changes.{stageA, changedPages, sameRoot}
 use Rattle.journal.specs.Log.{headerStores, headerFlushes, logTape, ending, replayTape}
 use Rattle.journal.specs.Recovery.{linesFrom, logged, loggedOk, recoveryTape}
 use Rattle.journal.specs.Tape.{newHeaders, joinLines, byLog}
 use Rattle.journal.specs.Edited.{Edited}
 use Rattle.journal.specs.Commit.{commitStore, commitLine}
-use Rattle.journal.proofs.Lists.{part-sets}
-use Rattle.journal.proofs.Commands.{Writes, writes-at, writes-after, writes-move, flushes-write, touches-both, touches-left, touches-right, untouched-first, untouched-rest}
+use Rattle.device.proofs.Writing.{Writes, writes-at, writes-after, writes-move, flushes-write, touches-both, touches-left, touches-right, untouched-first, untouched-rest}
 use Rattle.journal.proofs.Headers.{Lines, lines-agree, header-flushing, logged-inside, headers-outside}
 use Rattle.journal.proofs.Standing.{replay, Waits, page-small, line-root, line-other, length-noMark, length-mark}
 use Rattle.journal.proofs.Replay.{tapeOf, Holds, waits-replayable, waits-run}

@@ -1,5 +1,3 @@
-pub mod Lists
-pub mod Commands
 pub mod Headers
 pub mod Standing
 pub mod Replay

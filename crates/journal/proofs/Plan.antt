@@ -21,7 +21,7 @@ use Rattle.image.specs.Live.{live}
 use Rattle.journal.specs.Changes.{changedPages}
 use Rattle.journal.specs.Tape.{Taken}
 use Rattle.journal.specs.Commit.{commitStore, commitLine}
-use Rattle.journal.proofs.Commands.{Flushing, to-flushing, flushing-closed, flushing-after, after-store, after-none}
+use Rattle.device.proofs.Writing.{Flushing, to-flushing, flushing-closed, flushing-after, after-store, after-none}
 use Rattle.journal.proofs.Standing.{replay}
 use Rattle.journal.proofs.Replay.{tapeOf, Holds, holds-dead, recovery-run, recovery-cut, recovery-closed}
 

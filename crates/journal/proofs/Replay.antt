@@ -14,6 +14,7 @@ use Rattle.codec.specs.Numbers.{bytesOf}
 use Rattle.codec.proofs.Tests.{eqs-true}
 use Rattle.codec.proofs.Lists.{sets-apart}
 use Rattle.codec.proofs.Numbers.{length-bytesOf}
+use Rattle.codec.proofs.Agree.{part-sets, part-agree}
 use Rattle.device.specs.Tape.{Op, store, flush}
 use Rattle.device.specs.Cut.{after, cutImage, touches, Closed, To}
 use Rattle.device.proofs.Cuts.{length-after, after-append, length-cut}
@@ -28,11 +29,10 @@ use Rattle.image.specs.declared.PageZero.{PageZero}
 use Rattle.image.specs.declared.PageZero.the-variants.{Wrong, Waiting, Ready}
 use Rattle.image.proofs.Zero.{Size, size-true}
 use Rattle.image.proofs.Soundness.{sound-facts}
-use Rattle.image.proofs.Frame.{part-agree, frame}
+use Rattle.image.proofs.Frame.{frame}
 use Rattle.journal.specs.Log.{headerStores, headerFlushes, ending, replayTape}
 use Rattle.journal.specs.Recovery.{logged, replayFrom, recoveryTape, replayable}
-use Rattle.journal.proofs.Lists.{part-sets}
-use Rattle.journal.proofs.Commands.{flushing-closed, flushing-touches, flushing-after, to-flushing, cut-line, after-none, after-store, closed-none, sets-stands}
+use Rattle.device.proofs.Writing.{flushing-closed, flushing-touches, flushing-after, to-flushing, cut-line, after-none, after-store, closed-none, sets-stands}
 use Rattle.journal.proofs.Headers.{header-flushing}
 use Rattle.journal.proofs.Standing.{replay, Waits, Standing, settle, settle-sets, waits-long, logged-outside, replay-after, length-replay, standing-waits, standing-replay}
 

@@ -14,6 +14,7 @@ use borrow.Author.Tests.{leb-true, eqb-true}
 use Rattle.codec.specs.Lists.{part, eqs, pick, All}
 use Rattle.codec.proofs.Tests.{first, not-true, eqs-true, eqs-same}
 use Rattle.codec.proofs.Lists.{length-part}
+use Rattle.codec.proofs.Agree.{length-part-le, agree-part, part-agree}
 use Rattle.device.specs.Tape.{Op, store, flush, malformed}
 use Rattle.device.specs.Cut.{after, flushed, touches, Closed}
 use Rattle.page.specs.Layout.{pageSize, lineSize}
@@ -21,11 +22,9 @@ use Rattle.image.specs.PageZero.{rootOf}
 use Rattle.image.specs.Image.{reached, among}
 use Rattle.image.specs.Live.{live}
 use Rattle.image.proofs.General.{All-append}
-use Rattle.image.proofs.Frame.{part-agree}
 use Rattle.journal.specs.Changes.{wordSize, pageWords, lineWords, freeWord, wordStores, flushesFrom, flushesOf, stageA}
 use Rattle.journal.specs.Edited.{Edited}
-use Rattle.journal.proofs.Lists.{length-part-le, agree-part}
-use Rattle.journal.proofs.Commands.{Flushing, flushing-none, flushing-flush, flushing-past, flushed-first, flushing-closed, flushing-touches, Writes, writes-at, flushes-write, touches-out, touches-none, untouched-first, untouched-rest}
+use Rattle.device.proofs.Writing.{Flushing, flushing-none, flushing-flush, flushing-past, flushed-first, flushing-closed, flushing-touches, Writes, writes-at, flushes-write, touches-out, touches-none, untouched-first, untouched-rest}
 
 -- ---- the flushes of a list of stores
 

@@ -12,6 +12,7 @@ use Rattle.codec.specs.Lists.{part, splice}
 use Rattle.codec.specs.Numbers.{number, bytesOf}
 use Rattle.codec.proofs.Lists.{splice-sets, length-splice}
 use Rattle.codec.proofs.Numbers.{length-bytesOf, number-bytesOf}
+use Rattle.codec.proofs.Agree.{part-add, part-agree}
 use Rattle.device.specs.Tape.{Op, store}
 use Rattle.device.specs.Cut.{after, touches}
 use Rattle.device.proofs.Cuts.{length-after, after-append}
@@ -20,12 +21,10 @@ use Rattle.page.specs.Layout.{pageSize}
 use Rattle.image.specs.PageZero.{pageCount, isPage, rootOf, markBytes, noMark, wordsPast, pageZero}
 use Rattle.image.specs.declared.PageZero.the-variants.{Waiting}
 use Rattle.image.proofs.General.{part-part, part-front, part-past}
-use Rattle.image.proofs.Frame.{part-agree}
 use Rattle.image.proofs.Zero.{Size, isPage-true, Line, Marked, waiting-facts, facts-waiting}
 use Rattle.journal.specs.Log.{headerStores}
 use Rattle.journal.specs.Recovery.{logged, loggedOk, withHeaders, replayed, replayFrom}
-use Rattle.journal.proofs.Lists.{part-add}
-use Rattle.journal.proofs.Commands.{after-store, after-none, touches-left, touches-right, untouched-first}
+use Rattle.device.proofs.Writing.{after-store, after-none, touches-left, touches-right, untouched-first}
 use Rattle.journal.proofs.Headers.{Lines, Inside, logged-inside, lines-from, lines-agree, headers-outside, headers-after}
 
 -- the replayed image

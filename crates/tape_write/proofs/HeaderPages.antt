@@ -16,7 +16,7 @@ use Rattle.page.specs.Layout.{pageSize, lineSize}
 use Rattle.image.specs.Image.{among}
 use Rattle.journal.specs.Changes.{headerLine, changedFrom}
 use Rattle.journal.specs.Tape.{newHeaders, joinLines}
-use Rattle.journal.proofs.Lists.{part-add}
+use Rattle.codec.proofs.Agree.{part-add}
 use Rattle.journal.proofs.Headers.{Lines}
 use Rattle.journal.proofs.Log.{length-join}
 use Rattle.tape_write.specs.Lines.{PageIn}

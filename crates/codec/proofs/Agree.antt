@@ -1,4 +1,4 @@
--- General laws that codec does not have: parts that agree, a part of a part, what stands where it was stored, tests joined by `or`.
+-- Parts that agree, a part in two, what stands where it was stored, and tests joined by `or`.
 -- Assumes nothing.
 use Prim.Native.Nat.{ℕ, _+_, _-_, _≤_, _<_}
 use mathlib.Core.Path.{_≡_, refl, sym, ap, _∙_}
@@ -6,10 +6,10 @@ use mathlib.Core.Logic.{_⊎_, inl, inr}
 use mathlib.Core.Bool.{Bool, true, false, _||_, true≢false}
 use mathlib.Core.List.{List, _++_}
 use native.Mathlib.Omega.{arith}
-use lib.ListN.{length, getD, take, drop, length-take}
-use lib.Seq.{sets, take-add, drop-drop}
+use lib.ListN.{length, getD, take, drop, length-take, length-drop}
+use lib.Seq.{sets, take-add, drop-drop, ext-getD}
 use Rattle.codec.specs.Lists.{part}
 use Rattle.codec.proofs.Lists.{getD-part, part-splice-same, splice-sets}
 
 -- ---- tests joined by `or`
 
@@ -33,6 +33,20 @@ either false b e = inr e
 pub length-part-le : (l : List ℕ) (o n : ℕ) → length (part l o n) ≤ n
 unfolding part
 length-part-le l o n = omega (arith, length-take n (drop o l))
+
+-- parts are equal if their elements are
+pub part-agree : (a b : List ℕ) (o n : ℕ) → length a ≡ length b → ((i : ℕ) → o ≤ i → i < o + n → getD a i 0 ≡ getD b i 0) → part b o n ≡ part a o n
+unfolding part
+part-agree a b o n l h =
+    sym (ext-getD 0 (part a o n) (part b o n) same at)
+  where
+    at : (i : ℕ) → i < length (part a o n) → getD (part a o n) i 0 ≡ getD (part b o n) i 0
+    at i k =
+        let small : i < n = omega (arith, length-take n (drop o a)) in
+        getD-part a o n i small ∙ h (o + i) (omega arith) (omega arith) ∙ sym (getD-part b o n i small)
+
+    same : length (part a o n) ≡ length (part b o n)
+    same = simp (length-take, length-drop) (omega arith)
 
 -- elements of equal parts
 pub agree-part : (a b : List ℕ) (o n : ℕ) → part b o n ≡ part a o n → (i : ℕ) → o ≤ i → i < o + n → getD b i 0 ≡ getD a i 0

@@ -1,5 +1,5 @@
--- Laws of commands that the device does not have: stores followed by the flushes of their lines, stores of what stands in an image, and
--- a line's pending stores cut anywhere. Only here are the device's definitions unfolded.
+-- What a tape is made of: stores followed by the flushes of their lines, stores of what stands in an image, and a line's pending stores
+-- cut anywhere.
 -- Assumes nothing.
 use Prim.Native.Nat.{ℕ, zero, suc, _+_, _-_, _≤_, _<_}
 use mathlib.Core.Path.{_≡_, refl, sym, ap, _∙_}
@@ -15,13 +15,12 @@ use borrow.Author.Tests.{eq-eqb, leb-true, le-leb, ltb-true, lt-ltb}
 use Rattle.codec.specs.Lists.{part, All}
 use Rattle.codec.proofs.Tests.{both, first, second}
 use Rattle.codec.proofs.Lists.{sets-apart, getD-part}
+use Rattle.codec.proofs.Agree.{or-left, or-right, neither, part-agree, part-sets}
 use Rattle.device.specs.Tape.{Op, store, flush, malformed}
 use Rattle.device.specs.Cut.{after, lineOf, flushed, cutImage, hits, touches, Closed, Sealed, To}
 use Rattle.device.proofs.Cuts.{length-after, after-append}
 use Rattle.device.proofs.Lines.{first-part}
 use Rattle.device.proofs.Segments.{out-hits, touches-append, sealed-closed, sealed-more, cut-early, cut-all}
-use Rattle.image.proofs.Frame.{part-agree}
-use Rattle.journal.proofs.Lists.{or-left, or-right, neither, part-sets}
 
 -- ---- which bytes a store writes
 

@@ -68,18 +68,7 @@ pub fn check() {
     for which in 0..CHECKED {
         let call = any_call(&mut random);
         for ways in [RUN, CUT] {
-            let [lean, proved, reference] = ways.map(|way| {
-                let mut after = call.clone();
-                (way(&mut after), after)
-            });
-            assert!(
-                lean == reference,
-                "lean and reference differ on call {which}, seed {SEED}"
-            );
-            assert!(
-                proved == reference,
-                "proved and reference differ on call {which}, seed {SEED}"
-            );
+            let reference = measure::agreed(ways, &call, which, SEED);
             accepted += usize::from(reference.0 == 0);
         }
     }

@@ -78,7 +78,7 @@ pub fn check() {
         for image in [built.image.clone(), damaged, other] {
             for ways in [FORMAT, CHECK, LOOKUP, NEXT] {
                 let key = any_key(&mut random, &built);
-                accepted += usize::from(agree(ways, image.clone(), key) == 0);
+                accepted += usize::from(agree(ways, image.clone(), key, calls) == 0);
                 calls += 1;
             }
         }
@@ -98,7 +98,7 @@ fn any_key(random: &mut Random, built: &Built) -> u64 {
 }
 
 /// The answer of all three.
-fn agree(ways: [Way; 3], image: Vec<u8>, key: u64) -> u8 {
+fn agree(ways: [Way; 3], image: Vec<u8>, key: u64, which: usize) -> u8 {
     let call = Call {
         image,
         key,
@@ -106,16 +106,7 @@ fn agree(ways: [Way; 3], image: Vec<u8>, key: u64) -> u8 {
         keys: Vec::new(),
         turn: 0,
     };
-    let [lean, proved, reference] = ways.map(|way| {
-        let mut after = call.clone();
-        (way(&mut after), after)
-    });
-    assert!(lean == reference, "lean and reference differ, seed {SEED}");
-    assert!(
-        proved == reference,
-        "proved and reference differ, seed {SEED}"
-    );
-    reference.0
+    measure::agreed(ways, &call, which, SEED).0
 }
 
 pub fn measure() {

@@ -9,6 +9,29 @@ const TURN: f64 = 40_000.0;
 /// The calls to be timed: lean, proved, reference.
 pub type Three<'a> = [&'a mut dyn FnMut(); 3];
 
+/// What one call leaves, if the three ways of making it leave the same: its
+/// answer and its buffers. Stops the program if not.
+pub fn agreed<C: Clone + PartialEq>(
+    ways: [fn(&mut C) -> u8; 3],
+    call: &C,
+    which: usize,
+    seed: u64,
+) -> (u8, C) {
+    let [lean, proved, reference] = ways.map(|way| {
+        let mut after = call.clone();
+        (way(&mut after), after)
+    });
+    assert!(
+        lean == reference,
+        "lean and reference differ on call {which}, seed {seed}"
+    );
+    assert!(
+        proved == reference,
+        "proved and reference differ on call {which}, seed {seed}"
+    );
+    reference
+}
+
 /// Nanoseconds a call of each of the three. They take turns within each
 /// repetition, so that noise of the machine hits all alike.
 pub fn medians(three: &mut Three) -> [f64; 3] {

@@ -97,19 +97,7 @@ impl Compared {
     /// Stops the program if the three differ in an answer or a buffer; gives
     /// the answer and the buffers.
     fn agree(&mut self, ways: [Way; 3], call: &Call) -> (u8, Call) {
-        let [lean, proved, reference] = ways.map(|way| {
-            let mut after = call.clone();
-            (way(&mut after), after)
-        });
-        let which = self.calls;
-        assert!(
-            lean == reference,
-            "lean and reference differ on call {which}, seed {SEED}"
-        );
-        assert!(
-            proved == reference,
-            "proved and reference differ on call {which}, seed {SEED}"
-        );
+        let reference = measure::agreed(ways, call, self.calls, SEED);
         self.calls += 1;
         self.accepted += usize::from(reference.0 == 0);
         reference

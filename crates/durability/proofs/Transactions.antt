@@ -27,7 +27,8 @@ use Rattle.tree.specs.Whole.{editedImage}
 use Rattle.journal.specs.declared.Commit.{Commit}
 use Rattle.transaction.specs.declared.Transacted.{Transacted}
 use Rattle.transaction.specs.declared.Transacted.the-variants.{Accepted, Refused}
-use Rattle.durability.specs.Demand.{Call, onImage, commandsOn, leftBy, imageAfter, played, isAccepted, editsOf, Feed, feedOf, feeds, ledgerAfter}
+use Rattle.edit.specs.EditList.{editsOf}
+use Rattle.durability.specs.Demand.{Call, onImage, commandsOn, leftBy, imageAfter, played, isAccepted, Feed, feedOf, feeds, ledgerAfter}
 
 -- the bytes written at the front of a tape are read back
 pub front-back : (tape bytes : List ℕ) → length bytes ≤ length tape → take (length bytes) (splice tape 0 bytes) ≡ bytes
@@ -90,7 +91,7 @@ module _ (a : List ℕ) (s : sound a ≡ true) (k : Call) (d : Commit) (e : onIm
   accepted-table = ap table leaves-work ∙ taken-sound a target s edited room .1 ∙ edited-table
 
   pub accepted-feed : feedOf a k ≡ record { accepted = true; edits = run .list }
-  unfolding isAccepted editsOf
+  unfolding isAccepted
   accepted-feed = λ i. record { accepted = ap isAccepted e i; edits = ap editsOf (run .done .reads) i }
 
 -- ---- either way

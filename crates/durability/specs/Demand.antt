@@ -16,7 +16,7 @@ use Rattle.page.specs.Layout.{pageSize, Rec}
 use Rattle.image.specs.PageZero.{pageZero}
 use Rattle.image.specs.Image.{sound}
 use Rattle.image.specs.Table.{table}
-use Rattle.edit.specs.EditList.{Edit, Listed, listed, faulty, editList}
+use Rattle.edit.specs.EditList.{Edit, editsOf, editList}
 use Rattle.edit.specs.Ledger.{Ledger, opened, fed}
 use Rattle.journal.specs.Recovery.{recoveryTape}
 use Rattle.journal.specs.declared.CommitPlace.{CommitPlace}
@@ -64,10 +64,6 @@ played a (k ∷ ks) = played (imageAfter a k) ks
 unfoldable pub isAccepted : Transacted → Bool
 isAccepted (transacted.Accepted c) = true
 isAccepted (transacted.Refused r) = false
-
-unfoldable pub editsOf : Listed → List Edit
-editsOf (listed es) = es
-editsOf (faulty k i) = []
 
 -- "It is fed each transaction's edit list and whether it was accepted"
 pub record Feed : Type 0 where

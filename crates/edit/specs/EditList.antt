@@ -64,6 +64,11 @@ pub data Listed : Type 0 where
   listed : List Edit → Listed
   faulty : ℕ → ℕ → Listed
 
+-- the edits that were read
+abbrev pub editsOf : Listed → List Edit
+editsOf (listed es) = es
+editsOf (faulty k i) = []
+
 unfoldable pub joined : Edit → Listed → Listed
 joined e (listed es) = listed (e ∷ es)
 joined e (faulty k i) = faulty k i

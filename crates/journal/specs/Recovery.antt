@@ -1,4 +1,4 @@
--- Recovery: the replayed image, its tape, and what the call answers and leaves (document 01, "Recovery with mark 0 ..", and 'Each call').
+-- Recovery: the replayed image, its tape, and when the log can be replayed (document 01, "Recovery with mark 0 ..", and 'Recovery' in 'Each call').
 -- Assumes nothing.
 use Prim.Native.Nat.{ℕ, zero, suc, _*_}
 use mathlib.Core.Bool.{Bool, true, false, _&&_}

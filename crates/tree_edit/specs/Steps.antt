@@ -11,7 +11,6 @@ use Rattle.page.specs.Layout.{leafKind, Rec, recOf}
 use Rattle.page.specs.Page.{records}
 use Rattle.page.specs.Operations.{made}
 use Rattle.image.specs.Image.{children, childOf, among}
-use Rattle.edit.specs.EditList.{Edit, Listed, listed, faulty, editList}
 use Rattle.tree.specs.State.{State, Step, done, refused, filled}
 use Rattle.tree.specs.Edits.{indexRec, indexed, keptSep, splitPoint, firstKey}
 use Rattle.tree.specs.Whole as whole
@@ -73,7 +72,7 @@ splitOver st i sep rs p q =
     let m = splitPoint rs in
     indexTwo (filled leafKind q (drop m rs) (filled leafKind p (take m rs) st)) i (keptSep i sep) p (firstKey (drop m rs)) q
 
--- ---- leaves, changes and lists of edits
+-- ---- leaves and changes
 
 -- the leaf of the i-th index record
 abbrev pub leafAt : List ℕ → ℕ → ℕ → Leaf
@@ -86,7 +85,3 @@ recBy new v = recOf (new .key) v
 -- the records of the page p with the change made
 abbrev pub madeBy : Change → List ℕ → List ℕ → List Rec
 madeBy new v p = made (new .ins) (new .at) (recBy new v) (records p)
-
-abbrev pub editsOf : Listed → List Edit
-editsOf (listed es) = es
-editsOf (faulty k i) = []

@@ -6,10 +6,10 @@ use native.Mathlib.Omega.{arith}
 use lib.ListN.{length}
 use Rattle.page.specs.Layout.{pageSize}
 use Rattle.image.specs.PageZero.{pageCount}
-use Rattle.edit.specs.EditList.{editList}
+use Rattle.edit.specs.EditList.{editsOf, editList}
 use Rattle.tree.specs.Whole.{editsFrom}
 use Rattle.tree.proofs.Tree.{Good}
-use Rattle.tree_edit.specs.Steps.{stateOf, editsOf}
+use Rattle.tree_edit.specs.Steps.{stateOf}
 use borrow.Author.Needs.{needs}
 use Rattle.tree_edit.proofs.Said.{said-refused, said-done, said-low}
 use Rattle.tree_edit.proofs.EditsLeft.{Left, left-all, left-end, one-more, head-fits, head-proper, left-stop, left-next}

@@ -1,52 +1,27 @@
--- What is written of an answer, by its cases.
+-- What is written of an answer.
 -- Assumes nothing.
 use Prim.Native.Nat.{ℕ}
-use mathlib.Core.Path.{_≡_, refl, sym, ap, _∙_}
+use mathlib.Core.Path.{_≡_, sym, ap, _∙_}
 use mathlib.Core.List.{List, [], _∷_}
 use lib.ListN.{length}
 use borrow.Author.Tests.{le-leb}
 use native.Mathlib.Omega.{arith}
-use Rattle.device.specs.declared.Refusal.{Refusal}
-use Rattle.image.specs.declared.Lookup.{Lookup}
-use Rattle.image.specs.declared.Lookup.the-variants as lookups
-use Rattle.image.specs.declared.Next.{Next}
-use Rattle.image.specs.declared.Next.the-variants as nexts
-use Rattle.store.specs.Numbers.{lent, lookupNumber, lookupNumbers, nextNumber, nextNumbers}
+use Rattle.journal.specs.declared.CommitPlace.{CommitPlace}
+use Rattle.journal.specs.declared.Commit.{Commit}
+use Rattle.store.specs.Numbers.{lent, placeKind, placePage, commitNumbers}
 
 -- nothing written
 pub lent-none : (old : List ℕ) → lent old [] ≡ old
 unfolding lent
 lent-none old = rw (le-leb 0 (length old) (omega arith))
 
-module _ (l : Lookup) (old new : List ℕ) where
-  -- the number and the array are the answer's
-  abbrev pub LookupWritten : ℕ → Type 0
-  LookupWritten k = (k ≡ lookupNumber l) × (new ≡ lent old (lookupNumbers l))
+-- the number and the array of the case x are those of the answer l, which is x
+pub written : {A : Type 0} (number : A → ℕ) (numbers : A → List ℕ) (l x : A) → l ≡ x → (old new : List ℕ) → new ≡ lent old (numbers x) →
+    (number x ≡ number l) × (new ≡ lent old (numbers l))
+written number numbers l x e old new w = (ap number (sym e), w ∙ ap (λ y. lent old (numbers y)) (sym e))
 
-  pub found-written : (o n : ℕ) → l ≡ lookups.Found o n → new ≡ lent old (1 ∷ o ∷ n ∷ []) → LookupWritten 0
-  unfolding lookupNumber lookupNumbers
-  found-written o n e w = rw e (refl, w)
-
-  pub missing-written : l ≡ lookups.Missing → new ≡ lent old (0 ∷ 0 ∷ 0 ∷ []) → LookupWritten 0
-  unfolding lookupNumber lookupNumbers
-  missing-written e w = rw e (refl, w)
-
-  pub refused-written : (r : Refusal) → l ≡ lookups.Refused r → new ≡ old → LookupWritten (r .number)
-  unfolding lookupNumber lookupNumbers
-  refused-written r e w = rw e (refl, w ∙ sym (lent-none old))
-
-module _ (x : Next) (old new : List ℕ) where
-  abbrev pub NextWritten : ℕ → Type 0
-  NextWritten k = (k ≡ nextNumber x) × (new ≡ lent old (nextNumbers x))
-
-  pub key-written : (k : ℕ) → x ≡ nexts.Key k → new ≡ lent old (1 ∷ k ∷ []) → NextWritten 0
-  unfolding nextNumber nextNumbers
-  key-written k e w = rw e (refl, w)
-
-  pub last-written : x ≡ nexts.Last → new ≡ lent old (0 ∷ 0 ∷ []) → NextWritten 0
-  unfolding nextNumber nextNumbers
-  last-written e w = rw e (refl, w)
-
-  pub stop-written : (r : Refusal) → x ≡ nexts.Refused r → new ≡ old → NextWritten (r .number)
-  unfolding nextNumber nextNumbers
-  stop-written r e w = rw e (refl, w ∙ sym (lent-none old))
+-- the numbers of an accepted transaction, where its commit place is p
+pub commit-written : (c : Commit) (p : CommitPlace) → c .place ≡ p → (old : List ℕ) →
+    lent old (0 ∷ placeKind p ∷ placePage p ∷ c .bytes ∷ c .flushes ∷ []) ≡ lent old (commitNumbers c)
+unfolding commitNumbers
+commit-written c p e old = ap (λ (q : CommitPlace). lent old (0 ∷ placeKind q ∷ placePage q ∷ c .bytes ∷ c .flushes ∷ [])) (sym e)

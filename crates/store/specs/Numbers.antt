@@ -6,6 +6,13 @@ use lib.ListN.{length}
 use lib.Seq.{sets}
 use lib.Dec.{leb}
 use Rattle.codec.specs.Lists.{pick}
+use Rattle.journal.specs.declared.CommitPlace.{CommitPlace}
+use Rattle.journal.specs.declared.CommitPlace.the-variants.{Header, Root, Log}
+use Rattle.journal.specs.declared.Commit.{Commit}
+use Rattle.transaction.specs.declared.Transacted.{Transacted}
+use Rattle.transaction.specs.declared.Transacted.the-variants as transactions
+use Rattle.recovery.specs.declared.Recovered.{Recovered}
+use Rattle.recovery.specs.declared.Recovered.the-variants as recoveries
 use Rattle.image.specs.declared.Lookup.{Lookup}
 use Rattle.image.specs.declared.Lookup.the-variants as lookups
 use Rattle.image.specs.declared.Next.{Next}
@@ -36,3 +43,35 @@ unfoldable pub nextNumbers : Next → List ℕ
 nextNumbers (nexts.Key k) = 1 ∷ k ∷ []
 nextNumbers nexts.Last = 0 ∷ 0 ∷ []
 nextNumbers (nexts.Refused r) = []
+
+-- a commit place: 1 and its page for a header, 2 for the root word, 3 for the log
+abbrev pub placeKind : CommitPlace → ℕ
+placeKind (Header p) = 1
+placeKind Root = 2
+placeKind Log = 3
+
+abbrev pub placePage : CommitPlace → ℕ
+placePage (Header p) = p
+placePage Root = 0
+placePage Log = 0
+
+-- a transaction: edit number, commit place, its page, tape bytes and flushes; a refusal has its edit number and zeros
+unfoldable pub commitNumbers : Commit → List ℕ
+commitNumbers c = 0 ∷ placeKind (c .place) ∷ placePage (c .place) ∷ c .bytes ∷ c .flushes ∷ []
+
+unfoldable pub transactedNumber : Transacted → ℕ
+transactedNumber (transactions.Accepted c) = 0
+transactedNumber (transactions.Refused r) = r .number
+
+unfoldable pub transactedNumbers : Transacted → List ℕ
+transactedNumbers (transactions.Accepted c) = commitNumbers c
+transactedNumbers (transactions.Refused r) = r .edit ∷ 0 ∷ 0 ∷ 0 ∷ 0 ∷ []
+
+-- a recovery: tape bytes and flushes. A refusal writes nothing
+unfoldable pub recoveredNumber : Recovered → ℕ
+recoveredNumber (recoveries.Accepted d) = 0
+recoveredNumber (recoveries.Refused r) = r .number
+
+unfoldable pub recoveredNumbers : Recovered → List ℕ
+recoveredNumbers (recoveries.Accepted d) = d .bytes ∷ d .flushes ∷ []
+recoveredNumbers (recoveries.Refused r) = []

@@ -4,12 +4,20 @@ use device::Answer;
 use image::Lookup;
 use image::Next;
 use image::calls;
+use journal::Commit;
+use journal::CommitPlace;
+use recovery::Recovered;
+use recovery::recover;
+use transaction::Transacted;
+use transaction::transaction;
 ghost use mathlib.Core.Path.{_≡_};
 ghost use Prim.Native.Nat.{_≤_};
 ghost use lib.ListN.{take};
 ghost use Rattle.device.specs.Calls.{numberOf, runCall, cutCall};
 ghost use Rattle.image.specs.Calls.{formatCall, checkCall, lookupCall, nextCall};
-ghost use Rattle.store.specs.Numbers.{lent, lookupNumber, lookupNumbers, nextNumber, nextNumbers};
+ghost use Rattle.transaction.specs.Calls.{transactionCall};
+ghost use Rattle.recovery.specs.Calls.{recoverCall};
+ghost use Rattle.store.specs.Numbers.{lent, lookupNumber, lookupNumbers, nextNumber, nextNumbers, commitNumbers, transactedNumber, transactedNumbers, recoveredNumber, recoveredNumbers};
 
 fn number_of(answer: Answer) -> u8
     ensures { λ r. ⌜ r ≡ numberOf answer ⌝ }
@@ -21,8 +29,8 @@ fn number_of(answer: Answer) -> u8
 }
 
 // Writes the first n numbers to the front of a lent array, if they fit.
-fn put_numbers(answer: &mut [u64], numbers: [u64; 3], n: usize)
-    requires { ⌜ n ≤ 3 ⌝ }
+fn put_numbers(answer: &mut [u64], numbers: [u64; 5], n: usize)
+    requires { ⌜ n ≤ 5 ⌝ }
     ensures { λ _. ⌜ now (answer .exit) ≡ lent (now (answer .entry)) (take n numbers) ⌝ }
 {
     if answer.len() < n {
@@ -79,11 +87,11 @@ pub extern "C" fn quote_lookup(image: &[u8], key: u64, answer: &mut [u64]) -> u8
 {
     match calls::lookup(image, key) {
         Lookup::Found { offset, length } => {
-            put_numbers(answer, [1, offset as u64, length as u64], 3);
+            put_numbers(answer, [1, offset as u64, length as u64, 0, 0], 3);
             0
         }
         Lookup::Missing => {
-            put_numbers(answer, [0, 0, 0], 3);
+            put_numbers(answer, [0, 0, 0, 0, 0], 3);
             0
         }
         Lookup::Refused(refusal) => refusal.number,
@@ -97,13 +105,73 @@ pub extern "C" fn quote_next_key(image: &[u8], key: u64, answer: &mut [u64]) -> 
 {
     match calls::next_key(image, key) {
         Next::Key(next) => {
-            put_numbers(answer, [1, next, 0], 2);
+            put_numbers(answer, [1, next, 0, 0, 0], 2);
             0
         }
         Next::Last => {
-            put_numbers(answer, [0, 0, 0], 2);
+            put_numbers(answer, [0, 0, 0, 0, 0], 2);
             0
         }
         Next::Refused(refusal) => refusal.number,
+    }
+}
+
+// Writes the numbers of an accepted transaction.
+fn put_commit(answer: &mut [u64], commit: Commit)
+    ensures { λ _. ⌜ now (answer .exit) ≡ lent (now (answer .entry)) (commitNumbers commit) ⌝ }
+{
+    let bytes = commit.bytes as u64;
+    let flushes = commit.flushes as u64;
+    let place = commit.place;
+    match place {
+        CommitPlace::Header(page) => put_numbers(answer, [0, 1, page as u64, bytes, flushes], 5),
+        CommitPlace::Root => put_numbers(answer, [0, 2, 0, bytes, flushes], 5),
+        CommitPlace::Log => put_numbers(answer, [0, 3, 0, bytes, flushes], 5),
+    }
+}
+
+#[no_mangle]
+pub extern "C" fn quote_transaction(
+    image: &[u8],
+    work: &mut [u8],
+    tape: &mut [u8],
+    edits: &[u8],
+    answer: &mut [u64],
+) -> u8
+    ensures { λ r. ⌜ r ≡ transactedNumber (transactionCall (now (image .entry)) (now (work .entry)) (now (tape .entry)) (now (edits .entry)) .answer) ⌝ }
+    ensures { λ _. ⌜ now (work .exit) ≡ transactionCall (now (image .entry)) (now (work .entry)) (now (tape .entry)) (now (edits .entry)) .work ⌝ }
+    ensures { λ _. ⌜ now (tape .exit) ≡ transactionCall (now (image .entry)) (now (work .entry)) (now (tape .entry)) (now (edits .entry)) .tape ⌝ }
+    ensures { λ _. ⌜ now (answer .exit) ≡ lent (now (answer .entry)) (transactedNumbers (transactionCall (now (image .entry)) (now (work .entry)) (now (tape .entry)) (now (edits .entry)) .answer)) ⌝ }
+{
+    match transaction(image, work, tape, edits) {
+        Transacted::Accepted(commit) => {
+            put_commit(answer, commit);
+            0
+        }
+        Transacted::Refused(refusal) => {
+            put_numbers(answer, [refusal.edit as u64, 0, 0, 0, 0], 5);
+            refusal.number
+        }
+    }
+}
+
+#[no_mangle]
+pub extern "C" fn quote_recover(
+    image: &[u8],
+    work: &mut [u8],
+    tape: &mut [u8],
+    answer: &mut [u64],
+) -> u8
+    ensures { λ r. ⌜ r ≡ recoveredNumber (recoverCall (now (image .entry)) (now (work .entry)) (now (tape .entry)) .answer) ⌝ }
+    ensures { λ _. ⌜ now (work .exit) ≡ recoverCall (now (image .entry)) (now (work .entry)) (now (tape .entry)) .work ⌝ }
+    ensures { λ _. ⌜ now (tape .exit) ≡ recoverCall (now (image .entry)) (now (work .entry)) (now (tape .entry)) .tape ⌝ }
+    ensures { λ _. ⌜ now (answer .exit) ≡ lent (now (answer .entry)) (recoveredNumbers (recoverCall (now (image .entry)) (now (work .entry)) (now (tape .entry)) .answer)) ⌝ }
+{
+    match recover(image, work, tape) {
+        Recovered::Accepted(done) => {
+            put_numbers(answer, [done.bytes as u64, done.flushes as u64, 0, 0, 0], 2);
+            0
+        }
+        Recovered::Refused(refusal) => refusal.number,
     }
 }

@@ -1,10 +1,9 @@
 -- `put_numbers` writes the first n numbers, or nothing. The invariant: what is left to store, stored over what is there, is the whole.
 -- Assumes nothing.
-use Prim.Native.Nat.{ℕ, _+_, _-_, _≤_, _<_}
-use mathlib.Core.Path.{_≡_, refl, sym, ap, _∙_}
-use mathlib.Core.List.{List}
+use Prim.Native.Nat.{_-_, _≤_}
+use mathlib.Core.Path.{_≡_, refl, sym, _∙_}
 use native.Mathlib.Omega.{arith}
-use lib.ListN.{length, getD, take, drop, set, length-set, length-take}
+use lib.ListN.{length, getD, take, drop, length-set}
 use lib.Seq.{sets, getD-take, length-take-le}
 use borrow.Author.Needs.{needs}
 use borrow.Author.Tests.{le-leb, lt-leb}
@@ -24,7 +23,7 @@ returns : tie.Need-returns Inv-loop μ-loop
 unfolding lent
 returns c =
     let a = c .before .args in
-    let three : length (a .t2) ≡ 3 = c .before .good .1 .0 .1 .0 .1 in
+    let five : length (a .t2) ≡ 5 = c .before .good .1 .0 .1 .0 .1 in
     let long : length (take (a .n) (a .t2)) ≡ a .n = length-take-le (a .n) (a .t2) (omega (arith, c .before .pre)) in
     rw (lt-leb (length (take (a .n) (a .t2))) (length (a .answer .now)) (omega (arith, c .if1 .taken)))
 
@@ -51,10 +50,11 @@ loop-less c = omega arith
 
 loop-again : tie.Need-loop-again Inv-loop μ-loop
 loop-again c =
-    let a = c .before .before .before .args in
+    let s = c .before .before .before in
+    let a = s .args in
     let l = c .before .loop in
-    let three : length (a .t2) ≡ 3 = c .before .before .before .good .1 .0 .1 .0 .1 in
-    let long : length (take (a .n) (a .t2)) ≡ a .n = length-take-le (a .n) (a .t2) (omega (arith, c .before .before .before .pre)) in
+    let five : length (a .t2) ≡ 5 = c .before .before .before .good .1 .0 .1 .0 .1 in
+    let long : length (take (a .n) (a .t2)) ≡ a .n = length-take-le (a .n) (a .t2) (omega (arith, s .pre)) in
     (omega arith, simp length-set (l .inv .1), sym (sets-next (l .answer) (take (a .n) (a .t2)) (l .i) (getD (a .t2) (l .i) 0) (omega arith) (sym (getD-take (a .n) (a .t2) (l .i) 0 (omega arith)))) ∙ l .inv .2)
 
 same-length : tie.Need-same-length Inv-loop μ-loop
@@ -63,10 +63,11 @@ same-length c = search needs
 returns-2 : tie.Need-returns-2 Inv-loop μ-loop
 unfolding lent
 returns-2 c =
-    let a = c .before .before .before .args in
+    let s = c .before .before .before in
+    let a = s .args in
     let l = c .before .loop in
-    let three : length (a .t2) ≡ 3 = c .before .before .before .good .1 .0 .1 .0 .1 in
-    let long : length (take (a .n) (a .t2)) ≡ a .n = length-take-le (a .n) (a .t2) (omega (arith, c .before .before .before .pre)) in
+    let five : length (a .t2) ≡ 5 = c .before .before .before .good .1 .0 .1 .0 .1 in
+    let long : length (take (a .n) (a .t2)) ≡ a .n = length-take-le (a .n) (a .t2) (omega (arith, s .pre)) in
     rw (le-leb (length (take (a .n) (a .t2))) (length (a .answer .now)) (omega (arith, c .before .before .if1 .left)))
     (sym (sets-done (l .answer) (take (a .n) (a .t2)) (l .i) (omega arith)) ∙ l .inv .2)
 

@@ -1,14 +1,12 @@
 -- `quote_lookup`: the number and the array of what the call answers.
 -- Assumes nothing.
-use mathlib.Core.Path.{refl, sym, _∙_}
-use Rattle.store.proofs.Written.{found-written, missing-written, refused-written}
+use mathlib.Core.Path.{sym, _∙_}
+use Rattle.image.specs.declared.Lookup.the-variants.{Found, Missing, Refused}
+use Rattle.store.specs.Numbers.{lookupNumber, lookupNumbers}
+use Rattle.store.proofs.Written.{lent-none, written}
 use borrow.Author.Needs.{needs}
 use Rattle.store.proofs.quote_lookup.Statement.{statement}
 use Rattle.store.proofs.quote_lookup.Tie as tie
-use Rattle.store.proofs.quote_lookup.Reads as reads
-use Rattle.store.proofs.quote_lookup.Lts as lts
-use Rattle.image.proofs.calls.lookup.Reads as lookup-reads
-use Rattle.store.proofs.put_numbers.Reads as put-numbers-reads
 
 lookup-requires : tie.Need-lookup-requires
 lookup-requires c κs = search needs
@@ -32,16 +30,19 @@ same-length : tie.Need-same-length
 same-length c = search needs
 
 returns : tie.Need-returns
-returns c = found-written _ _ _ _ _ (sym (c .before .before .before .before .before .before .before .lookup .ensures) ∙ c .before .before .before .before .before .offset .given .1) (c .before .before .put-numbers .ensures)
+unfolding lookupNumber lookupNumbers
+returns c = written lookupNumber lookupNumbers _ (Found (c .before .before .before .before .before .offset .given .0 .0) (c .before .before .before .before .before .offset .given .0 .1 .0)) (sym (c .before .before .before .before .before .before .before .lookup .ensures) ∙ c .before .before .before .before .before .offset .given .1) _ _ (c .before .before .put-numbers .ensures)
 
 same-length-2 : tie.Need-same-length-2
 same-length-2 c = search needs
 
 returns-2 : tie.Need-returns-2
-returns-2 c = missing-written _ _ _ (sym (c .before .before .before .before .before .before .lookup .ensures) ∙ c .before .before .before .before .enum-told .given .1) (c .before .before .put-numbers2 .ensures)
+unfolding lookupNumber lookupNumbers
+returns-2 c = written lookupNumber lookupNumbers _ Missing (sym (c .before .before .before .before .before .before .lookup .ensures) ∙ c .before .before .before .before .enum-told .given .1) _ _ (c .before .before .put-numbers2 .ensures)
 
 returns-3 : tie.Need-returns-3
-returns-3 c = refused-written _ _ _ _ (sym (c .before .before .before .lookup .ensures) ∙ c .before .refusal .given .1) refl
+unfolding lookupNumber lookupNumbers
+returns-3 c = written lookupNumber lookupNumbers _ (Refused (c .before .refusal .given .0 .0)) (sym (c .before .before .before .lookup .ensures) ∙ c .before .refusal .given .1) _ _ (sym (lent-none _))
 
 pub quote-lookup-spec : {M : Type 1} → statement M
 quote-lookup-spec =

@@ -1,14 +1,12 @@
 -- `quote_next_key`: the number and the array of what the call answers.
 -- Assumes nothing.
-use mathlib.Core.Path.{refl, sym, _∙_}
-use Rattle.store.proofs.Written.{key-written, last-written, stop-written}
+use mathlib.Core.Path.{sym, _∙_}
+use Rattle.image.specs.declared.Next.the-variants.{Key, Last, Refused}
+use Rattle.store.specs.Numbers.{nextNumber, nextNumbers}
+use Rattle.store.proofs.Written.{lent-none, written}
 use borrow.Author.Needs.{needs}
 use Rattle.store.proofs.quote_next_key.Statement.{statement}
 use Rattle.store.proofs.quote_next_key.Tie as tie
-use Rattle.store.proofs.quote_next_key.Reads as reads
-use Rattle.store.proofs.quote_next_key.Lts as lts
-use Rattle.image.proofs.calls.next_key.Reads as next-key-reads
-use Rattle.store.proofs.put_numbers.Reads as put-numbers-reads
 
 next-key-requires : tie.Need-next-key-requires
 next-key-requires c κs = search needs
@@ -32,16 +30,19 @@ same-length : tie.Need-same-length
 same-length c = search needs
 
 returns : tie.Need-returns
-returns c = key-written _ _ _ _ (sym (c .before .before .before .before .before .before .before .next-key .ensures) ∙ c .before .before .before .before .before .next .given .1) (c .before .before .put-numbers .ensures)
+unfolding nextNumber nextNumbers
+returns c = written nextNumber nextNumbers _ (Key (c .before .before .before .before .before .next .given .0 .0)) (sym (c .before .before .before .before .before .before .before .next-key .ensures) ∙ c .before .before .before .before .before .next .given .1) _ _ (c .before .before .put-numbers .ensures)
 
 same-length-2 : tie.Need-same-length-2
 same-length-2 c = search needs
 
 returns-2 : tie.Need-returns-2
-returns-2 c = last-written _ _ _ (sym (c .before .before .before .before .before .before .next-key .ensures) ∙ c .before .before .before .before .enum-told .given .1) (c .before .before .put-numbers2 .ensures)
+unfolding nextNumber nextNumbers
+returns-2 c = written nextNumber nextNumbers _ Last (sym (c .before .before .before .before .before .before .next-key .ensures) ∙ c .before .before .before .before .enum-told .given .1) _ _ (c .before .before .put-numbers2 .ensures)
 
 returns-3 : tie.Need-returns-3
-returns-3 c = stop-written _ _ _ _ (sym (c .before .before .before .next-key .ensures) ∙ c .before .refusal .given .1) refl
+unfolding nextNumber nextNumbers
+returns-3 c = written nextNumber nextNumbers _ (Refused (c .before .refusal .given .0 .0)) (sym (c .before .before .before .next-key .ensures) ∙ c .before .refusal .given .1) _ _ (sym (lent-none _))
 
 pub quote-next-key-spec : {M : Type 1} → statement M
 quote-next-key-spec =

@@ -24,7 +24,7 @@ use Rattle.tape_write.specs.Sizes.{endBytes, endFlushes}
 use Rattle.tape_write.specs.Calls.{Images, Counted, commitCall}
 use Rattle.tape_write.proofs.Encoding.{length-tapes, tape-then}
 use Rattle.tape_write.proofs.Collecting.{collected}
-use Rattle.tape_write.proofs.StageTape.{lines-few, words-in, words-few, stage-tape, stage-size, stage-flushes}
+use Rattle.tape_write.proofs.StageTape.{lines-few, words-in, words-fit, words-few, stage-tape, stage-size, stage-flushes}
 use Rattle.tape_write.proofs.Choosing.{Behind, choose-behind, end-sized, Leaves}
 use Rattle.tape_write.specs.declared.Written.{Written}
 use Rattle.tape_write.specs.declared.Changes.{Changes}
@@ -73,8 +73,8 @@ module _ (a w : List ℕ) (is : Images a w) (r : Changes) (c : Counted a w r) wh
       (omega (arith, c .words), omega (arith, c .lines, lines-few 0 (stageWords a w)))
 
   -- what was collected in an array of zeros
-  pub words-are : (z words : List ℕ) → length z ≡ 8192 → words ≡ sets z 0 (stageWords a w) → take (r .words) words ≡ stageWords a w
-  words-are z words n e = ap (λ (m : ℕ). take m words) (c .words) ∙ collected z words (stageWords a w) e (omega (arith, words-few a w is))
+  pub words-are : (z words : List ℕ) → length a ≤ 8 * length z → words ≡ sets z 0 (stageWords a w) → take (r .words) words ≡ stageWords a w
+  words-are z words n e = ap (λ (m : ℕ). take m words) (c .words) ∙ collected z words (stageWords a w) e (omega (arith, words-fit a w is))
 
   module _ (few : r .headers ≤ 15) where
     pub pages-few : length (changedPages a w) ≤ 15

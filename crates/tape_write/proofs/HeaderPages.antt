@@ -2,13 +2,15 @@
 -- Assumes nothing.
 use Prim.Native.Nat.{ℕ, suc, _+_, _-_, _*_, _≤_, _<_}
 use mathlib.Core.Path.{_≡_, refl, sym, ap, ap₂, _∙_}
-use mathlib.Core.Bool.{Bool, true, false, _&&_}
+use mathlib.Core.Bool.{Bool, true, false, _&&_, and-false}
 use mathlib.Core.List.{List, [], _∷_, _++_}
 use native.Mathlib.Omega.{arith}
 use native.Mathlib.Numerals.{add-one}
 use lib.ListN.{length, getD, take, drop, length-map, drop-of-length-le}
 use lib.Seq.{sets, take-at}
-use borrow.Author.Tests.{eq-eqb}
+use lib.Bits.{bitOr, bitXor, or-zero-r, or-add-and, xor-self, xor-add-and, and-le-l, and-le-r}
+use lib.Dec.{eqb}
+use borrow.Author.Tests.{eq-eqb, ne-eqb, eqb-true, eqb-false}
 use Rattle.codec.specs.Lists.{pick, part, splice, eqs, All}
 use Rattle.codec.proofs.Tests.{eqs-same, eqs-differ}
 use Rattle.codec.proofs.Lists.{length-part, part-drop, drop-splice, splice-sets, sets-append}
@@ -32,6 +34,12 @@ eqs-past (c ∷ x) u v = rw (eq-eqb c c refl) (eqs-past x u v)
 
 eqs-apart : (x y u v : List ℕ) → length x ≡ length y → (x ≡ y → ⊥) → eqs (x ++ u) (y ++ v) ≡ false
 eqs-apart x y u v e other = eqs-differ (x ++ u) (y ++ v) (λ q. other (sym (take-at x u (length y) e) ∙ ap (take (length y)) q ∙ take-at y v (length y) refl))
+
+or-none : (d x : ℕ) → bitOr d x ≡ 0 → x ≡ 0
+or-none d x e = omega (arith, or-add-and d x, and-le-l d x)
+
+xor-none : (u v : ℕ) → bitXor u v ≡ 0 → u ≡ v
+xor-none u v e = omega (arith, xor-add-and u v, and-le-l u v, and-le-r u v)
 
 module _ (a b : List ℕ) (at n i : ℕ) where
   -- the words from the i-th on
@@ -57,6 +65,22 @@ module _ (a b : List ℕ) (at n i : ℕ) where
     compare-other fa fb other =
         ap₂ eqs (first a) (first b)
         ∙ eqs-apart (part a (at + 8 * i) 8) (part b (at + 8 * i) 8) (wordsOf a (i + 1)) (wordsOf b (i + 1)) (length-part a (at + 8 * i) 8 fa ∙ sym (length-part b (at + 8 * i) 8 fb)) other
+
+    -- what differs is joined to d: with the words that are left, it tells as much as before
+    pub compare-joined : at + 8 * i + 8 ≤ length a → at + 8 * i + 8 ≤ length b → (d u v : ℕ) →
+        (u ≡ v → part a (at + 8 * i) 8 ≡ part b (at + 8 * i) 8) → (part a (at + 8 * i) 8 ≡ part b (at + 8 * i) 8 → u ≡ v) →
+        (eqb (bitOr d (bitXor u v)) 0 && eqs (wordsOf a (i + 1)) (wordsOf b (i + 1))) ≡ (eqb d 0 && eqs (wordsOf a i) (wordsOf b i))
+    compare-joined fa fb d u v same back = go (eqb u v) refl
+      where
+        go : (t : Bool) → eqb u v ≡ t → (eqb (bitOr d (bitXor u v)) 0 && eqs (wordsOf a (i + 1)) (wordsOf b (i + 1))) ≡ (eqb d 0 && eqs (wordsOf a i) (wordsOf b i))
+        go true e =
+            let z : u ≡ v = eqb-true u v e in
+            let x : bitOr d (bitXor u v) ≡ d = ap (λ (w : ℕ). bitOr d (bitXor w v)) z ∙ ap (bitOr d) (xor-self v) ∙ or-zero-r d in
+            ap₂ (λ (w : ℕ) (t : Bool). eqb w 0 && t) x (sym (compare-same (same z)))
+        go false e =
+            let ne = eqb-false u v e in
+            rw (ne-eqb (bitOr d (bitXor u v)) 0 (λ q. ne (xor-none u v (or-none d (bitXor u v) q))), compare-other fa fb (λ q. ne (back q)))
+            (sym (and-false (eqb d 0)))
 
 -- ---- the changed headers, page by page
 

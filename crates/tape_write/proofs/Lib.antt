@@ -3,6 +3,7 @@ pub mod Collecting
 pub mod StageWords
 pub mod StageTape
 pub mod HeaderPages
+pub mod Skipped
 pub mod LogLines
 pub mod Endings
 pub mod Choosing

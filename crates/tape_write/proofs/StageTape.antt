@@ -91,9 +91,12 @@ module _ (a w : List ℕ) (is : Images a w) where
   unfolding stageWords
   words-in = stored-in (reachedIn a) a w (length a / wordSize) 0 (omega (arith, is .same, is .whole))
 
-  pub words-few : length (stageWords a w) ≤ 8192
+  pub words-fit : 8 * length (stageWords a w) ≤ length a
   unfolding stageWords
-  words-few = omega (arith, stored-length (reachedIn a) a w (length a / wordSize) 0, is .high)
+  words-fit = omega (arith, stored-length (reachedIn a) a w (length a / wordSize) 0)
+
+  pub words-few : length (stageWords a w) ≤ 8192
+  words-few = omega (arith, words-fit, is .high)
 
   pub stage-tape : stageA a w ≡ stageTape w (stageWords a w)
   unfolding stageA stageWords

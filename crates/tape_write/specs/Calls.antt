@@ -1,8 +1,8 @@
 -- What writing a tape asks of the buffers, and what it answers and leaves (document 01, 'Each call and when it says no').
 -- Assumes nothing.
-use Prim.Native.Nat.{ℕ, _+_, _*_, _%_, _≤_, _<_}
+use Prim.Native.Nat.{ℕ, _+_, _*_, _/_, _%_, _≤_, _<_}
 use mathlib.Core.Path.{_≡_}
-use mathlib.Core.Bool.{true}
+use mathlib.Core.Bool.{true, false}
 use mathlib.Core.List.{List}
 use lib.ListN.{length, getD}
 use lib.Dec.{leb}
@@ -38,11 +38,12 @@ pub record Marks (marks rs : List ℕ) : Type 0 where
   pub size : length marks ≡ 64
   pub mark : (p : ℕ) → p < 64 → getD marks p 0 ≡ pick (among p rs) 1 0
 
--- and the marks of the pages reached before and after
+-- and the marks of the pages reached before and after: "Pages not reached at the end hold the bytes they held before."
 pub record Lent (a w before after : List ℕ) : Type 0 where
   pub images : Images a w
   pub was : Marks before (reachedIn a)
   pub stays : Marks after (reachedIn w)
+  pub kept : (i : ℕ) → pageSize ≤ i → among (i / pageSize) (reachedIn w) ≡ false → getD w i 0 ≡ getD a i 0
 
 -- the code's counts of what differs
 pub record Counted (a w : List ℕ) (r : Changes) : Type 0 where

@@ -12,19 +12,19 @@ ghost use Rattle.journal.specs.Recovery.{logged};
 ghost use Rattle.tape_write.specs.Lines.{PageIn, lineFor, lineStores, lineFlushes};
 ghost use Rattle.tape_write.specs.Calls.{Lent};
 
-// Whether n words from `at` on are the same in both.
+// Whether n words from `at` on are the same in both. What differs is joined and tested once at the end: without a way out the loop takes
+// several words in a step.
 pub fn same_words(a: &[u8], b: &[u8], at: usize, n: usize) -> bool
     requires { ⌜ (at + 8 * n ≤ length (now a)) × (at + 8 * n ≤ length (now b)) ⌝ }
     ensures { λ r. ⌜ r ≡ eqs (part (now (a .entry)) at (8 * n)) (part (now (b .entry)) at (8 * n)) ⌝ }
 {
+    let mut differ = 0u64;
     let mut i = 0;
     while i < n {
-        if codec::long_at(a, at + 8 * i) != codec::long_at(b, at + 8 * i) {
-            return false;
-        }
+        differ = differ | (codec::long_at(a, at + 8 * i) ^ codec::long_at(b, at + 8 * i));
         i += 1;
     }
-    true
+    differ == 0
 }
 
 // Collects the pages reached before and after whose header differs.

@@ -56,12 +56,12 @@ fn find_changes(
     pages: &mut [u8],
 ) -> Changes
     requires { ⌜ Lent (now image) (now work) (now before) (now after) ⌝ }
-    requires { ⌜ (length (now words) ≡ 8192) × (length (now pages) ≡ 64) ⌝ }
+    requires { ⌜ (length (now image) ≤ 8 * length (now words)) × (length (now pages) ≡ 64) ⌝ }
     ensures { λ r. ⌜ Counted (now (image .entry)) (now (work .entry)) r ⌝ }
     ensures { λ _. ⌜ now (words .exit) ≡ sets (now (words .entry)) 0 (stageWords (now (image .entry)) (now (work .entry))) ⌝ }
     ensures { λ _. ⌜ now (pages .exit) ≡ sets (now (pages .entry)) 0 (changedPages (now (image .entry)) (now (work .entry))) ⌝ }
 {
-    let n = changed_words(image, work, before, words);
+    let n = changed_words(image, work, before, after, words);
     let k = changed_headers(image, work, before, after, pages);
     Changes {
         words: n,
@@ -80,7 +80,43 @@ fn emit_stage(tape: &mut [u8], work: &[u8], words: &[u16], n: usize)
     emit_flushes(tape, 12 * n, words, n);
 }
 
-// Writes the tape that commits the edited image in work. `before` and `after` mark the pages reached in image and in work.
+// Writes the tape that commits the edited image in work, with room for the words that differ.
+fn commit_with(
+    image: &[u8],
+    work: &mut [u8],
+    tape: &mut [u8],
+    before: &[u8],
+    after: &[u8],
+    words: &mut [u16],
+) -> Written
+    requires { ⌜ Lent (now image) (now work) (now before) (now after) × (length (now image) ≤ 8 * length (now words)) ⌝ }
+    ensures { λ r. ⌜ r ≡ (commitCall (now (image .entry)) (now (work .entry)) (now (tape .entry))) .answer ⌝ }
+    ensures { λ _. ⌜ now (work .exit) ≡ (commitCall (now (image .entry)) (now (work .entry)) (now (tape .entry))) .work ⌝ }
+    ensures { λ _. ⌜ now (tape .exit) ≡ (commitCall (now (image .entry)) (now (work .entry)) (now (tape .entry))) .tape ⌝ }
+{
+    let mut pages = [0u8; 64];
+    let found = find_changes(image, work, before, after, words, &mut pages);
+    let k = found.headers;
+    let same = found.same;
+    if 15 < k {
+        return Written::LogFull;
+    }
+    let stage = 12 * found.words + 4 * found.lines;
+    let bytes = stage + end_bytes(k, same);
+    if tape.len() < bytes {
+        return Written::TapeShort;
+    }
+    emit_stage(tape, work, words, found.words);
+    let place = emit_end(work, tape, stage, &pages, k, same);
+    Written::Done(Commit {
+        place,
+        bytes,
+        flushes: found.lines + end_flushes(k, same),
+    })
+}
+
+// Writes the tape that commits the edited image in work. `before` and `after` mark the pages reached in image and in work. An array of
+// words for the smallest image takes less time to clear.
 pub fn commit(
     image: &[u8],
     work: &mut [u8],
@@ -93,24 +129,10 @@ pub fn commit(
     ensures { λ _. ⌜ now (work .exit) ≡ (commitCall (now (image .entry)) (now (work .entry)) (now (tape .entry))) .work ⌝ }
     ensures { λ _. ⌜ now (tape .exit) ≡ (commitCall (now (image .entry)) (now (work .entry)) (now (tape .entry))) .tape ⌝ }
 {
+    if image.len() == 8192 {
+        let mut few = [0u16; 1024];
+        return commit_with(image, work, tape, before, after, &mut few);
+    }
     let mut words = [0u16; 8192];
-    let mut pages = [0u8; 64];
-    let found = find_changes(image, work, before, after, &mut words, &mut pages);
-    let k = found.headers;
-    let same = found.same;
-    if 15 < k {
-        return Written::LogFull;
-    }
-    let stage = 12 * found.words + 4 * found.lines;
-    let bytes = stage + end_bytes(k, same);
-    if tape.len() < bytes {
-        return Written::TapeShort;
-    }
-    emit_stage(tape, work, &words, found.words);
-    let place = emit_end(work, tape, stage, &pages, k, same);
-    Written::Done(Commit {
-        place,
-        bytes,
-        flushes: found.lines + end_flushes(k, same),
-    })
+    commit_with(image, work, tape, before, after, &mut words)
 }

@@ -1,13 +1,14 @@
 // Stage A: the words that differ, found in one pass over both images, their stores, and the flushes of their lines.
+use crate::headers::same_words;
 ghost use mathlib.Core.Path.{_≡_};
-ghost use mathlib.Core.List.{map};
+ghost use mathlib.Core.List.{[], map};
 ghost use Prim.Native.Nat.{ℕ, _+_, _-_, _*_, _≤_};
 ghost use lib.ListN.{length, take};
 ghost use lib.Seq.{sets};
 ghost use Rattle.codec.specs.Lists.{All};
 ghost use Rattle.device.specs.Tape.{flush, tapeBytes};
 ghost use Rattle.tape_write.specs.Words.{differing, stageWords, WordIn, wordStore, linesPast};
-ghost use Rattle.tape_write.specs.Calls.{Images, Marks, reachedIn};
+ghost use Rattle.tape_write.specs.Calls.{Lent};
 
 // Puts the words from `from` up to `to` that differ behind the `count` words that are there. Their new number is the answer.
 pub fn collect(
@@ -36,9 +37,38 @@ pub fn collect(
     n
 }
 
+// The same, with the words compared as a whole first. If `kept` is 0, they are known to be the same.
+pub fn collect_changed(
+    image: &[u8],
+    work: &[u8],
+    from: usize,
+    to: usize,
+    kept: u8,
+    words: &mut [u16],
+    count: usize,
+) -> usize
+    requires { ⌜ (from ≤ to) × (to ≤ 8192) × (8 * to ≤ length (now image)) × (8 * to ≤ length (now work)) × (count + (to - from) ≤ length (now words)) × (kept ≡ 0 → differing (now image) (now work) (to - from) from ≡ []) ⌝ }
+    ensures { λ r. ⌜ r ≡ count + length (differing (now (image .entry)) (now (work .entry)) (to - from) from) ⌝ }
+    ensures { λ _. ⌜ now (words .exit) ≡ sets (now (words .entry)) count (differing (now (image .entry)) (now (work .entry)) (to - from) from) ⌝ }
+{
+    if kept == 0 {
+        return count;
+    }
+    if same_words(image, work, 8 * from, to - from) {
+        return count;
+    }
+    collect(image, work, from, to, words, count)
+}
+
 // Collects the words that stage A stores, page by page: of a page reached before, those past its header.
-pub fn changed_words(image: &[u8], work: &[u8], before: &[u8], words: &mut [u16]) -> usize
-    requires { ⌜ Images (now image) (now work) × Marks (now before) (reachedIn (now image)) × (length (now words) ≡ 8192) ⌝ }
+pub fn changed_words(
+    image: &[u8],
+    work: &[u8],
+    before: &[u8],
+    after: &[u8],
+    words: &mut [u16],
+) -> usize
+    requires { ⌜ Lent (now image) (now work) (now before) (now after) × (length (now image) ≤ 8 * length (now words)) ⌝ }
     ensures { λ r. ⌜ r ≡ length (stageWords (now (image .entry)) (now (work .entry))) ⌝ }
     ensures { λ _. ⌜ now (words .exit) ≡ sets (now (words .entry)) 0 (stageWords (now (image .entry)) (now (work .entry))) ⌝ }
 {
@@ -48,7 +78,7 @@ pub fn changed_words(image: &[u8], work: &[u8], before: &[u8], words: &mut [u16]
     while p < pages {
         let from = 128 * p + 8 * codec::wide(before[p]);
         let to = 128 * p + 128;
-        n = collect(image, work, from, to, words, n);
+        n = collect_changed(image, work, from, to, after[p], words, n);
         p += 1;
     }
     n

@@ -59,8 +59,8 @@ marks-are m rs h most size = record { size = size; mark = λ p _. sym (go p (eqb
 pub marks-at : (a m : List ℕ) (root : ℕ) → root ≡ rootOf a → steps.Marks m (reached a root) → ((p : ℕ) → getD m p 0 ≤ 1) × (length m ≡ 64) → Marks m (reachedIn a)
 marks-at a m root e h (most, size) = marks-are m (reachedIn a) (subst (λ (r : ℕ). steps.Marks m (reached a r)) e h) most size
 
-pub lent-are : (a w before after : List ℕ) → sound a ≡ true → length w ≡ length a → Marks before (reachedIn a) → Marks after (reachedIn w) → Lent a w before after
-lent-are a w before after h same b c = record { images = images a h w same; was = b; stays = c }
+pub lent-are : (a w before after : List ℕ) → sound a ≡ true → Edited a w → Marks before (reachedIn a) → Marks after (reachedIn w) → Lent a w before after
+lent-are a w before after h e b c = record { images = images a h w (e .sameLength); was = b; stays = c; kept = e .unreachedKept }
 
 -- ---- the edits
 

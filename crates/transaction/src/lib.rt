@@ -20,6 +20,7 @@ ghost use mathlib.Core.Bool.{true};
 ghost use lib.ListN.{length};
 ghost use Rattle.image.specs.Image.{sound};
 ghost use Rattle.edit.specs.EditList.{listed, editsOf, editList};
+ghost use Rattle.journal.specs.Edited.{Edited};
 ghost use Rattle.tape_write.specs.Calls.{Marks, reachedIn};
 ghost use Rattle.tree.specs.Whole.{editsOn};
 ghost use Rattle.transaction.specs.Calls.{committed, outcomeOf, listOf, transactionCall};
@@ -32,7 +33,7 @@ pub enum Transacted {
 
 // Commits the edited image that work holds, or puts the image back into work. The pages that image reaches are marked.
 fn commit_edits(image: &[u8], work: &mut [u8], tape: &mut [u8], before: &[u8; 64]) -> Transacted
-    requires { ⌜ (sound (now image) ≡ true) × (sound (now work) ≡ true) × (length (now work) ≡ length (now image)) × Marks (now before) (reachedIn (now image)) ⌝ }
+    requires { ⌜ (sound (now image) ≡ true) × Edited (now image) (now work) × Marks (now before) (reachedIn (now image)) ⌝ }
     ensures { λ r. ⌜ r ≡ committed (now (image .entry)) (now (work .entry)) (now (tape .entry)) .answer ⌝ }
     ensures { λ _. ⌜ now (work .exit) ≡ committed (now (image .entry)) (now (work .entry)) (now (tape .entry)) .work ⌝ }
     ensures { λ _. ⌜ now (tape .exit) ≡ committed (now (image .entry)) (now (work .entry)) (now (tape .entry)) .tape ⌝ }

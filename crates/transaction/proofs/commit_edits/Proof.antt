@@ -13,12 +13,12 @@ use Rattle.transaction.proofs.commit_edits.Tie as tie
 root-of-requires : tie.Need-root-of-requires
 root-of-requires c κs =
     let s = c .before .before .before .before in
-    omega (arith, image-size (s .args .work .now) (s .pre .1) .low)
+    omega (arith, image-size (s .args .work .now) (s .pre .1 .isSound) .low)
 
 marks-of-requires : tie.Need-marks-of-requires
 marks-of-requires c κs =
     let s = c .before .before .before .before .before in
-    subst (CanMark (s .args .work .now)) (sym (c .root-of .ensures)) (can-mark (s .args .work .now) (s .pre .1))
+    subst (CanMark (s .args .work .now)) (sym (c .root-of .ensures)) (can-mark (s .args .work .now) (s .pre .1 .isSound))
 
 slice-aggregate-commit : tie.Need-slice-aggregate-commit
 slice-aggregate-commit c = search needs
@@ -26,7 +26,8 @@ slice-aggregate-commit c = search needs
 commit-requires : tie.Need-commit-requires
 commit-requires c κs =
     let s = c .before .before .before .before .before .before .before .before .before .before in
-    lent-are _ _ _ _ (s .pre .0) (s .pre .2) (s .pre .3) (marks-at (s .args .work .now) (c .before .before .before .before .marks-of .result) _ (c .before .before .before .before .before .root-of .ensures) (c .before .before .before .before .marks-of .ensures .0) (c .before .before .before .before .marks-of .ensures .1))
+    let marks-of = c .before .before .before .before .marks-of in
+    lent-are _ _ _ _ (s .pre .0) (s .pre .1) (s .pre .2) (marks-at (s .args .work .now) (marks-of .result) _ (c .before .before .before .before .before .root-of .ensures) (marks-of .ensures .0) (marks-of .ensures .1))
 
 enum-known-done : tie.Need-enum-known-done
 enum-known-done c = search needs
@@ -37,7 +38,7 @@ enum-told c = search needs
 copy-all-requires : tie.Need-copy-all-requires
 copy-all-requires c κs =
     let s = c .before .before .before .before .before .before .before .before .before .before .before .before .before .before .before .before .before .before in
-    (c .before .before .before .before .before .before .before .commit .kept .1 .0 ∙ s .pre .2, image-size (s .args .image .now) (s .pre .0) .high)
+    (c .before .before .before .before .before .before .before .commit .kept .1 .0 ∙ s .pre .1 .sameLength, image-size (s .args .image .now) (s .pre .0) .high)
 
 of-requires : tie.Need-of-requires
 of-requires c κs = search needs
@@ -48,7 +49,7 @@ enum-told-2 c = search needs
 copy-all-requires-2 : tie.Need-copy-all-requires-2
 copy-all-requires-2 c κs =
     let s = c .before .before .before .before .before .before .before .before .before .before .before .before .before .before .before .before .before .before in
-    (c .before .before .before .before .before .before .before .commit .kept .1 .0 ∙ s .pre .2, image-size (s .args .image .now) (s .pre .0) .high)
+    (c .before .before .before .before .before .before .before .commit .kept .1 .0 ∙ s .pre .1 .sameLength, image-size (s .args .image .now) (s .pre .0) .high)
 
 of-requires-2 : tie.Need-of-requires-2
 of-requires-2 c κs = search needs

@@ -51,13 +51,16 @@ ended c =
 finish-requires : tie.Need-finish-requires
 finish-requires c κs =
     let s = c .before .before .before .before .before .before .before .before .before .before .before .before .before .before .before .before .before .before .before in
-    (ended (c .before .before) .good (c .before .before .before .before .before .before .edit-list .kept .0 ∙ c .before .before .before .before .before .before .before .before .before .before .before .before .before .copy-all .kept .0 ∙ s .pre .1), sym (c .before .before .before .before .before .before .edit-list .kept .0 ∙ c .before .before .before .before .before .before .before .before .before .before .before .before .before .copy-all .kept .0 ∙ s .pre .1))
+    let edit-list = c .before .before .before .before .before .before .edit-list in
+    let copy-all = c .before .before .before .before .before .before .before .before .before .before .before .before .before .copy-all in
+    (ended (c .before .before) .good (edit-list .kept .0 ∙ copy-all .kept .0 ∙ s .pre .1), sym (edit-list .kept .0 ∙ copy-all .kept .0 ∙ s .pre .1))
 
 commit-edits-requires : tie.Need-commit-edits-requires
 commit-edits-requires c κs =
     let s = c .before .before .before .before .before .before .before .before .before .before .before .before .before .before .before .before .before .before .before .before .before .before .before .before .before in
+    let marks-of = c .before .before .before .before .before .before .before .before .before .before .before .before .before .before .before .marks-of in
     let edited = ended (c .before .before .before .before .before .before .before .before) .edited _ (c .before .before .before .before .before .finish .ensures _) in
-    (s .pre .0, edited .isSound, edited .sameLength, marks-at (s .args .image .now) (c .before .before .before .before .before .before .before .before .before .before .before .before .before .before .before .marks-of .result) _ (c .before .before .before .before .before .before .before .before .before .before .before .before .before .before .before .before .root-of .ensures) (c .before .before .before .before .before .before .before .before .before .before .before .before .before .before .before .marks-of .ensures .0) (c .before .before .before .before .before .before .before .before .before .before .before .before .before .before .before .marks-of .ensures .1))
+    (s .pre .0, edited, marks-at (s .args .image .now) (marks-of .result) _ (c .before .before .before .before .before .before .before .before .before .before .before .before .before .before .before .before .root-of .ensures) (marks-of .ensures .0) (marks-of .ensures .1))
 
 same-length : tie.Need-same-length
 same-length c = search needs

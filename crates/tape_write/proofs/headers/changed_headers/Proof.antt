@@ -23,7 +23,9 @@ unfolding changedPages
 loop-holds c = (omega arith, omega (arith, c .before .before .before .before .before .pre .0 .images .low), omega arith, refl, collects-start _ _ _)
 
 shared-slice-read-if1 : tie.Need-shared-slice-read-if1 Inv-loop μ-loop
-shared-slice-read-if1 c = omega (arith, c .before .before .before .before .before .before .before .before .pre .0 .was .size, c .before .before .before .before .before .before .before .before .pre .0 .images .high)
+shared-slice-read-if1 c =
+    let s = c .before .before .before .before .before .before .before .before in
+    omega (arith, s .pre .0 .was .size, s .pre .0 .images .high)
 
 add-p : tie.Need-add-p Inv-loop μ-loop
 add-p c = omega (arith, c .before .before .before .before .before .before .before .before .before .pre .0 .images .high)
@@ -32,10 +34,15 @@ loop-less : tie.Need-loop-less Inv-loop μ-loop
 loop-less c = omega (arith, c .before .before .before .before .before .before .before .before .before .pre .0 .images .high)
 
 loop-again : tie.Need-loop-again Inv-loop μ-loop
-loop-again c = (omega arith, omega arith, omega arith, c .before .before .before .loop .inv .3, collects-as (changed-before (reachedIn (c .before .before .before .before .before .before .before .before .before .args .image .now)) (reachedIn (c .before .before .before .before .before .before .before .before .before .args .work .now)) (c .before .before .before .before .before .before .before .before .before .args .image .now) (c .before .before .before .before .before .before .before .before .before .args .work .now) (length (c .before .before .before .before .before .before .before .before .before .args .image .now) / pageSize) (c .before .before .before .loop .p) (c .before .before .loop-test .taken) (mark-none (c .before .before .before .before .before .before .before .before .before .pre .0 .was) (c .before .before .before .loop .p) (omega (arith, c .before .before .before .before .before .before .before .before .before .pre .0 .images .high)) (c .if1 .taken))) (c .before .before .before .loop .inv .4))
+loop-again c =
+    let s = c .before .before .before .before .before .before .before .before .before in
+    let loop = c .before .before .before .loop in
+    (omega arith, omega arith, omega arith, loop .inv .3, collects-as (changed-before (reachedIn (s .args .image .now)) (reachedIn (s .args .work .now)) (s .args .image .now) (s .args .work .now) (length (s .args .image .now) / pageSize) (loop .p) (c .before .before .loop-test .taken) (mark-none (s .pre .0 .was) (loop .p) (omega (arith, s .pre .0 .images .high)) (c .if1 .taken))) (loop .inv .4))
 
 shared-slice-read-if2 : tie.Need-shared-slice-read-if2 Inv-loop μ-loop
-shared-slice-read-if2 c = omega (arith, c .before .before .before .before .before .before .before .before .before .before .pre .0 .stays .size, c .before .before .before .before .before .before .before .before .before .before .pre .0 .images .high)
+shared-slice-read-if2 c =
+    let s = c .before .before .before .before .before .before .before .before .before .before in
+    omega (arith, s .pre .0 .stays .size, s .pre .0 .images .high)
 
 add-p-2 : tie.Need-add-p-2 Inv-loop μ-loop
 add-p-2 c = omega (arith, c .before .before .before .before .before .before .before .before .before .before .before .pre .0 .images .high)
@@ -44,13 +51,18 @@ loop-less-2 : tie.Need-loop-less-2 Inv-loop μ-loop
 loop-less-2 c = omega (arith, c .before .before .before .before .before .before .before .before .before .before .before .pre .0 .images .high)
 
 loop-again-2 : tie.Need-loop-again-2 Inv-loop μ-loop
-loop-again-2 c = (omega arith, omega arith, omega arith, c .before .before .before .before .before .loop .inv .3, collects-as (changed-after (reachedIn (c .before .before .before .before .before .before .before .before .before .before .before .args .image .now)) (reachedIn (c .before .before .before .before .before .before .before .before .before .before .before .args .work .now)) (c .before .before .before .before .before .before .before .before .before .before .before .args .image .now) (c .before .before .before .before .before .before .before .before .before .before .before .args .work .now) (length (c .before .before .before .before .before .before .before .before .before .before .before .args .image .now) / pageSize) (c .before .before .before .before .before .loop .p) (c .before .before .before .before .loop-test .taken) (mark-none (c .before .before .before .before .before .before .before .before .before .before .before .pre .0 .stays) (c .before .before .before .before .before .loop .p) (omega (arith, c .before .before .before .before .before .before .before .before .before .before .before .pre .0 .images .high)) (c .if2 .taken))) (c .before .before .before .before .before .loop .inv .4))
+loop-again-2 c =
+    let s = c .before .before .before .before .before .before .before .before .before .before .before in
+    let loop = c .before .before .before .before .before .loop in
+    (omega arith, omega arith, omega arith, loop .inv .3, collects-as (changed-after (reachedIn (s .args .image .now)) (reachedIn (s .args .work .now)) (s .args .image .now) (s .args .work .now) (length (s .args .image .now) / pageSize) (loop .p) (c .before .before .before .before .loop-test .taken) (mark-none (s .pre .0 .stays) (loop .p) (omega (arith, s .pre .0 .images .high)) (c .if2 .taken))) (loop .inv .4))
 
 mul-same-words : tie.Need-mul-same-words Inv-loop μ-loop
 mul-same-words c = omega (arith, c .before .before .before .before .before .before .before .before .before .before .before .pre .0 .images .high)
 
 same-words-requires : tie.Need-same-words-requires Inv-loop μ-loop
-same-words-requires c κs = (omega (arith, c .before .before .before .before .before .before .before .before .before .before .before .pre .0 .images .same), omega (arith, c .before .before .before .before .before .before .before .before .before .before .before .pre .0 .images .same))
+same-words-requires c κs =
+    let s = c .before .before .before .before .before .before .before .before .before .before .before in
+    (omega (arith, s .pre .0 .images .same), omega (arith, s .pre .0 .images .same))
 
 add-p-3 : tie.Need-add-p-3 Inv-loop μ-loop
 add-p-3 c = omega (arith, c .before .before .before .before .before .before .before .before .before .before .before .before .before .pre .0 .images .high)
@@ -60,13 +72,18 @@ loop-less-3 c = omega (arith, c .before .before .before .before .before .before 
 
 loop-again-3 : tie.Need-loop-again-3 Inv-loop μ-loop
 unfolding headerLine
-loop-again-3 c = (omega arith, omega arith, omega arith, c .before .before .before .before .before .before .before .loop .inv .3, collects-as (changed-same (reachedIn (c .before .before .before .before .before .before .before .before .before .before .before .before .before .args .image .now)) (reachedIn (c .before .before .before .before .before .before .before .before .before .before .before .before .before .args .work .now)) (c .before .before .before .before .before .before .before .before .before .before .before .before .before .args .image .now) (c .before .before .before .before .before .before .before .before .before .before .before .before .before .args .work .now) (length (c .before .before .before .before .before .before .before .before .before .before .before .before .before .args .image .now) / pageSize) (c .before .before .before .before .before .before .before .loop .p) (c .before .before .before .before .before .before .loop-test .taken) (sym (c .before .same-words .ensures) ∙ c .if3 .taken)) (c .before .before .before .before .before .before .before .loop .inv .4))
+loop-again-3 c =
+    let s = c .before .before .before .before .before .before .before .before .before .before .before .before .before in
+    let loop = c .before .before .before .before .before .before .before .loop in
+    (omega arith, omega arith, omega arith, loop .inv .3, collects-as (changed-same (reachedIn (s .args .image .now)) (reachedIn (s .args .work .now)) (s .args .image .now) (s .args .work .now) (length (s .args .image .now) / pageSize) (loop .p) (c .before .before .before .before .before .before .loop-test .taken) (sym (c .before .same-words .ensures) ∙ c .if3 .taken)) (loop .inv .4))
 
 cast-pages : tie.Need-cast-pages Inv-loop μ-loop
 cast-pages c = omega (arith, c .before .before .before .before .before .before .before .before .before .before .before .before .before .pre .0 .images .high)
 
 slice-write-pages : tie.Need-slice-write-pages Inv-loop μ-loop
-slice-write-pages c = omega (arith, c .before .before .before .before .before .before .before .before .before .before .before .before .before .pre .1, c .before .before .before .before .before .before .before .loop .inv .3, c .before .before .before .before .before .before .before .before .before .before .before .before .before .pre .0 .images .high)
+slice-write-pages c =
+    let s = c .before .before .before .before .before .before .before .before .before .before .before .before .before in
+    omega (arith, s .pre .1, c .before .before .before .before .before .before .before .loop .inv .3, s .pre .0 .images .high)
 
 add-k : tie.Need-add-k Inv-loop μ-loop
 add-k c = omega (arith, c .before .before .before .before .before .before .before .before .before .before .before .before .before .pre .0 .images .high)
@@ -79,20 +96,23 @@ loop-less-4 c = omega (arith, c .before .before .before .before .before .before 
 
 loop-again-4 : tie.Need-loop-again-4 Inv-loop μ-loop
 unfolding headerLine
-loop-again-4 c = (
-  omega arith,
-  omega arith,
-  omega arith,
-  simp length-set (c .before .before .before .before .before .before .before .loop .inv .3),
-  collects-one (collects-as (changed-page (reachedIn (c .before .before .before .before .before .before .before .before .before .before .before .before .before .args .image .now)) (reachedIn (c .before .before .before .before .before .before .before .before .before .before .before .before .before .args .work .now)) (c .before .before .before .before .before .before .before .before .before .before .before .before .before .args .image .now) (c .before .before .before .before .before .before .before .before .before .before .before .before .before .args .work .now) (length (c .before .before .before .before .before .before .before .before .before .before .before .before .before .args .image .now) / pageSize) (c .before .before .before .before .before .before .before .loop .p) (c .before .before .before .before .before .before .loop-test .taken) (mark-some (c .before .before .before .before .before .before .before .before .before .before .before .before .before .pre .0 .was) (c .before .before .before .before .before .before .before .loop .p) (omega (arith, c .before .before .before .before .before .before .before .before .before .before .before .before .before .pre .0 .images .high)) (c .before .before .before .before .if1 .left)) (mark-some (c .before .before .before .before .before .before .before .before .before .before .before .before .before .pre .0 .stays) (c .before .before .before .before .before .before .before .loop .p) (omega (arith, c .before .before .before .before .before .before .before .before .before .before .before .before .before .pre .0 .images .high)) (c .before .before .if2 .left)) (sym (c .before .same-words .ensures) ∙ c .if3 .left)) (c .before .before .before .before .before .before .before .loop .inv .4)),
-)
+loop-again-4 c =
+    let s = c .before .before .before .before .before .before .before .before .before .before .before .before .before in
+    let loop = c .before .before .before .before .before .before .before .loop in (
+      omega arith,
+      omega arith,
+      omega arith,
+      simp length-set (loop .inv .3),
+      collects-one (collects-as (changed-page (reachedIn (s .args .image .now)) (reachedIn (s .args .work .now)) (s .args .image .now) (s .args .work .now) (length (s .args .image .now) / pageSize) (loop .p) (c .before .before .before .before .before .before .loop-test .taken) (mark-some (s .pre .0 .was) (loop .p) (omega (arith, s .pre .0 .images .high)) (c .before .before .before .before .if1 .left)) (mark-some (s .pre .0 .stays) (loop .p) (omega (arith, s .pre .0 .images .high)) (c .before .before .if2 .left)) (sym (c .before .same-words .ensures) ∙ c .if3 .left)) (loop .inv .4)),
+    )
 
 same-length : tie.Need-same-length Inv-loop μ-loop
 same-length c = c .before .loop .inv .3
 
 returns : tie.Need-returns Inv-loop μ-loop
 returns c =
-    let h = collects-done (collects-as (changed-end (reachedIn (c .before .before .before .before .before .before .before .args .image .now)) (reachedIn (c .before .before .before .before .before .before .before .args .work .now)) (c .before .before .before .before .before .before .before .args .image .now) (c .before .before .before .before .before .before .before .args .work .now) (length (c .before .before .before .before .before .before .before .args .image .now) / pageSize) (c .before .loop .p) (c .loop-test .left)) (c .before .loop .inv .4)) in
+    let s = c .before .before .before .before .before .before .before in
+    let h = collects-done (collects-as (changed-end (reachedIn (s .args .image .now)) (reachedIn (s .args .work .now)) (s .args .image .now) (s .args .work .now) (length (s .args .image .now) / pageSize) (c .before .loop .p) (c .loop-test .left)) (c .before .loop .inv .4)) in
     (omega (arith, h .0), h .1)
 
 pub changed-headers-spec : {M : Type 1} → statement M

@@ -21,7 +21,9 @@ abbrev μ-loop : tie.MeasureT-loop
 
 loop-holds : tie.Need-loop-holds Inv-loop μ-loop
 unfolding logged
-loop-holds c = (omega arith, refl, rw (start-at (c .before .before .args .at) 4 (c .before .before .args .k) .0, start-at (c .before .before .args .at) 4 (c .before .before .args .k) .1))
+loop-holds c =
+    let s = c .before .before in
+    (omega arith, refl, rw (start-at (s .args .at) 4 (s .args .k) .0, start-at (s .args .at) 4 (s .args .k) .1))
 
 mul-emit-flush : tie.Need-mul-emit-flush Inv-loop μ-loop
 mul-emit-flush c = omega arith
@@ -45,17 +47,22 @@ loop-less : tie.Need-loop-less Inv-loop μ-loop
 loop-less c = omega arith
 
 loop-again : tie.Need-loop-again Inv-loop μ-loop
-loop-again c = (
-  omega arith,
-  c .before .before .emit-flush .kept .0 ∙ c .before .before .before .before .before .before .loop .inv .1,
-  flush-step (c .before .before .before .before .before .before .before .before .before .args .src .now) (c .before .before .before .before .before .before .before .before .before .args .k) (c .before .before .before .before .before .before .loop .i) (c .before .before .before .before .before .before .before .before .before .args .own) (c .before .before .before .before .before .before .loop .tape) _ (c .before .before .before .before .before .before .before .before .before .args .at) (c .before .before .before .line-for .result) (c .before .before .before .before .before .loop-test .taken) (omega arith) (c .before .before .before .line-for .ensures) (c .before .before .emit-flush .ensures) ∙ c .before .before .before .before .before .before .loop .inv .2,
-)
+loop-again c =
+    let s = c .before .before .before .before .before .before .before .before .before in
+    let line-for = c .before .before .before .line-for in
+    let loop = c .before .before .before .before .before .before .loop in (
+      omega arith,
+      c .before .before .emit-flush .kept .0 ∙ loop .inv .1,
+      flush-step (s .args .src .now) (s .args .k) (loop .i) (s .args .own) (loop .tape) _ (s .args .at) (line-for .result) (c .before .before .before .before .before .loop-test .taken) (omega arith) (line-for .ensures) (c .before .before .emit-flush .ensures) ∙ loop .inv .2,
+    )
 
 same-length : tie.Need-same-length Inv-loop μ-loop
 same-length c = c .before .loop .inv .1
 
 returns : tie.Need-returns Inv-loop μ-loop
-returns c = sym (flush-end (c .before .before .before .before .args .src .now) (c .before .before .before .before .args .k) (c .before .loop .i) (c .before .before .before .before .args .own) (c .before .loop .tape) (c .before .loop .tape) (c .before .before .before .before .args .at + 4 * c .before .loop .i) (c .loop-test .left)) ∙ c .before .loop .inv .2
+returns c =
+    let s = c .before .before .before .before in
+    sym (flush-end (s .args .src .now) (s .args .k) (c .before .loop .i) (s .args .own) (c .before .loop .tape) (c .before .loop .tape) (s .args .at + 4 * c .before .loop .i) (c .loop-test .left)) ∙ c .before .loop .inv .2
 
 pub flush-headers-spec : {M : Type 1} → statement M
 flush-headers-spec =

@@ -20,10 +20,14 @@ mul-result : tie.Need-mul-result
 mul-result c = search needs
 
 returns : tie.Need-returns
-returns c = rw (c .before .if1 .taken) (ap (λ (n : ℕ). 16 * n) (c .number-at .ensures .0) ∙ line-own (c .before .before .before .args .src .now) (c .before .before .before .args .l))
+returns c =
+    let s = c .before .before .before in
+    rw (c .before .if1 .taken) (ap (λ (n : ℕ). 16 * n) (c .number-at .ensures .0) ∙ line-own (s .args .src .now) (s .args .l))
 
 returns-2 : tie.Need-returns-2
-returns-2 c = rw (c .if1 .left) (line-log (c .before .before .args .src .now) (c .before .before .args .l))
+returns-2 c =
+    let s = c .before .before in
+    rw (c .if1 .left) (line-log (s .args .src .now) (s .args .l))
 
 pub line-for-spec : {M : Type 1} → statement M
 line-for-spec =

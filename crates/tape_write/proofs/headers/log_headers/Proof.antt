@@ -38,7 +38,11 @@ mul-move-line-2 : tie.Need-mul-move-line-2 Inv-loop μ-loop
 mul-move-line-2 c = omega (arith, c .wide .ensures .1)
 
 move-line-requires : tie.Need-move-line-requires Inv-loop μ-loop
-move-line-requires c κs = omega (arith, (subst (PageIn (c .before .before .before .before .before .before .before .args .work .now)) (getD-take (c .before .before .before .before .before .before .before .args .k) (c .before .before .before .before .before .before .before .args .pages .now) (c .before .before .before .before .loop .i) 0 (c .before .before .before .loop-test .taken) ∙ sym (c .wide .ensures .0)) (all-at (PageIn (c .before .before .before .before .before .before .before .args .work .now)) (take (c .before .before .before .before .before .before .before .args .k) (c .before .before .before .before .before .before .before .args .pages .now)) (c .before .before .before .before .loop .i) (c .before .before .before .before .before .before .before .pre .3) (omega (arith, first-length (c .before .before .before .before .before .before .before .args .pages .now) (c .before .before .before .before .before .before .before .args .k) (c .before .before .before .before .before .before .before .pre .1))))) .0, (subst (PageIn (c .before .before .before .before .before .before .before .args .work .now)) (getD-take (c .before .before .before .before .before .before .before .args .k) (c .before .before .before .before .before .before .before .args .pages .now) (c .before .before .before .before .loop .i) 0 (c .before .before .before .loop-test .taken) ∙ sym (c .wide .ensures .0)) (all-at (PageIn (c .before .before .before .before .before .before .before .args .work .now)) (take (c .before .before .before .before .before .before .before .args .k) (c .before .before .before .before .before .before .before .args .pages .now)) (c .before .before .before .before .loop .i) (c .before .before .before .before .before .before .before .pre .3) (omega (arith, first-length (c .before .before .before .before .before .before .before .args .pages .now) (c .before .before .before .before .before .before .before .args .k) (c .before .before .before .before .before .before .before .pre .1))))) .1, c .before .before .before .before .loop .inv .1)
+move-line-requires c κs =
+    let s = c .before .before .before .before .before .before .before in
+    let loop-test = c .before .before .before .loop-test in
+    let loop = c .before .before .before .before .loop in
+    omega (arith, (subst (PageIn (s .args .work .now)) (getD-take (s .args .k) (s .args .pages .now) (loop .i) 0 (loop-test .taken) ∙ sym (c .wide .ensures .0)) (all-at (PageIn (s .args .work .now)) (take (s .args .k) (s .args .pages .now)) (loop .i) (s .pre .3) (omega (arith, first-length (s .args .pages .now) (s .args .k) (s .pre .1))))) .0, (subst (PageIn (s .args .work .now)) (getD-take (s .args .k) (s .args .pages .now) (loop .i) 0 (loop-test .taken) ∙ sym (c .wide .ensures .0)) (all-at (PageIn (s .args .work .now)) (take (s .args .k) (s .args .pages .now)) (loop .i) (s .pre .3) (omega (arith, first-length (s .args .pages .now) (s .args .k) (s .pre .1))))) .1, loop .inv .1)
 
 add-i : tie.Need-add-i Inv-loop μ-loop
 add-i c = omega arith
@@ -47,13 +51,20 @@ loop-less : tie.Need-loop-less Inv-loop μ-loop
 loop-less c = omega arith
 
 loop-again : tie.Need-loop-again Inv-loop μ-loop
-loop-again c = (omega arith, c .before .before .move-line .kept .0 ∙ c .before .before .before .before .before .before .before .loop .inv .1, log-kept (c .before .before .before .before .before .before .before .before .before .before .args .work .now) (c .before .before .before .before .before .before .before .loop .work) _ (c .before .before .before .before .before .before .before .before .before .before .args .pages .now) (c .before .before .before .before .before .before .before .before .before .before .args .k) (c .before .before .before .before .before .before .before .loop .i) (c .before .before .before .before .before .before .before .before .before .before .pre .1) (c .before .before .before .wide .result) (c .before .before .before .before .before .before .loop-test .taken) (c .before .before .before .wide .ensures .0) (subst (PageIn (c .before .before .before .before .before .before .before .before .before .before .args .work .now)) (getD-take (c .before .before .before .before .before .before .before .before .before .before .args .k) (c .before .before .before .before .before .before .before .before .before .before .args .pages .now) (c .before .before .before .before .before .before .before .loop .i) 0 (c .before .before .before .before .before .before .loop-test .taken) ∙ sym (c .before .before .before .wide .ensures .0)) (all-at (PageIn (c .before .before .before .before .before .before .before .before .before .before .args .work .now)) (take (c .before .before .before .before .before .before .before .before .before .before .args .k) (c .before .before .before .before .before .before .before .before .before .before .args .pages .now)) (c .before .before .before .before .before .before .before .loop .i) (c .before .before .before .before .before .before .before .before .before .before .pre .3) (omega (arith, first-length (c .before .before .before .before .before .before .before .before .before .before .args .pages .now) (c .before .before .before .before .before .before .before .before .before .before .args .k) (c .before .before .before .before .before .before .before .before .before .before .pre .1))))) (c .before .before .before .before .before .before .before .loop .inv .1) (c .before .before .move-line .ensures) (c .before .before .before .before .before .before .before .before .before .before .pre .0) (c .before .before .before .before .before .before .before .loop .inv .2), log-step (c .before .before .before .before .before .before .before .before .before .before .args .work .now) (c .before .before .before .before .before .before .before .loop .work) _ (c .before .before .before .before .before .before .before .before .before .before .args .pages .now) (c .before .before .before .before .before .before .before .before .before .before .args .k) (c .before .before .before .before .before .before .before .loop .i) (c .before .before .before .before .before .before .before .before .before .before .pre .1) (c .before .before .before .wide .result) (c .before .before .before .before .before .before .loop-test .taken) (c .before .before .before .wide .ensures .0) (subst (PageIn (c .before .before .before .before .before .before .before .before .before .before .args .work .now)) (getD-take (c .before .before .before .before .before .before .before .before .before .before .args .k) (c .before .before .before .before .before .before .before .before .before .before .args .pages .now) (c .before .before .before .before .before .before .before .loop .i) 0 (c .before .before .before .before .before .before .loop-test .taken) ∙ sym (c .before .before .before .wide .ensures .0)) (all-at (PageIn (c .before .before .before .before .before .before .before .before .before .before .args .work .now)) (take (c .before .before .before .before .before .before .before .before .before .before .args .k) (c .before .before .before .before .before .before .before .before .before .before .args .pages .now)) (c .before .before .before .before .before .before .before .loop .i) (c .before .before .before .before .before .before .before .before .before .before .pre .3) (omega (arith, first-length (c .before .before .before .before .before .before .before .before .before .before .args .pages .now) (c .before .before .before .before .before .before .before .before .before .before .args .k) (c .before .before .before .before .before .before .before .before .before .before .pre .1))))) (c .before .before .before .before .before .before .before .loop .inv .1) (c .before .before .move-line .ensures) (c .before .before .before .before .before .before .before .before .before .before .pre .0) (c .before .before .before .before .before .before .before .loop .inv .2) ∙ c .before .before .before .before .before .before .before .loop .inv .3)
+loop-again c =
+    let s = c .before .before .before .before .before .before .before .before .before .before in
+    let wide = c .before .before .before .wide in
+    let loop-test = c .before .before .before .before .before .before .loop-test in
+    let loop = c .before .before .before .before .before .before .before .loop in
+    (omega arith, c .before .before .move-line .kept .0 ∙ loop .inv .1, log-kept (s .args .work .now) (loop .work) _ (s .args .pages .now) (s .args .k) (loop .i) (s .pre .1) (wide .result) (loop-test .taken) (wide .ensures .0) (subst (PageIn (s .args .work .now)) (getD-take (s .args .k) (s .args .pages .now) (loop .i) 0 (loop-test .taken) ∙ sym (wide .ensures .0)) (all-at (PageIn (s .args .work .now)) (take (s .args .k) (s .args .pages .now)) (loop .i) (s .pre .3) (omega (arith, first-length (s .args .pages .now) (s .args .k) (s .pre .1))))) (loop .inv .1) (c .before .before .move-line .ensures) (s .pre .0) (loop .inv .2), log-step (s .args .work .now) (loop .work) _ (s .args .pages .now) (s .args .k) (loop .i) (s .pre .1) (wide .result) (loop-test .taken) (wide .ensures .0) (subst (PageIn (s .args .work .now)) (getD-take (s .args .k) (s .args .pages .now) (loop .i) 0 (loop-test .taken) ∙ sym (wide .ensures .0)) (all-at (PageIn (s .args .work .now)) (take (s .args .k) (s .args .pages .now)) (loop .i) (s .pre .3) (omega (arith, first-length (s .args .pages .now) (s .args .k) (s .pre .1))))) (loop .inv .1) (c .before .before .move-line .ensures) (s .pre .0) (loop .inv .2) ∙ loop .inv .3)
 
 same-length : tie.Need-same-length Inv-loop μ-loop
 same-length c = c .before .loop .inv .1
 
 returns : tie.Need-returns Inv-loop μ-loop
-returns c = sym (log-end (c .before .before .before .before .args .work .now) (c .before .loop .work) (c .before .loop .work) (c .before .before .before .before .args .pages .now) (c .before .before .before .before .args .k) (c .before .loop .i) (c .before .before .before .before .pre .1) (c .loop-test .left)) ∙ c .before .loop .inv .3 ∙ log-whole (c .before .before .before .before .args .work .now) (take (c .before .before .before .before .args .k) (c .before .before .before .before .args .pages .now)) (c .before .before .before .before .pre .3) (omega (arith, first-length (c .before .before .before .before .args .pages .now) (c .before .before .before .before .args .k) (c .before .before .before .before .pre .1))) (c .before .before .before .before .pre .2)
+returns c =
+    let s = c .before .before .before .before in
+    sym (log-end (s .args .work .now) (c .before .loop .work) (c .before .loop .work) (s .args .pages .now) (s .args .k) (c .before .loop .i) (s .pre .1) (c .loop-test .left)) ∙ c .before .loop .inv .3 ∙ log-whole (s .args .work .now) (take (s .args .k) (s .args .pages .now)) (s .pre .3) (omega (arith, first-length (s .args .pages .now) (s .args .k) (s .pre .1))) (s .pre .2)
 
 pub log-headers-spec : {M : Type 1} → statement M
 log-headers-spec =

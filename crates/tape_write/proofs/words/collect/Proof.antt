@@ -51,11 +51,12 @@ loop-less c = omega arith
 
 loop-again : tie.Need-loop-again Inv-loop μ-loop
 loop-again c =
+    let s = c .before .before .before .before .before .before .before .before in
     let l = c .before .before .before .before .loop in (
       omega arith,
       simp length-set (l .inv .1),
       simp length-set (omega arith),
-      collects-one (collects-as (differ-other (c .before .before .before .before .before .before .before .before .args .image .now) (c .before .before .before .before .before .before .before .before .args .work .now) (l .k) (c .before .before .before .before .before .before .before .before .args .to) (c .before .before .before .loop-test .taken) (λ e. c .if1 .taken (c .before .before .long-at .ensures ∙ ap number e ∙ sym (c .before .long-at2 .ensures)))) (l .inv .3)),
+      collects-one (collects-as (differ-other (s .args .image .now) (s .args .work .now) (l .k) (s .args .to) (c .before .before .before .loop-test .taken) (λ e. c .if1 .taken (c .before .before .long-at .ensures ∙ ap number e ∙ sym (c .before .long-at2 .ensures)))) (l .inv .3)),
     )
 
 add-k-2 : tie.Need-add-k-2 Inv-loop μ-loop
@@ -66,17 +67,19 @@ loop-less-2 c = omega arith
 
 loop-again-2 : tie.Need-loop-again-2 Inv-loop μ-loop
 loop-again-2 c =
+    let s = c .before .before .before .before .before .before .before .before in
     let l = c .before .before .before .before .loop in
-    let same = word-same (c .before .before .before .before .before .before .before .before .args .image .now) (c .before .before .before .before .before .before .before .before .args .work .now) (λ i. omega (arith, c .before .before .before .before .before .before .before .shared-slice-known .given i)) (λ i. omega (arith, c .before .before .before .before .before .before .shared-slice-known2 .given i)) (8 * l .k) (omega arith) (omega arith) (sym (c .before .before .long-at .ensures) ∙ c .if1 .left ∙ c .before .long-at2 .ensures) in
-    (omega arith, l .inv .1, omega arith, collects-as (differ-same (c .before .before .before .before .before .before .before .before .args .image .now) (c .before .before .before .before .before .before .before .before .args .work .now) (l .k) (c .before .before .before .before .before .before .before .before .args .to) (c .before .before .before .loop-test .taken) same) (l .inv .3))
+    let same = word-same (s .args .image .now) (s .args .work .now) (λ i. omega (arith, c .before .before .before .before .before .before .before .shared-slice-known .given i)) (λ i. omega (arith, c .before .before .before .before .before .before .shared-slice-known2 .given i)) (8 * l .k) (omega arith) (omega arith) (sym (c .before .before .long-at .ensures) ∙ c .if1 .left ∙ c .before .long-at2 .ensures) in
+    (omega arith, l .inv .1, omega arith, collects-as (differ-same (s .args .image .now) (s .args .work .now) (l .k) (s .args .to) (c .before .before .before .loop-test .taken) same) (l .inv .3))
 
 same-length : tie.Need-same-length Inv-loop μ-loop
 same-length c = c .before .loop .inv .1
 
 returns : tie.Need-returns Inv-loop μ-loop
 returns c =
+    let s = c .before .before .before .before .before in
     let l = c .before .loop in
-    collects-done (collects-as (differ-end (c .before .before .before .before .before .args .image .now) (c .before .before .before .before .before .args .work .now) (l .k) (c .before .before .before .before .before .args .to) (c .loop-test .left)) (l .inv .3))
+    collects-done (collects-as (differ-end (s .args .image .now) (s .args .work .now) (l .k) (s .args .to) (c .loop-test .left)) (l .inv .3))
 
 pub collect-spec : {M : Type 1} → statement M
 collect-spec =

@@ -37,7 +37,10 @@ loop-less : tie.Need-loop-less Inv-loop μ-loop
 loop-less c = omega arith
 
 loop-again : tie.Need-loop-again Inv-loop μ-loop
-loop-again c = (omega arith, omega arith, omega (arith, c .before .before .before .before .loop .inv .2, ap length (line-other (c .before .before .before .before .before .before .args .words .now) (c .before .before .before .before .before .before .args .n) (c .before .before .before .before .before .before .pre) (c .before .before .before .before .loop .i) (c .before .wide16 .result) (c .before .before .before .loop-test .taken) (c .before .wide16 .ensures .0) (c .before .before .before .before .loop .last) (c .if1 .taken))))
+loop-again c =
+    let s = c .before .before .before .before .before .before in
+    let loop = c .before .before .before .before .loop in
+    (omega arith, omega arith, omega (arith, loop .inv .2, ap length (line-other (s .args .words .now) (s .args .n) (s .pre) (loop .i) (c .before .wide16 .result) (c .before .before .before .loop-test .taken) (c .before .wide16 .ensures .0) (loop .last) (c .if1 .taken))))
 
 add-i-2 : tie.Need-add-i-2 Inv-loop μ-loop
 add-i-2 c = omega arith
@@ -46,10 +49,15 @@ loop-less-2 : tie.Need-loop-less-2 Inv-loop μ-loop
 loop-less-2 c = omega arith
 
 loop-again-2 : tie.Need-loop-again-2 Inv-loop μ-loop
-loop-again-2 c = (omega arith, omega arith, omega (arith, c .before .before .before .before .loop .inv .2, ap length (line-same (c .before .before .before .before .before .before .args .words .now) (c .before .before .before .before .before .before .args .n) (c .before .before .before .before .before .before .pre) (c .before .before .before .before .loop .i) (c .before .wide16 .result) (c .before .before .before .loop-test .taken) (c .before .wide16 .ensures .0) (c .before .before .before .before .loop .last) (c .if1 .left))))
+loop-again-2 c =
+    let s = c .before .before .before .before .before .before in
+    let loop = c .before .before .before .before .loop in
+    (omega arith, omega arith, omega (arith, loop .inv .2, ap length (line-same (s .args .words .now) (s .args .n) (s .pre) (loop .i) (c .before .wide16 .result) (c .before .before .before .loop-test .taken) (c .before .wide16 .ensures .0) (loop .last) (c .if1 .left))))
 
 returns : tie.Need-returns Inv-loop μ-loop
-returns c = omega (arith, c .before .loop .inv .2, ap length (lines-end (c .before .before .before .args .words .now) (c .before .before .before .args .n) (c .before .before .before .pre) (c .before .loop .last) (c .before .loop .i) (c .loop-test .left)))
+returns c =
+    let s = c .before .before .before in
+    omega (arith, c .before .loop .inv .2, ap length (lines-end (s .args .words .now) (s .args .n) (s .pre) (c .before .loop .last) (c .before .loop .i) (c .loop-test .left)))
 
 pub count-lines-spec : {M : Type 1} → statement M
 count-lines-spec =

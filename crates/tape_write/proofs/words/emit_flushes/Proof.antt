@@ -32,10 +32,17 @@ wide16-requires : tie.Need-wide16-requires Inv-loop μ-loop
 wide16-requires c κs = omega arith
 
 emit-flush-requires : tie.Need-emit-flush-requires Inv-loop μ-loop
-emit-flush-requires c κs = omega (arith, c .before .before .before .before .before .loop .inv .2, ap length (line-other (c .before .before .before .before .before .before .before .before .args .words .now) (c .before .before .before .before .before .before .before .before .args .n) (c .before .before .before .before .before .before .before .before .pre .1) (c .before .before .before .before .before .loop .i) (c .before .before .wide16 .result) (c .before .before .before .before .loop-test .taken) (c .before .before .wide16 .ensures .0) (c .before .before .before .before .before .loop .last) (c .before .if1 .taken)))
+emit-flush-requires c κs =
+    let s = c .before .before .before .before .before .before .before .before in
+    let loop = c .before .before .before .before .before .loop in
+    omega (arith, loop .inv .2, ap length (line-other (s .args .words .now) (s .args .n) (s .pre .1) (loop .i) (c .before .before .wide16 .result) (c .before .before .before .before .loop-test .taken) (c .before .before .wide16 .ensures .0) (loop .last) (c .before .if1 .taken)))
 
 add-to : tie.Need-add-to Inv-loop μ-loop
-add-to c = omega (arith, c .before .before .before .before .before .before .before .before .loop .inv .2, ap length (line-other (c .before .before .before .before .before .before .before .before .before .before .before .args .words .now) (c .before .before .before .before .before .before .before .before .before .before .before .args .n) (c .before .before .before .before .before .before .before .before .before .before .before .pre .1) (c .before .before .before .before .before .before .before .before .loop .i) (c .before .before .before .before .before .wide16 .result) (c .before .before .before .before .before .before .before .loop-test .taken) (c .before .before .before .before .before .wide16 .ensures .0) (c .before .before .before .before .before .before .before .before .loop .last) (c .before .before .before .before .if1 .taken)))
+add-to c =
+    let s = c .before .before .before .before .before .before .before .before .before .before .before in
+    let wide16 = c .before .before .before .before .before .wide16 in
+    let loop = c .before .before .before .before .before .before .before .before .loop in
+    omega (arith, loop .inv .2, ap length (line-other (s .args .words .now) (s .args .n) (s .pre .1) (loop .i) (wide16 .result) (c .before .before .before .before .before .before .before .loop-test .taken) (wide16 .ensures .0) (loop .last) (c .before .before .before .before .if1 .taken)))
 
 add-i : tie.Need-add-i Inv-loop μ-loop
 add-i c = omega arith
@@ -45,12 +52,15 @@ loop-less c = omega arith
 
 loop-again : tie.Need-loop-again Inv-loop μ-loop
 loop-again c =
-    let e = line-other (c .before .before .before .before .before .before .before .before .before .before .before .args .words .now) (c .before .before .before .before .before .before .before .before .before .before .before .args .n) (c .before .before .before .before .before .before .before .before .before .before .before .pre .1) (c .before .before .before .before .before .before .before .before .loop .i) (c .before .before .before .before .before .wide16 .result) (c .before .before .before .before .before .before .before .loop-test .taken) (c .before .before .before .before .before .wide16 .ensures .0) (c .before .before .before .before .before .before .before .before .loop .last) (c .before .before .before .before .if1 .taken) in (
+    let s = c .before .before .before .before .before .before .before .before .before .before .before in
+    let wide16 = c .before .before .before .before .before .wide16 in
+    let loop = c .before .before .before .before .before .before .before .before .loop in
+    let e = line-other (s .args .words .now) (s .args .n) (s .pre .1) (loop .i) (wide16 .result) (c .before .before .before .before .before .before .before .loop-test .taken) (wide16 .ensures .0) (loop .last) (c .before .before .before .before .if1 .taken) in (
       omega arith,
-      c .before .before .emit-flush .kept .0 ∙ c .before .before .before .before .before .before .before .before .loop .inv .1,
-      omega (arith, c .before .before .before .before .before .before .before .before .loop .inv .2, ap length e),
-      flush-next (c .before .before .before .before .before .before .before .before .loop .tape) _ (c .before .before .before .before .before .before .before .before .loop .to) (c .before .before .before .before .before .before .before .before .loop .to + 4) _ (c .before .before .before .before .before .wide16 .result / 8) (c .before .before .emit-flush .ensures) refl (omega (arith, c .before .before .before .before .before .before .before .before .loop .inv .2, ap length e))
-          ∙ ap (λ (ls : List ℕ). sets (c .before .before .before .before .before .before .before .before .loop .tape) (c .before .before .before .before .before .before .before .before .loop .to) (tapeBytes (map flush ls))) (sym e) ∙ c .before .before .before .before .before .before .before .before .loop .inv .3,
+      c .before .before .emit-flush .kept .0 ∙ loop .inv .1,
+      omega (arith, loop .inv .2, ap length e),
+      flush-next (loop .tape) _ (loop .to) (loop .to + 4) _ (wide16 .result / 8) (c .before .before .emit-flush .ensures) refl (omega (arith, loop .inv .2, ap length e))
+          ∙ ap (λ (ls : List ℕ). sets (loop .tape) (loop .to) (tapeBytes (map flush ls))) (sym e) ∙ loop .inv .3,
     )
 
 add-i-2 : tie.Need-add-i-2 Inv-loop μ-loop
@@ -61,18 +71,22 @@ loop-less-2 c = omega arith
 
 loop-again-2 : tie.Need-loop-again-2 Inv-loop μ-loop
 loop-again-2 c =
-    let e = line-same (c .before .before .before .before .before .before .before .args .words .now) (c .before .before .before .before .before .before .before .args .n) (c .before .before .before .before .before .before .before .pre .1) (c .before .before .before .before .loop .i) (c .before .wide16 .result) (c .before .before .before .loop-test .taken) (c .before .wide16 .ensures .0) (c .before .before .before .before .loop .last) (c .if1 .left) in (
+    let s = c .before .before .before .before .before .before .before in
+    let loop = c .before .before .before .before .loop in
+    let e = line-same (s .args .words .now) (s .args .n) (s .pre .1) (loop .i) (c .before .wide16 .result) (c .before .before .before .loop-test .taken) (c .before .wide16 .ensures .0) (loop .last) (c .if1 .left) in (
       omega arith,
-      c .before .before .before .before .loop .inv .1,
-      omega (arith, c .before .before .before .before .loop .inv .2, ap length e),
-      ap (λ (ls : List ℕ). sets (c .before .before .before .before .loop .tape) (c .before .before .before .before .loop .to) (tapeBytes (map flush ls))) (sym e) ∙ c .before .before .before .before .loop .inv .3,
+      loop .inv .1,
+      omega (arith, loop .inv .2, ap length e),
+      ap (λ (ls : List ℕ). sets (loop .tape) (loop .to) (tapeBytes (map flush ls))) (sym e) ∙ loop .inv .3,
     )
 
 same-length : tie.Need-same-length Inv-loop μ-loop
 same-length c = c .before .loop .inv .1
 
 returns : tie.Need-returns Inv-loop μ-loop
-returns c = sym (ap (λ (ls : List ℕ). sets (c .before .loop .tape) (c .before .loop .to) (tapeBytes (map flush ls))) (lines-end (c .before .before .before .before .args .words .now) (c .before .before .before .before .args .n) (c .before .before .before .before .pre .1) (c .before .loop .last) (c .before .loop .i) (c .loop-test .left)) ∙ tape-none (c .before .loop .tape) (c .before .loop .to)) ∙ c .before .loop .inv .3
+returns c =
+    let s = c .before .before .before .before in
+    sym (ap (λ (ls : List ℕ). sets (c .before .loop .tape) (c .before .loop .to) (tapeBytes (map flush ls))) (lines-end (s .args .words .now) (s .args .n) (s .pre .1) (c .before .loop .last) (c .before .loop .i) (c .loop-test .left)) ∙ tape-none (c .before .loop .tape) (c .before .loop .to)) ∙ c .before .loop .inv .3
 
 pub emit-flushes-spec : {M : Type 1} → statement M
 emit-flushes-spec =

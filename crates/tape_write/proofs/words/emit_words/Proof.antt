@@ -41,7 +41,10 @@ mul-emit-word-2 : tie.Need-mul-emit-word-2 Inv-loop μ-loop
 mul-emit-word-2 c = omega (arith, c .before .wide16 .ensures .1)
 
 emit-word-requires : tie.Need-emit-word-requires Inv-loop μ-loop
-emit-word-requires c κs = (omega arith, (subst (WordIn (c .before .before .before .before .before .before .before .before .args .work .now)) (getD-take (c .before .before .before .before .before .before .before .before .args .n) (c .before .before .before .before .before .before .before .before .args .words .now) (c .before .before .before .before .loop .i) 0 (c .before .before .before .loop-test .taken) ∙ sym (c .before .wide16 .ensures .0)) (all-at (WordIn (c .before .before .before .before .before .before .before .before .args .work .now)) (take (c .before .before .before .before .before .before .before .before .args .n) (c .before .before .before .before .before .before .before .before .args .words .now)) (c .before .before .before .before .loop .i) (c .before .before .before .before .before .before .before .before .pre .2) (omega (arith, first-length (c .before .before .before .before .before .before .before .before .args .words .now) (c .before .before .before .before .before .before .before .before .args .n) (c .before .before .before .before .before .before .before .before .pre .1))))))
+emit-word-requires c κs =
+    let s = c .before .before .before .before .before .before .before .before in
+    let loop = c .before .before .before .before .loop in
+    (omega arith, (subst (WordIn (s .args .work .now)) (getD-take (s .args .n) (s .args .words .now) (loop .i) 0 (c .before .before .before .loop-test .taken) ∙ sym (c .before .wide16 .ensures .0)) (all-at (WordIn (s .args .work .now)) (take (s .args .n) (s .args .words .now)) (loop .i) (s .pre .2) (omega (arith, first-length (s .args .words .now) (s .args .n) (s .pre .1))))))
 
 add-i : tie.Need-add-i Inv-loop μ-loop
 add-i c = omega arith
@@ -50,17 +53,23 @@ loop-less : tie.Need-loop-less Inv-loop μ-loop
 loop-less c = omega arith
 
 loop-again : tie.Need-loop-again Inv-loop μ-loop
-loop-again c = (
-  omega arith,
-  c .before .before .emit-word .kept .0 ∙ c .before .before .before .before .before .before .before .loop .inv .1,
-  word-step (c .before .before .before .before .before .before .before .loop .tape) _ (c .before .before .before .before .before .before .before .before .before .before .before .args .at) (c .before .before .before .before .before .before .before .before .before .before .before .args .work .now) (c .before .before .before .before .before .before .before .before .before .before .before .args .words .now) (c .before .before .before .before .before .before .before .before .before .before .before .args .n) (c .before .before .before .before .before .before .before .before .before .before .before .pre .1) (c .before .before .before .before .before .before .before .loop .i) (c .before .before .before .before .wide16 .result) (c .before .before .before .before .before .before .loop-test .taken) (c .before .before .before .before .wide16 .ensures .0) (subst (WordIn (c .before .before .before .before .before .before .before .before .before .before .before .args .work .now)) (getD-take (c .before .before .before .before .before .before .before .before .before .before .before .args .n) (c .before .before .before .before .before .before .before .before .before .before .before .args .words .now) (c .before .before .before .before .before .before .before .loop .i) 0 (c .before .before .before .before .before .before .loop-test .taken) ∙ sym (c .before .before .before .before .wide16 .ensures .0)) (all-at (WordIn (c .before .before .before .before .before .before .before .before .before .before .before .args .work .now)) (take (c .before .before .before .before .before .before .before .before .before .before .before .args .n) (c .before .before .before .before .before .before .before .before .before .before .before .args .words .now)) (c .before .before .before .before .before .before .before .loop .i) (c .before .before .before .before .before .before .before .before .before .before .before .pre .2) (omega (arith, first-length (c .before .before .before .before .before .before .before .before .before .before .before .args .words .now) (c .before .before .before .before .before .before .before .before .before .before .before .args .n) (c .before .before .before .before .before .before .before .before .before .before .before .pre .1))))) (omega arith) (c .before .before .emit-word .ensures) ∙ c .before .before .before .before .before .before .before .loop .inv .2,
-)
+loop-again c =
+    let s = c .before .before .before .before .before .before .before .before .before .before .before in
+    let wide16 = c .before .before .before .before .wide16 in
+    let loop-test = c .before .before .before .before .before .before .loop-test in
+    let loop = c .before .before .before .before .before .before .before .loop in (
+      omega arith,
+      c .before .before .emit-word .kept .0 ∙ loop .inv .1,
+      word-step (loop .tape) _ (s .args .at) (s .args .work .now) (s .args .words .now) (s .args .n) (s .pre .1) (loop .i) (wide16 .result) (loop-test .taken) (wide16 .ensures .0) (subst (WordIn (s .args .work .now)) (getD-take (s .args .n) (s .args .words .now) (loop .i) 0 (loop-test .taken) ∙ sym (wide16 .ensures .0)) (all-at (WordIn (s .args .work .now)) (take (s .args .n) (s .args .words .now)) (loop .i) (s .pre .2) (omega (arith, first-length (s .args .words .now) (s .args .n) (s .pre .1))))) (omega arith) (c .before .before .emit-word .ensures) ∙ loop .inv .2,
+    )
 
 same-length : tie.Need-same-length Inv-loop μ-loop
 same-length c = c .before .loop .inv .1
 
 returns : tie.Need-returns Inv-loop μ-loop
-returns c = sym (words-end (c .before .loop .tape) (c .before .loop .tape) (c .before .before .before .before .before .args .at + 12 * c .before .loop .i) (c .before .before .before .before .before .args .work .now) (c .before .before .before .before .before .args .words .now) (c .before .before .before .before .before .args .n) (c .before .before .before .before .before .pre .1) (c .before .loop .i) (c .loop-test .left)) ∙ c .before .loop .inv .2
+returns c =
+    let s = c .before .before .before .before .before in
+    sym (words-end (c .before .loop .tape) (c .before .loop .tape) (s .args .at + 12 * c .before .loop .i) (s .args .work .now) (s .args .words .now) (s .args .n) (s .pre .1) (c .before .loop .i) (c .loop-test .left)) ∙ c .before .loop .inv .2
 
 pub emit-words-spec : {M : Type 1} → statement M
 emit-words-spec =

@@ -7,67 +7,7 @@
 //! Each function is inline, so that a program needs only those symbols of the
 //! library whose functions it calls.
 
-mod interface {
-    extern "C" {
-        pub fn quote_run(
-            image: *mut u8,
-            image_length: usize,
-            work: *mut u8,
-            work_length: usize,
-            tape: *mut u8,
-            tape_length: usize,
-        ) -> u8;
-        pub fn quote_cut(
-            image: *mut u8,
-            image_length: usize,
-            work: *mut u8,
-            work_length: usize,
-            tape: *mut u8,
-            tape_length: usize,
-            c: usize,
-            choices: *mut u8,
-            choices_length: usize,
-        ) -> u8;
-        pub fn quote_format(image: *mut u8, image_length: usize) -> u8;
-        pub fn quote_check(image: *mut u8, image_length: usize) -> u8;
-        pub fn quote_lookup(
-            image: *mut u8,
-            image_length: usize,
-            key: u64,
-            answer: *mut u64,
-            answer_length: usize,
-        ) -> u8;
-        pub fn quote_next_key(
-            image: *mut u8,
-            image_length: usize,
-            key: u64,
-            answer: *mut u64,
-            answer_length: usize,
-        ) -> u8;
-        pub fn quote_transaction(
-            image: *mut u8,
-            image_length: usize,
-            work: *mut u8,
-            work_length: usize,
-            tape: *mut u8,
-            tape_length: usize,
-            edits: *mut u8,
-            edits_length: usize,
-            answer: *mut u64,
-            answer_length: usize,
-        ) -> u8;
-        pub fn quote_recover(
-            image: *mut u8,
-            image_length: usize,
-            work: *mut u8,
-            work_length: usize,
-            tape: *mut u8,
-            tape_length: usize,
-            answer: *mut u64,
-            answer_length: usize,
-        ) -> u8;
-    }
-}
+use quote_store_sys as interface;
 
 #[inline]
 pub fn run(image: &mut [u8], work: &mut [u8], tape: &mut [u8]) -> u8 {

@@ -1,0 +1,254 @@
+/*
+ * The quote store, for programs in C. Document 01 decides what each call does;
+ * the calls are proved to do it, for every content and every length of the
+ * buffers.
+ *
+ * Buffers
+ *   Every buffer is lent by the caller for the time of the call, as a pointer
+ *   and a length. The store keeps no pointer, allocates nothing, opens nothing
+ *   and has no state of its own: threads may call it at once, each with buffers
+ *   that no other thread writes meanwhile.
+ *   What the caller owes, and nothing else:
+ *   - a pointer leads to as many bytes (or numbers) as its length says. It is
+ *     not NULL, also where the length is 0; it need not be aligned, but for an
+ *     array of numbers, which is aligned as uint64_t;
+ *   - a buffer that the call writes overlaps no other buffer of the call. Two
+ *     that it only reads (const here) may overlap.
+ *
+ * Answers
+ *   Each call returns QUOTE_ACCEPTED (0), or the number of its refusal. A
+ *   refusal is the whole effect of a call: the tape stays as it was, and so do
+ *   all other buffers but those of which the call says otherwise. Refusals are
+ *   tried in the order in which a call lists them here, and the first that
+ *   applies is the answer.
+ *   Numbers besides come in a lent array `answer`. They are written at its
+ *   front, and only if it has room for all of them; the rest of the array
+ *   stays. A shorter array is no fault.
+ *
+ * How a program goes on
+ *   The image is the persistent memory, or a copy of it. No call but
+ *   quote_format writes it. A transaction leaves the new image in `work` and,
+ *   on `tape`, the commands that make the old image into the new one so that a
+ *   power failure between any two of them does no harm. The program has the
+ *   device carry them out in order, and takes `work` for its image. After a
+ *   power failure it calls quote_recover and does the same.
+ *
+ * Link with target/staticlib/libstore.a, which `rt staticlib store` makes.
+ */
+#ifndef QUOTE_STORE_H
+#define QUOTE_STORE_H
+
+#include <stddef.h>
+#include <stdint.h>
+
+#ifdef __cplusplus
+extern "C" {
+#endif
+
+/* Sizes, in bytes. An image has 8 to 64 whole pages. */
+#define QUOTE_WORD_SIZE 8
+#define QUOTE_LINE_SIZE 64
+#define QUOTE_PAGE_SIZE 1024
+#define QUOTE_LEAST_PAGES 8
+#define QUOTE_MOST_PAGES 64
+
+/* The length of an image of so many pages. */
+#define QUOTE_IMAGE_SIZE(pages) ((size_t)(pages) * QUOTE_PAGE_SIZE)
+
+/* Keys are 1 to the last key; values have 0 to 200 bytes. */
+#define QUOTE_LAST_KEY UINT64_C(999999999999)
+#define QUOTE_LONGEST_VALUE 200
+
+/*
+ * An edit list has 1 to 16 edits end to end. An edit is its kind (1 byte), the
+ * value's length (1 byte, 0 for a delete), the key (8 bytes, low byte first)
+ * and the value: a head of 10 bytes, then the value's.
+ */
+#define QUOTE_MOST_EDITS 16
+#define QUOTE_EDIT_HEAD 10
+#define QUOTE_LONGEST_LIST (QUOTE_MOST_EDITS * (QUOTE_EDIT_HEAD + QUOTE_LONGEST_VALUE))
+
+enum quote_edit {
+    QUOTE_INSERT = 1,
+    QUOTE_UPDATE = 2,
+    QUOTE_DELETE = 3
+};
+
+/*
+ * A tape is commands end to end. A command is its kind (1 byte), a zero byte,
+ * its place (2 bytes, low byte first), and what it stores.
+ */
+enum quote_command {
+    QUOTE_WORD_STORE = 1, /* place: number of the word; 8 bytes follow */
+    QUOTE_LINE_STORE = 2, /* place: number of the line; 64 bytes follow */
+    QUOTE_FLUSH = 3       /* place: number of the line; nothing follows */
+};
+
+/*
+ * A tape of this size is never too short, for a transaction on so many pages:
+ * 100 bytes a line. Why: the tape first stores words of pages 1 to N-1, each at
+ * most once (12 bytes), and flushes each line so stored once (4 bytes), so at
+ * most 8 * 12 + 4 = 100 bytes for each of those 16 * (N-1) lines. Then it
+ * commits. Without the log that is at most 72 bytes. With k headers logged,
+ * each header takes 2 * (68 + 4) = 144 bytes, the mark, its clearing and their
+ * flushes 32, the root word 12. A logged header's line has no word stores, so
+ * these 144 replace 100, and 44 * k + 44 is left, with k of 15 at most: 704
+ * bytes. The 1,600 bytes counted for page 0, where no word stores are, hold
+ * either.
+ */
+#define QUOTE_TAPE_SIZE(pages) ((size_t)(pages) * 1600)
+
+/* The same for a recovery: 72 bytes a header, for 15, then 28. */
+#define QUOTE_RECOVERY_TAPE_SIZE 1108
+
+/* The length of `choices` for an image of so many pages: one byte a line. */
+#define QUOTE_CHOICES_SIZE(pages) ((size_t)(pages) * 16)
+
+/* Why a call says no. */
+enum quote_answer {
+    QUOTE_ACCEPTED = 0,
+    QUOTE_IMAGE_SIZE_WRONG = 1, /* the image's length is not 8 to 64 whole pages */
+    QUOTE_WORK_SIZE_WRONG = 2,  /* the work buffer's length is not the image's */
+    QUOTE_MARK_WAITS = 3,       /* a power failure left a commit half done: recover first */
+    QUOTE_UNSOUND = 4,          /* the image is not that of a store */
+    QUOTE_BAD_LIST = 5,         /* no edit, a seventeenth, one cut short, an unknown kind, or a delete with a length */
+    QUOTE_KEY_RANGE = 6,        /* the key is 0 or above QUOTE_LAST_KEY */
+    QUOTE_LONG_VALUE = 7,       /* the value has more than 200 bytes */
+    QUOTE_KEY_PRESENT = 8,      /* insert of a key that the store has */
+    QUOTE_KEY_MISSING = 9,      /* update or delete of a key that it has not */
+    QUOTE_INDEX_FULL = 10,      /* the edit would need a 29th leaf */
+    QUOTE_PAGES_OUT = 11,       /* the edit needs more new pages than are free */
+    QUOTE_LOG_FULL = 12,        /* the edits change more than 15 headers */
+    QUOTE_TAPE_SHORT = 13,      /* the tape has too few bytes */
+    QUOTE_BAD_TAPE = 14,        /* the tape has a malformed command, or a place outside the image */
+    QUOTE_PAST_END = 15,        /* the cut comes after more commands than the tape has */
+    QUOTE_BAD_CHOICES = 16      /* the choices are not one byte a line */
+};
+
+/* Where a transaction commits. */
+enum quote_place {
+    QUOTE_PLACE_HEADER = 1, /* one header, of the page that the answer names */
+    QUOTE_PLACE_ROOT = 2,   /* the root word */
+    QUOTE_PLACE_LOG = 3     /* the mark, with the headers in the log */
+};
+
+/* How many numbers each call answers. */
+#define QUOTE_LOOKUP_NUMBERS 3
+#define QUOTE_NEXT_KEY_NUMBERS 2
+#define QUOTE_TRANSACTION_NUMBERS 5
+#define QUOTE_RECOVER_NUMBERS 2
+
+/*
+ * Format: writes a fresh store, which has no quotes.
+ *   image   written, whole. Its length says how many pages the store has.
+ *   refuses IMAGE_SIZE_WRONG; image then stays.
+ */
+uint8_t quote_format(uint8_t *image, size_t image_length);
+
+/*
+ * Check: whether the image is that of a store.
+ *   image   read.
+ *   refuses IMAGE_SIZE_WRONG; UNSOUND if page 0 is wrong; MARK_WAITS; UNSOUND
+ *           if anything else is wrong.
+ */
+uint8_t quote_check(const uint8_t *image, size_t image_length);
+
+/*
+ * Lookup: where the value of a key is.
+ *   image   read.
+ *   answer  three numbers: 1, the value's offset in the image, its length; or
+ *           0, 0, 0 if the store has no such key. The value is read in place,
+ *           at image + answer[1]; an empty value's offset may be image_length.
+ *   refuses as quote_check, in its order; then KEY_RANGE. answer then stays.
+ */
+uint8_t quote_lookup(const uint8_t *image, size_t image_length, uint64_t key,
+                     uint64_t *answer, size_t answer_length);
+
+/*
+ * Next key: the smallest key above a number, which need not be a key. From 0
+ * on, it leads through all keys, rising.
+ *   image   read.
+ *   answer  two numbers: 1 and the key; or 0, 0 if there is none.
+ *   refuses as quote_check, in its order. answer then stays.
+ */
+uint8_t quote_next_key(const uint8_t *image, size_t image_length, uint64_t key,
+                       uint64_t *answer, size_t answer_length);
+
+/*
+ * Transaction: makes all edits of a list, or none.
+ *   image   read.
+ *   work    as long as the image. Accepted: the image after all edits, and
+ *           after all of the tape's stores. Refused with 1 to 7: as it was.
+ *           Refused with 8 to 13: the same bytes as the image.
+ *   tape    of QUOTE_TAPE_SIZE bytes it is never too short. Accepted: the
+ *           commands at its front, the rest as it was. Refused: as it was.
+ *   edits   read.
+ *   answer  five numbers. Accepted: 0, the commit's place (enum quote_place),
+ *           the header's page (0 if the place is none), the tape bytes used,
+ *           the number of flushes among the commands. Refused: the number of
+ *           the edit that is at fault, from 0, and four zeros; it is 0 too for
+ *           1 to 4, 12 and 13, which are no edit's.
+ *   refuses IMAGE_SIZE_WRONG; WORK_SIZE_WRONG; as quote_check; then for the
+ *           first faulty edit of the list BAD_LIST, LONG_VALUE, BAD_LIST if the
+ *           value is cut short, KEY_RANGE; then, the edits made one after the
+ *           other, for the first that fails KEY_PRESENT, KEY_MISSING,
+ *           INDEX_FULL, PAGES_OUT; then LOG_FULL; TAPE_SHORT.
+ */
+uint8_t quote_transaction(const uint8_t *image, size_t image_length,
+                          uint8_t *work, size_t work_length, uint8_t *tape,
+                          size_t tape_length, const uint8_t *edits,
+                          size_t edits_length, uint64_t *answer,
+                          size_t answer_length);
+
+/*
+ * Recovery: finishes a commit that a power failure cut. Of a store where none
+ * waits, it answers 0 bytes.
+ *   image   read.
+ *   work    as long as the image. Accepted: the image after all of the tape's
+ *           stores, which quote_check accepts. Refused with TAPE_SHORT: the
+ *           same bytes as the image. Refused else: as it was.
+ *   tape    of QUOTE_RECOVERY_TAPE_SIZE bytes it is never too short. Accepted:
+ *           the commands at its front, the rest as it was. Refused: as it was.
+ *   answer  two numbers: the tape bytes used, the number of flushes. Refused:
+ *           as it was.
+ *   refuses IMAGE_SIZE_WRONG; WORK_SIZE_WRONG; UNSOUND if page 0 or the log is
+ *           wrong, or the image were unsound after it; TAPE_SHORT.
+ */
+uint8_t quote_recover(const uint8_t *image, size_t image_length, uint8_t *work,
+                      size_t work_length, uint8_t *tape, size_t tape_length,
+                      uint64_t *answer, size_t answer_length);
+
+/*
+ * Run: a device, simulated: carries out a whole tape. It looks at nothing of
+ * the image but its length.
+ *   image   read.
+ *   work    as long as the image. Accepted: the image after all stores.
+ *           Refused: as it was.
+ *   tape    read. Its length is that of the commands: of a transaction's tape
+ *           lend the bytes used.
+ *   refuses IMAGE_SIZE_WRONG; WORK_SIZE_WRONG; BAD_TAPE.
+ */
+uint8_t quote_run(const uint8_t *image, size_t image_length, uint8_t *work,
+                  size_t work_length, const uint8_t *tape, size_t tape_length);
+
+/*
+ * Cut: the same device when the power fails after c commands. Stores whose line
+ * was flushed are kept. Of the others, each line keeps as many as its byte in
+ * choices says, the earliest first, or all if there are fewer.
+ *   image   read.
+ *   work    as long as the image. Accepted: what the device then holds.
+ *           Refused: as it was.
+ *   tape    read, whole, as in quote_run.
+ *   choices read: a byte for each line of the image (QUOTE_CHOICES_SIZE).
+ *   refuses IMAGE_SIZE_WRONG; WORK_SIZE_WRONG; BAD_CHOICES; BAD_TAPE; PAST_END
+ *           if c is above the number of commands.
+ */
+uint8_t quote_cut(const uint8_t *image, size_t image_length, uint8_t *work,
+                  size_t work_length, const uint8_t *tape, size_t tape_length,
+                  size_t c, const uint8_t *choices, size_t choices_length);
+
+#ifdef __cplusplus
+}
+#endif
+
+#endif

@@ -55,9 +55,9 @@ pub fn check(image: &mut [u8]) -> u8 {
 }
 
 /// The answer is 1, offset and length if the key is found, 0, 0 and 0 if it is
-/// missing; it stays as it was on a refusal.
+/// missing; it stays as it was on a refusal, or without room for three.
 #[inline]
-pub fn lookup(image: &mut [u8], key: u64, answer: &mut [u64; 3]) -> u8 {
+pub fn lookup(image: &mut [u8], key: u64, answer: &mut [u64]) -> u8 {
     // Sound: each pointer is lent with its own length, for this call alone.
     unsafe {
         interface::quote_lookup(
@@ -71,9 +71,9 @@ pub fn lookup(image: &mut [u8], key: u64, answer: &mut [u64; 3]) -> u8 {
 }
 
 /// The answer is 1 and the next key, or 0 and 0 if there is none; it stays as
-/// it was on a refusal.
+/// it was on a refusal, or without room for two.
 #[inline]
-pub fn next_key(image: &mut [u8], key: u64, answer: &mut [u64; 2]) -> u8 {
+pub fn next_key(image: &mut [u8], key: u64, answer: &mut [u64]) -> u8 {
     // Sound: each pointer is lent with its own length, for this call alone.
     unsafe {
         interface::quote_next_key(

@@ -1,0 +1,257 @@
+//! Each call of the proved library, on buffers that the program lends. A call
+//! allocates nothing and keeps nothing. `include/quote_store.h` says of each
+//! what its buffers hold afterwards, and its refusals in their order.
+
+use crate::{Commit, Recovery, Refusal};
+use quote_store_sys as sys;
+use std::ops::Range;
+
+/// What a call answers: accepted, or the refusal at this edit.
+fn judged(number: u8, edit: u64) -> Result<(), Refusal> {
+    match number {
+        0 => Ok(()),
+        _ => Err(Refusal::of(number, edit as usize).expect("refusals are 1 to 16")),
+    }
+}
+
+/// Writes a fresh store, without quotes, as large as the image.
+///
+/// ```
+/// use quote_store::{calls, Refusal, PAGE};
+///
+/// let mut image = vec![255; 8 * PAGE];
+/// calls::format(&mut image)?;
+/// assert_eq!(calls::check(&image), Ok(()));
+/// assert_eq!(calls::format(&mut image[1..]), Err(Refusal::ImageSize));
+/// # Ok::<(), Refusal>(())
+/// ```
+pub fn format(image: &mut [u8]) -> Result<(), Refusal> {
+    // Sound: the pointer is lent with its own length, for this call alone.
+    let number = unsafe { sys::quote_format(image.as_mut_ptr(), image.len()) };
+    judged(number, 0)
+}
+
+/// Whether the image is that of a sound store where no commit waits.
+///
+/// ```
+/// use quote_store::{calls, Refusal, Store};
+///
+/// let mut image = Store::fresh(8)?.into_image();
+/// assert_eq!(calls::check(&image), Ok(()));
+/// image[40] = 1;
+/// assert_eq!(calls::check(&image), Err(Refusal::Unsound));
+/// # Ok::<(), Refusal>(())
+/// ```
+pub fn check(image: &[u8]) -> Result<(), Refusal> {
+    // Sound: the pointer is lent with its own length, and only read.
+    let number = unsafe { sys::quote_check(image.as_ptr(), image.len()) };
+    judged(number, 0)
+}
+
+/// Where in the image the key's value is, if the store has the key.
+///
+/// ```
+/// use quote_store::{calls, Edit, Store};
+///
+/// let mut store = Store::fresh(8)?;
+/// store.apply(&[Edit::Insert { key: 101, value: b"101.25" }])?;
+/// let place = calls::lookup(store.image(), 101)?.unwrap();
+/// assert_eq!(&store.image()[place], b"101.25");
+/// assert_eq!(calls::lookup(store.image(), 102), Ok(None));
+/// # Ok::<(), quote_store::Refusal>(())
+/// ```
+pub fn lookup(image: &[u8], key: u64) -> Result<Option<Range<usize>>, Refusal> {
+    let mut answer = [0; 3];
+    // Sound: each pointer is lent with its own length; the image is only read.
+    let number = unsafe {
+        sys::quote_lookup(
+            image.as_ptr(),
+            image.len(),
+            key,
+            answer.as_mut_ptr(),
+            answer.len(),
+        )
+    };
+    judged(number, 0)?;
+    let [found, offset, length] = answer.map(|number| number as usize);
+    Ok((found == 1).then_some(offset..offset + length))
+}
+
+/// The smallest key above a number, which need not be a key.
+///
+/// ```
+/// use quote_store::{calls, Edit, Store};
+///
+/// let mut store = Store::fresh(8)?;
+/// store.apply(&[Edit::Insert { key: 101, value: b"101.25" }])?;
+/// assert_eq!(calls::next_key(store.image(), 0), Ok(Some(101)));
+/// assert_eq!(calls::next_key(store.image(), 101), Ok(None));
+/// # Ok::<(), quote_store::Refusal>(())
+/// ```
+pub fn next_key(image: &[u8], key: u64) -> Result<Option<u64>, Refusal> {
+    let mut answer = [0; 2];
+    // Sound: each pointer is lent with its own length; the image is only read.
+    let number = unsafe {
+        sys::quote_next_key(
+            image.as_ptr(),
+            image.len(),
+            key,
+            answer.as_mut_ptr(),
+            answer.len(),
+        )
+    };
+    judged(number, 0)?;
+    let [found, next] = answer;
+    Ok((found == 1).then_some(next))
+}
+
+/// Makes all edits of a list, or none. Accepted, work is the image after them,
+/// and the tape's first bytes are the commands that lead to it.
+///
+/// ```
+/// use quote_store::{calls, encode, tape_length, Edit, Store};
+///
+/// let image = Store::fresh(8)?.into_image();
+/// let mut work = image.clone();
+/// let mut tape = vec![0; tape_length(image.len())];
+/// let edits = encode(&[Edit::Insert { key: 101, value: b"101.25" }]);
+/// let commit = calls::transaction(&image, &mut work, &mut tape, &edits)?;
+///
+/// // The device that carries out the commands comes to the same image.
+/// let mut device = image.clone();
+/// calls::run(&image, &mut device, &tape[..commit.bytes])?;
+/// assert!(device == work);
+/// # Ok::<(), quote_store::Refusal>(())
+/// ```
+pub fn transaction(
+    image: &[u8],
+    work: &mut [u8],
+    tape: &mut [u8],
+    edits: &[u8],
+) -> Result<Commit, Refusal> {
+    let mut answer = [0; 5];
+    // Sound: each pointer is lent with its own length, and no buffer that is
+    // written overlaps another; image and edits are only read.
+    let number = unsafe {
+        sys::quote_transaction(
+            image.as_ptr(),
+            image.len(),
+            work.as_mut_ptr(),
+            work.len(),
+            tape.as_mut_ptr(),
+            tape.len(),
+            edits.as_ptr(),
+            edits.len(),
+            answer.as_mut_ptr(),
+            answer.len(),
+        )
+    };
+    let [edit, rest @ ..] = answer;
+    judged(number, edit)?;
+    Ok(Commit::of(rest.map(|number| number as usize)))
+}
+
+/// Finishes a commit that a power failure cut. Accepted, work is the image
+/// after it, and the tape's first bytes are the commands that lead to it.
+///
+/// ```
+/// use quote_store::{calls, Refusal, Store};
+///
+/// let mut image = Store::fresh(8)?.into_image();
+/// // A mark that says: one header logged, root page 1. And that header.
+/// image[..8].copy_from_slice(&[1, 1, 1, 0, 0, 0, 0, 0]);
+/// image.copy_within(1024..1024 + 64, 64);
+/// assert_eq!(calls::check(&image), Err(Refusal::MarkWaits));
+///
+/// let mut work = image.clone();
+/// let recovery = calls::recover(&image, &mut work, &mut [0; 1108])?;
+/// assert_eq!((recovery.bytes, recovery.flushes), (88, 2));
+/// assert_eq!(calls::check(&work), Ok(()));
+/// # Ok::<(), Refusal>(())
+/// ```
+pub fn recover(image: &[u8], work: &mut [u8], tape: &mut [u8]) -> Result<Recovery, Refusal> {
+    let mut answer = [0; 2];
+    // Sound: each pointer is lent with its own length, and no buffer that is
+    // written overlaps another; the image is only read.
+    let number = unsafe {
+        sys::quote_recover(
+            image.as_ptr(),
+            image.len(),
+            work.as_mut_ptr(),
+            work.len(),
+            tape.as_mut_ptr(),
+            tape.len(),
+            answer.as_mut_ptr(),
+            answer.len(),
+        )
+    };
+    judged(number, 0)?;
+    let [bytes, flushes] = answer.map(|number| number as usize);
+    Ok(Recovery { bytes, flushes })
+}
+
+/// A device, simulated: carries out a whole tape.
+///
+/// ```
+/// use quote_store::calls;
+///
+/// let (image, mut work) = ([0; 8192], [0; 8192]);
+/// let store_word_2 = [1, 0, 2, 0, 11, 12, 13, 14, 15, 16, 17, 18];
+/// calls::run(&image, &mut work, &store_word_2)?;
+/// assert_eq!(work[16..24], [11, 12, 13, 14, 15, 16, 17, 18]);
+/// # Ok::<(), quote_store::Refusal>(())
+/// ```
+pub fn run(image: &[u8], work: &mut [u8], tape: &[u8]) -> Result<(), Refusal> {
+    // Sound: each pointer is lent with its own length; only work is written,
+    // and it overlaps no other buffer.
+    let number = unsafe {
+        sys::quote_run(
+            image.as_ptr(),
+            image.len(),
+            work.as_mut_ptr(),
+            work.len(),
+            tape.as_ptr(),
+            tape.len(),
+        )
+    };
+    judged(number, 0)
+}
+
+/// The same device when the power fails after c commands: each line keeps as
+/// many of its stores not yet flushed as its choice says.
+///
+/// ```
+/// use quote_store::calls;
+///
+/// let (image, mut work) = ([0; 8192], [9; 8192]);
+/// let store_word_2 = [1, 0, 2, 0, 11, 12, 13, 14, 15, 16, 17, 18];
+/// calls::cut(&image, &mut work, &store_word_2, 1, &[0; 128])?;
+/// assert_eq!(work, image);
+/// calls::cut(&image, &mut work, &store_word_2, 1, &[1; 128])?;
+/// assert_ne!(work, image);
+/// # Ok::<(), quote_store::Refusal>(())
+/// ```
+pub fn cut(
+    image: &[u8],
+    work: &mut [u8],
+    tape: &[u8],
+    c: usize,
+    choices: &[u8],
+) -> Result<(), Refusal> {
+    // Sound: each pointer is lent with its own length; only work is written,
+    // and it overlaps no other buffer.
+    let number = unsafe {
+        sys::quote_cut(
+            image.as_ptr(),
+            image.len(),
+            work.as_mut_ptr(),
+            work.len(),
+            tape.as_ptr(),
+            tape.len(),
+            c,
+            choices.as_ptr(),
+            choices.len(),
+        )
+    };
+    judged(number, 0)
+}

@@ -1,0 +1,61 @@
+//! Document 01, 'Edits': the edit list.
+
+/// One edit of a transaction.
+///
+/// ```
+/// use quote_store::{Edit, Store};
+///
+/// let mut store = Store::fresh(8)?;
+/// store.apply(&[
+///     Edit::Insert { key: 7, value: b"old" },
+///     Edit::Update { key: 7, value: b"new" },
+///     Edit::Insert { key: 8, value: b"" },
+///     Edit::Delete { key: 7 },
+/// ])?;
+/// assert_eq!((store.get(7), store.get(8)), (None, Some(&b""[..])));
+/// # Ok::<(), quote_store::Refusal>(())
+/// ```
+#[derive(Clone, Copy, Debug, PartialEq, Eq)]
+pub enum Edit<'a> {
+    /// A new key with its value.
+    Insert { key: u64, value: &'a [u8] },
+    /// A new value for a key that is there.
+    Update { key: u64, value: &'a [u8] },
+    /// The key and its value dropped.
+    Delete { key: u64 },
+}
+
+/// The edits end to end, as [`calls::transaction`](crate::calls::transaction)
+/// reads them: "kind, value length, key (8), value".
+///
+/// A length is one byte. A value of more than 255 bytes is cut to 255, which is
+/// refused as the whole would be, since 200 are the most.
+///
+/// ```
+/// use quote_store::{encode, Edit};
+///
+/// let list = encode(&[Edit::Update { key: 258, value: b"9" }, Edit::Delete { key: 1 }]);
+/// assert_eq!(list[..11], [2, 1, 2, 1, 0, 0, 0, 0, 0, 0, b'9']);
+/// assert_eq!(list[11..], [3, 0, 1, 0, 0, 0, 0, 0, 0, 0]);
+/// ```
+pub fn encode(edits: &[Edit]) -> Vec<u8> {
+    let mut list = Vec::new();
+    for edit in edits {
+        edit.push(&mut list);
+    }
+    list
+}
+
+impl Edit<'_> {
+    fn push(self, list: &mut Vec<u8>) {
+        let (kind, key, value) = match self {
+            Edit::Insert { key, value } => (1, key, value),
+            Edit::Update { key, value } => (2, key, value),
+            Edit::Delete { key } => (3, key, &[][..]),
+        };
+        let length = value.len().min(255);
+        list.extend([kind, length as u8]);
+        list.extend(key.to_le_bytes());
+        list.extend(&value[..length]);
+    }
+}

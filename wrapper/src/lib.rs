@@ -1,0 +1,83 @@
+//! The quote store for programs in Rust: quotes by key in persistent memory, a
+//! whole list of edits in one transaction, and after a power failure the store
+//! before it or the store after it.
+//!
+//! [`Store`] holds everything in memory of its own and is the place to begin.
+//! [`calls`] has each call of the proved library on buffers that the program
+//! lends, for a program whose image is the persistent memory itself.
+//!
+//! ```
+//! use quote_store::{Edit, Store};
+//!
+//! let mut store = Store::fresh(8)?;
+//! store.apply(&[
+//!     Edit::Insert { key: 101, value: b"101.25" },
+//!     Edit::Insert { key: 105, value: b"99.50" },
+//! ])?;
+//! // A curve shift: both quotes or neither.
+//! store.apply(&[
+//!     Edit::Update { key: 101, value: b"101.50" },
+//!     Edit::Update { key: 105, value: b"99.75" },
+//! ])?;
+//! assert_eq!(store.get(101), Some(&b"101.50"[..]));
+//! # Ok::<(), quote_store::Refusal>(())
+//! ```
+
+pub mod calls;
+mod commit;
+mod edit;
+mod refusal;
+mod store;
+
+pub use commit::{Commit, CommitPlace, Recovery};
+pub use edit::{encode, Edit};
+pub use refusal::Refusal;
+pub use store::{Iter, Store};
+
+/// The bytes of a page; an image has 8 to 64 of them.
+///
+/// ```
+/// let mut image = vec![0; 8 * quote_store::PAGE];
+/// assert_eq!(quote_store::calls::format(&mut image), Ok(()));
+/// ```
+pub const PAGE: usize = 1024;
+
+/// The largest key; the smallest is 1.
+///
+/// ```
+/// use quote_store::{calls, Refusal, Store, LAST_KEY};
+///
+/// let image = Store::fresh(8)?.into_image();
+/// assert_eq!(calls::lookup(&image, LAST_KEY), Ok(None));
+/// assert_eq!(calls::lookup(&image, LAST_KEY + 1), Err(Refusal::KeyRange { edit: 0 }));
+/// # Ok::<(), Refusal>(())
+/// ```
+pub const LAST_KEY: u64 = 999_999_999_999;
+
+/// The most bytes that a value has.
+///
+/// ```
+/// use quote_store::{Edit, Refusal, Store, LONGEST_VALUE};
+///
+/// let mut store = Store::fresh(8)?;
+/// let value = [7; LONGEST_VALUE + 1];
+/// store.apply(&[Edit::Insert { key: 1, value: &value[1..] }])?;
+/// let refused = store.apply(&[Edit::Insert { key: 2, value: &value }]);
+/// assert_eq!(refused, Err(Refusal::LongValue { edit: 0 }));
+/// # Ok::<(), Refusal>(())
+/// ```
+pub const LONGEST_VALUE: usize = 200;
+
+/// A tape of this length is never too short for a transaction on an image of
+/// this length: 100 bytes a line. `include/quote_store.h` says why, beside
+/// QUOTE_TAPE_SIZE. It holds a recovery too.
+///
+/// ```
+/// assert_eq!(quote_store::tape_length(8 * quote_store::PAGE), 12_800);
+/// ```
+pub const fn tape_length(image_length: usize) -> usize {
+    image_length / LINE * 100
+}
+
+/// The bytes of a line, the unit of a flush.
+const LINE: usize = 64;

@@ -1,0 +1,163 @@
+//! Document 01, 'Each call and when it says no': "A refusal gives its number
+//! and edit number from 0 (0 unless 5 to 11 in a transaction)."
+
+use std::fmt;
+
+/// Why a call says no, and which edit is at fault, counted from 0, where one
+/// may be. Outside a transaction the edit is 0.
+///
+/// ```
+/// use quote_store::{Edit, Refusal, Store};
+///
+/// let mut store = Store::fresh(8)?;
+/// let refused = store.apply(&[
+///     Edit::Insert { key: 101, value: b"101.25" },
+///     Edit::Delete { key: 105 },
+/// ]);
+/// let refusal = refused.unwrap_err();
+/// assert_eq!(refusal, Refusal::KeyMissing { edit: 1 });
+/// assert_eq!((refusal.number(), refusal.edit()), (9, 1));
+/// assert_eq!(refusal.to_string(), "edit 1: the store has no quote with this key");
+/// // All edits or none.
+/// assert_eq!(store.get(101), None);
+/// # Ok::<(), Refusal>(())
+/// ```
+#[derive(Clone, Copy, Debug, PartialEq, Eq, Hash)]
+pub enum Refusal {
+    ImageSize,
+    WorkSize,
+    MarkWaits,
+    Unsound,
+    BadList { edit: usize },
+    KeyRange { edit: usize },
+    LongValue { edit: usize },
+    KeyPresent { edit: usize },
+    KeyMissing { edit: usize },
+    IndexFull { edit: usize },
+    PagesOut { edit: usize },
+    LogFull,
+    TapeShort,
+    BadTape,
+    PastEnd,
+    BadChoices,
+}
+
+impl Refusal {
+    /// The refusal with this number, at this edit if it names one.
+    ///
+    /// ```
+    /// use quote_store::Refusal;
+    ///
+    /// assert_eq!(Refusal::of(8, 3), Some(Refusal::KeyPresent { edit: 3 }));
+    /// assert_eq!(Refusal::of(13, 0), Some(Refusal::TapeShort));
+    /// assert_eq!(Refusal::of(17, 0), None);
+    /// ```
+    pub fn of(number: u8, edit: usize) -> Option<Refusal> {
+        Some(match number {
+            1 => Refusal::ImageSize,
+            2 => Refusal::WorkSize,
+            3 => Refusal::MarkWaits,
+            4 => Refusal::Unsound,
+            5 => Refusal::BadList { edit },
+            6 => Refusal::KeyRange { edit },
+            7 => Refusal::LongValue { edit },
+            8 => Refusal::KeyPresent { edit },
+            9 => Refusal::KeyMissing { edit },
+            10 => Refusal::IndexFull { edit },
+            11 => Refusal::PagesOut { edit },
+            12 => Refusal::LogFull,
+            13 => Refusal::TapeShort,
+            14 => Refusal::BadTape,
+            15 => Refusal::PastEnd,
+            16 => Refusal::BadChoices,
+            _ => return None,
+        })
+    }
+
+    /// Document 01's number, 1 to 16.
+    ///
+    /// ```
+    /// assert_eq!(quote_store::Refusal::Unsound.number(), 4);
+    /// ```
+    pub fn number(self) -> u8 {
+        match self {
+            Refusal::ImageSize => 1,
+            Refusal::WorkSize => 2,
+            Refusal::MarkWaits => 3,
+            Refusal::Unsound => 4,
+            Refusal::BadList { .. } => 5,
+            Refusal::KeyRange { .. } => 6,
+            Refusal::LongValue { .. } => 7,
+            Refusal::KeyPresent { .. } => 8,
+            Refusal::KeyMissing { .. } => 9,
+            Refusal::IndexFull { .. } => 10,
+            Refusal::PagesOut { .. } => 11,
+            Refusal::LogFull => 12,
+            Refusal::TapeShort => 13,
+            Refusal::BadTape => 14,
+            Refusal::PastEnd => 15,
+            Refusal::BadChoices => 16,
+        }
+    }
+
+    /// The number of the edit at fault, from 0; 0 where a refusal names none.
+    ///
+    /// ```
+    /// use quote_store::Refusal;
+    ///
+    /// assert_eq!(Refusal::BadList { edit: 16 }.edit(), 16);
+    /// assert_eq!(Refusal::LogFull.edit(), 0);
+    /// ```
+    pub fn edit(self) -> usize {
+        self.names_edit().unwrap_or(0)
+    }
+
+    fn names_edit(self) -> Option<usize> {
+        match self {
+            Refusal::BadList { edit }
+            | Refusal::KeyRange { edit }
+            | Refusal::LongValue { edit }
+            | Refusal::KeyPresent { edit }
+            | Refusal::KeyMissing { edit }
+            | Refusal::IndexFull { edit }
+            | Refusal::PagesOut { edit } => Some(edit),
+            _ => None,
+        }
+    }
+
+    fn words(self) -> &'static str {
+        match self {
+            Refusal::ImageSize => "the image is not 8 to 64 whole pages of 1,024 bytes",
+            Refusal::WorkSize => "the work buffer is not as long as the image",
+            Refusal::MarkWaits => "a power failure cut a commit: recover the store first",
+            Refusal::Unsound => "the image is not that of a sound store",
+            Refusal::BadList { .. } => {
+                "the list is empty, has a 17th edit, or this edit is malformed"
+            }
+            Refusal::KeyRange { .. } => "the key is not 1 to 999,999,999,999",
+            Refusal::LongValue { .. } => "the value has more than 200 bytes",
+            Refusal::KeyPresent { .. } => "the store has a quote with this key already",
+            Refusal::KeyMissing { .. } => "the store has no quote with this key",
+            Refusal::IndexFull { .. } => {
+                "the store is full: it has 28 leaves, the most there can be"
+            }
+            Refusal::PagesOut { .. } => "the store is full: too few free pages for this edit",
+            Refusal::LogFull => "the edits touch more than 15 pages: make them in two transactions",
+            Refusal::TapeShort => "the tape has too few bytes for the commands",
+            Refusal::BadTape => "the tape has a malformed command or a place outside the image",
+            Refusal::PastEnd => "the cut comes after more commands than the tape has",
+            Refusal::BadChoices => "the choices are not one byte for each line of the image",
+        }
+    }
+}
+
+impl fmt::Display for Refusal {
+    fn fmt(&self, to: &mut fmt::Formatter<'_>) -> fmt::Result {
+        if let Some(edit) = self.names_edit() {
+            write!(to, "edit {edit}: ")?;
+        }
+        to.write_str(self.words())
+    }
+}
+
+impl std::error::Error for Refusal {}

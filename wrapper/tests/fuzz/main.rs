@@ -1,0 +1,174 @@
+//! Bad input of every kind gets its refusal and never a fault: random calls,
+//! held to what is known without a second implementation. That each answer is
+//! the right one is what the proofs say and the comparisons in `reference/`
+//! look at.
+
+mod input;
+mod lent;
+mod rules;
+
+use cases::random::Random;
+use input::{any_input, Input};
+use quote_store::{calls, tape_length, Commit, CommitPlace, Refusal};
+use rules::{Buffers, Call, CHECK, CUT, FORMAT, LOOKUP, NEXT_KEY, RECOVER, RUN, TRANSACTION};
+use std::collections::BTreeMap;
+
+const SEED: u64 = 20_240_611;
+const CALLS: usize = 300_000;
+
+/// How often each answer of each call came.
+type Tally = BTreeMap<(&'static str, u8), usize>;
+
+fn try_one(random: &mut Random, call: &Call, input: &Input, tally: &mut Tally) -> (u8, Buffers) {
+    let mut buffers = Buffers::new(random, input);
+    let number = call.try_on(&mut buffers);
+    *tally.entry((call.name, number)).or_default() += 1;
+    (number, buffers)
+}
+
+/// Every call once, on one input. The tapes that are written are then run and
+/// cut, good or damaged.
+fn round(random: &mut Random, tally: &mut Tally) {
+    let mut input = any_input(random);
+    for call in [&FORMAT, &CHECK, &RUN, &CUT] {
+        try_one(random, call, &input, tally);
+    }
+    let (number, buffers) = try_one(random, &LOOKUP, &input, tally);
+    if number == 0 {
+        value_is_inside(&buffers);
+    }
+    let (number, buffers) = try_one(random, &NEXT_KEY, &input, tally);
+    if number == 0 && buffers.answer.after().len() >= 2 {
+        let [found, next] = buffers.answer.after()[..2] else {
+            unreachable!()
+        };
+        assert!(found == 0 && next == 0 || found == 1 && next > input.key);
+    }
+    for (call, at) in [(&TRANSACTION, 3), (&RECOVER, 0)] {
+        let (number, buffers) = try_one(random, call, &input, tally);
+        if number != 0 || buffers.answer.after().len() <= at + 1 {
+            continue;
+        }
+        let [bytes, flushes] = buffers.answer.after()[at..at + 2] else {
+            unreachable!()
+        };
+        tape_is_good(&buffers, bytes as usize, flushes);
+        input.tape = any_part(random, &buffers.tape.after()[..bytes as usize]);
+        try_one(random, &RUN, &input, tally);
+        try_one(random, &CUT, &input, tally);
+    }
+}
+
+fn value_is_inside(buffers: &Buffers) {
+    if let [found, offset, length, ..] = *buffers.answer.after() {
+        assert!(found <= 1 && length <= 200);
+        assert!(offset + length <= buffers.image.after().len() as u64);
+    }
+}
+
+/// "On acceptance, the image after all the tape's stores"; "tape bytes past
+/// those used stay"; the flushes are those on the tape.
+fn tape_is_good(buffers: &Buffers, bytes: usize, flushes: u64) {
+    let (image, tape) = (buffers.image.before(), buffers.tape.after());
+    assert!(tape[bytes..] == buffers.tape.before()[bytes..]);
+    assert!(bytes <= tape_length(image.len()));
+    let mut work = vec![0; image.len()];
+    calls::run(image, &mut work, &tape[..bytes]).expect("the tape is well formed");
+    assert!(work == buffers.work.after());
+    assert_eq!(calls::check(&work), Ok(()));
+    assert_eq!(count_flushes(&tape[..bytes]), flushes);
+}
+
+fn count_flushes(mut tape: &[u8]) -> u64 {
+    let mut flushes = 0;
+    while let Some(kind) = tape.first() {
+        flushes += u64::from(*kind == 3);
+        tape = &tape[[0, 12, 68, 4][*kind as usize]..];
+    }
+    flushes
+}
+
+/// The tape, mostly; or cut short, or with a bit turned.
+fn any_part(random: &mut Random, tape: &[u8]) -> Vec<u8> {
+    let mut tape = tape.to_vec();
+    match random.below(4) {
+        0 => tape.truncate(random.below(tape.len() + 1)),
+        1 if !tape.is_empty() => {
+            let at = random.below(tape.len());
+            tape[at] ^= 1 << random.below(8);
+        }
+        _ => {}
+    }
+    tape
+}
+
+#[test]
+fn bad_input_gets_its_refusal() {
+    println!("seed {SEED}");
+    let mut random = Random::new(SEED);
+    let mut tally = Tally::new();
+    while tally.values().sum::<usize>() < CALLS {
+        round(&mut random, &mut tally);
+    }
+    for ((name, number), times) in &tally {
+        println!("{name:<12}{number:>3}{times:>8}");
+    }
+    for call in [
+        &FORMAT,
+        &CHECK,
+        &LOOKUP,
+        &NEXT_KEY,
+        &TRANSACTION,
+        &RECOVER,
+        &RUN,
+        &CUT,
+    ] {
+        for number in call.known {
+            let times = tally.get(&(call.name, *number)).copied().unwrap_or(0);
+            assert!(
+                times > 3,
+                "{} answered {number} only {times} times",
+                call.name
+            );
+        }
+    }
+}
+
+/// The safe function answers as the raw call does; these are its five numbers.
+fn same_answer(given: Result<Commit, Refusal>, number: u8, five: &[u64]) {
+    let numbers = match given {
+        Ok(commit) => {
+            let (kind, page) = match commit.place {
+                CommitPlace::Header { page } => (1, page),
+                CommitPlace::Root => (2, 0),
+                CommitPlace::Log => (3, 0),
+            };
+            (0, [0, kind, page, commit.bytes, commit.flushes])
+        }
+        Err(refusal) => (refusal.number(), [refusal.edit(), 0, 0, 0, 0]),
+    };
+    assert_eq!(numbers.0, number);
+    assert_eq!(numbers.1.map(|number| number as u64), five);
+}
+
+#[test]
+fn wrapper_answers_as_the_call() {
+    let mut random = Random::new(SEED + 1);
+    let mut times = [0; 4];
+    for _ in 0..4_000 {
+        let input = Input {
+            answer: vec![7; 5],
+            ..any_input(&mut random)
+        };
+        let mut buffers = Buffers::new(&mut random, &input);
+        let number = TRANSACTION.try_on(&mut buffers);
+        let five = buffers.answer.after();
+        times[five[1] as usize] += 1;
+        let (mut work, mut tape) = (input.work.clone(), input.tape.clone());
+        let given = calls::transaction(&input.image, &mut work, &mut tape, &input.edits);
+        same_answer(given, number, five);
+        assert!(work == buffers.work.after() && tape == buffers.tape.after());
+    }
+    println!("refused, then commits by header, root and log: {times:?}");
+    assert!(times.iter().all(|times| *times > 3));
+}

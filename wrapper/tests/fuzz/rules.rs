@@ -1,0 +1,166 @@
+//! What each call may answer, and what it must leave alone.
+
+use crate::input::Input;
+use crate::lent::Lent;
+use cases::random::Random;
+
+/// The buffers of one call.
+pub struct Buffers {
+    pub image: Lent<u8>,
+    pub work: Lent<u8>,
+    pub tape: Lent<u8>,
+    pub edits: Lent<u8>,
+    pub choices: Lent<u8>,
+    pub answer: Lent<u64>,
+    pub key: u64,
+    pub c: usize,
+}
+
+impl Buffers {
+    pub fn new(random: &mut Random, input: &Input) -> Buffers {
+        let mut bytes = |content: &Vec<u8>| Lent::new(random, content.clone(), 0xa5);
+        Buffers {
+            image: bytes(&input.image),
+            work: bytes(&input.work),
+            tape: bytes(&input.tape),
+            edits: bytes(&input.edits),
+            choices: bytes(&input.choices),
+            answer: Lent::new(random, input.answer.clone(), 0xa5a5_0f0f_a5a5_0f0f),
+            key: input.key,
+            c: input.c,
+        }
+    }
+}
+
+/// A call, the numbers that it may return, and how many it writes to `answer`.
+pub struct Call {
+    pub name: &'static str,
+    pub make: fn(&mut Buffers) -> u8,
+    pub known: &'static [u8],
+    numbers: usize,
+}
+
+pub const TRANSACTION: Call = Call {
+    name: "transaction",
+    make: |b| {
+        let (image, work, tape) = (b.image.lend(), b.work.lend(), b.tape.lend());
+        proved::transaction(image, work, tape, b.edits.lend(), b.answer.lend())
+    },
+    known: &[0, 1, 2, 3, 4, 5, 6, 7, 8, 9, 10, 11, 12, 13],
+    numbers: 5,
+};
+
+pub const RECOVER: Call = Call {
+    name: "recover",
+    make: |b| {
+        let (image, work, tape) = (b.image.lend(), b.work.lend(), b.tape.lend());
+        proved::recover(image, work, tape, b.answer.lend())
+    },
+    known: &[0, 1, 2, 4, 13],
+    numbers: 2,
+};
+
+pub const RUN: Call = Call {
+    name: "run",
+    make: |b| proved::run(b.image.lend(), b.work.lend(), b.tape.lend()),
+    known: &[0, 1, 2, 14],
+    numbers: 0,
+};
+
+pub const CUT: Call = Call {
+    name: "cut",
+    make: |b| {
+        let (image, work, tape) = (b.image.lend(), b.work.lend(), b.tape.lend());
+        proved::cut(image, work, tape, b.c, b.choices.lend())
+    },
+    known: &[0, 1, 2, 14, 15, 16],
+    numbers: 0,
+};
+
+pub const FORMAT: Call = Call {
+    name: "format",
+    make: |b| proved::format(b.image.lend()),
+    known: &[0, 1],
+    numbers: 0,
+};
+
+pub const CHECK: Call = Call {
+    name: "check",
+    make: |b| proved::check(b.image.lend()),
+    known: &[0, 1, 3, 4],
+    numbers: 0,
+};
+
+pub const LOOKUP: Call = Call {
+    name: "lookup",
+    make: |b| proved::lookup(b.image.lend(), b.key, b.answer.lend()),
+    known: &[0, 1, 3, 4, 6],
+    numbers: 3,
+};
+
+pub const NEXT_KEY: Call = Call {
+    name: "next key",
+    make: |b| proved::next_key(b.image.lend(), b.key, b.answer.lend()),
+    known: &[0, 1, 3, 4],
+    numbers: 2,
+};
+
+impl Call {
+    /// One call, held to the rules that need no second implementation.
+    pub fn try_on(&self, buffers: &mut Buffers) -> u8 {
+        let number = (self.make)(buffers);
+        let name = self.name;
+        assert!(self.known.contains(&number), "{name} answered {number}");
+        assert!(guards_stayed(buffers), "{name} wrote outside a buffer");
+        let image_written = name == "format" && number == 0;
+        assert!(image_written || buffers.image.stayed(), "image of {name}");
+        assert!(buffers.edits.stayed(), "edits of {name}");
+        assert!(buffers.choices.stayed(), "choices of {name}");
+        if number != 0 {
+            self.refused(number, buffers);
+        }
+        self.answer_kept(number, buffers);
+        number
+    }
+
+    /// "The tape stays. Other buffers stay unless said": transaction, "from 8
+    /// on, work holds the image"; recovery, "13, work then holding the image".
+    fn refused(&self, number: u8, buffers: &Buffers) {
+        let Buffers { image, work, .. } = buffers;
+        let (name, tape) = (self.name, &buffers.tape);
+        assert!(tape.stayed(), "tape of {name} refused with {number}");
+        let restored = match name {
+            "transaction" => number >= 8,
+            "recover" => number == 13,
+            _ => false,
+        };
+        let wanted = if restored { image } else { work };
+        let good = work.after() == wanted.before();
+        assert!(good, "work of {name} refused with {number}");
+    }
+
+    /// Numbers are written only where there is room for all, and only those.
+    fn answer_kept(&self, number: u8, buffers: &Buffers) {
+        let (before, after) = (buffers.answer.before(), buffers.answer.after());
+        let writes = number == 0 || self.name == "transaction";
+        let written = if writes && before.len() >= self.numbers {
+            self.numbers
+        } else {
+            0
+        };
+        let name = self.name;
+        assert_eq!(after[written..], before[written..], "numbers of {name}");
+        if number != 0 && written == 5 {
+            // "Edit number from 0 (0 unless 5 to 11 in a transaction)."
+            let most = if (5..=11).contains(&number) { 16 } else { 0 };
+            assert!(after[0] <= most && after[1..5] == [0; 4]);
+        }
+    }
+}
+
+fn guards_stayed(buffers: &Buffers) -> bool {
+    let Buffers { image, work, .. } = buffers;
+    let Buffers { tape, edits, .. } = buffers;
+    let bytes = [image, work, tape, edits, &buffers.choices];
+    bytes.iter().all(|lent| lent.guards_stayed()) && buffers.answer.guards_stayed()
+}

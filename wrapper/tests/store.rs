@@ -1,0 +1,166 @@
+//! The `Store` type against a plain map, and through power failures.
+
+use cases::random::Random;
+use quote_store::{calls, Edit, Refusal, Store, LAST_KEY};
+use std::collections::BTreeMap;
+
+const SEED: u64 = 20_240_612;
+
+/// Every value is a part of this.
+const DATA: &[u8] = b"101.25 99.50 100.03125 98.765625 102.5 97.1875";
+
+type Map = BTreeMap<u64, &'static [u8]>;
+
+/// An edit that is possible, made on the map too.
+fn any_edit(random: &mut Random, map: &mut Map) -> Edit<'static> {
+    let key = random.between(1, 60) as u64;
+    let value = &DATA[random.below(DATA.len())..];
+    let present = map.contains_key(&key);
+    if present && random.one_in(4) {
+        map.remove(&key);
+        return Edit::Delete { key };
+    }
+    map.insert(key, value);
+    match present {
+        true => Edit::Update { key, value },
+        false => Edit::Insert { key, value },
+    }
+}
+
+fn holds(store: &Store, map: &Map) -> bool {
+    store
+        .iter()
+        .eq(map.iter().map(|(key, value)| (*key, *value)))
+}
+
+/// What the device holds after its tape, whole.
+fn played(image: &[u8], tape: &[u8]) -> Vec<u8> {
+    let mut device = vec![0; image.len()];
+    calls::run(image, &mut device, tape).expect("the tape is well formed");
+    device
+}
+
+/// The power fails after each of the tape's commands, with each line keeping
+/// none, one or all of its stores: what is opened then holds one of the two
+/// tables. Gives how often a commit had to be finished.
+fn every_cut(before: &[u8], tape: &[u8], old: &Map, new: &Map) -> usize {
+    let (mut c, mut recovered) = (0, 0);
+    let mut device = vec![0; before.len()];
+    let lines = before.len() / 64;
+    while calls::cut(before, &mut device, tape, c, &vec![255; lines]).is_ok() {
+        for choice in [0, 1, 255] {
+            calls::cut(before, &mut device, tape, c, &vec![choice; lines]).unwrap();
+            let found = Store::open(&device).expect("no cut is refused");
+            assert!(holds(&found, old) || holds(&found, new));
+            recovered += usize::from(!found.tape().is_empty());
+            assert!(played(&device, found.tape()) == found.image());
+        }
+        c += 1;
+    }
+    assert!(c > 1);
+    recovered
+}
+
+#[test]
+fn store_is_the_map_through_power_failures() {
+    println!("seed {SEED}");
+    let mut random = Random::new(SEED);
+    let mut store = Store::fresh(16).unwrap();
+    let mut map = Map::new();
+    let (mut accepted, mut recovered) = (0, 0);
+    while accepted < 60 {
+        let (before, old) = (store.image().to_vec(), map.clone());
+        let count = random.between(1, 6);
+        let edits: Vec<Edit> = (0..count)
+            .map(|_| any_edit(&mut random, &mut map))
+            .collect();
+        match store.apply(&edits) {
+            Ok(commit) => {
+                assert_eq!(commit.bytes, store.tape().len());
+                assert!(played(&before, store.tape()) == store.image());
+                recovered += every_cut(&before, store.tape(), &old, &map);
+                accepted += 1;
+            }
+            Err(refusal) => panic!("{refusal}"),
+        }
+        assert!(holds(&store, &map));
+    }
+    println!("{accepted} transactions, {recovered} recoveries");
+    assert!(recovered > 100);
+}
+
+#[test]
+fn a_refused_list_changes_nothing() {
+    let mut store = Store::fresh(8).unwrap();
+    let good = Edit::Insert {
+        key: 1,
+        value: b"99.50",
+    };
+    store.apply(&[good]).unwrap();
+    let image = store.image().to_vec();
+    let long = [0; 1000];
+    let other = Edit::Insert { key: 2, value: b"" };
+    let lists: [(&[Edit], Refusal); 8] = [
+        (&[], Refusal::BadList { edit: 0 }),
+        (&[other; 17], Refusal::BadList { edit: 16 }),
+        (&[other, good], Refusal::KeyPresent { edit: 1 }),
+        (&[other, other], Refusal::KeyPresent { edit: 1 }),
+        (&[Edit::Delete { key: 2 }], Refusal::KeyMissing { edit: 0 }),
+        (
+            &[Edit::Update { key: 2, value: b"" }],
+            Refusal::KeyMissing { edit: 0 },
+        ),
+        (
+            &[other, Edit::Delete { key: LAST_KEY + 1 }],
+            Refusal::KeyRange { edit: 1 },
+        ),
+        (
+            &[Edit::Insert {
+                key: 2,
+                value: &long,
+            }],
+            Refusal::LongValue { edit: 0 },
+        ),
+    ];
+    for (edits, refusal) in lists {
+        assert_eq!(store.apply(edits), Err(refusal));
+        assert!(store.image() == image && store.tape().is_empty());
+    }
+    // The lengths that a byte can't hold, and those about the limit.
+    for length in [201, 255, 256, 257, 456, 1000] {
+        let value = &long[..length];
+        let refused = store.apply(&[Edit::Insert { key: 2, value }, good]);
+        assert_eq!(refused, Err(Refusal::LongValue { edit: 0 }), "{length}");
+    }
+}
+
+#[test]
+fn wrong_images_are_refused() {
+    for length in [0, 1, 1023, 7 * 1024, 8191, 8193, 65 * 1024, 1 << 20] {
+        let refusal = Store::open(&vec![0; length]).unwrap_err();
+        assert_eq!(refusal, Refusal::ImageSize, "{length}");
+    }
+    assert_eq!(Store::open(&[0; 8192]).unwrap_err(), Refusal::Unsound);
+    for pages in [0, 7, 65, usize::MAX] {
+        assert_eq!(Store::fresh(pages).unwrap_err(), Refusal::ImageSize);
+    }
+    // A mark that waits over a log that is none.
+    let mut image = Store::fresh(8).unwrap().into_image();
+    image[..3].copy_from_slice(&[1, 1, 1]);
+    assert_eq!(Store::open(&image).unwrap_err(), Refusal::Unsound);
+}
+
+/// Each number has words of its own, and leads back to its refusal.
+#[test]
+fn every_refusal_says_why() {
+    let mut words = std::collections::BTreeSet::new();
+    for number in 1..=16 {
+        let refusal = Refusal::of(number, 3).unwrap();
+        let names_edit = (5..=11).contains(&number);
+        assert_eq!(refusal.number(), number);
+        assert_eq!(refusal.edit(), if names_edit { 3 } else { 0 });
+        assert_eq!(refusal.to_string().starts_with("edit 3: "), names_edit);
+        assert!(words.insert(refusal.to_string()));
+    }
+    assert_eq!((Refusal::of(0, 0), Refusal::of(17, 0)), (None, None));
+}

@@ -1,0 +1,350 @@
+/* Each call, on good and on bad input. */
+#include "support.h"
+
+static void format_refuses_other_lengths(void)
+{
+    static const size_t wrong[] = {0, 1, 1023, 1024, 7168, 8191, 8193, 65535, 65537, 66560};
+    for (size_t i = 0; i < sizeof wrong / sizeof *wrong; i += 1) {
+        struct bytes image = lend_filled(wrong[i], 77);
+        EXPECT(quote_format(image.at, image.length) == QUOTE_IMAGE_SIZE_WRONG);
+        EXPECT(all_are(image, 77));
+        EXPECT(quote_check(image.at, image.length) == QUOTE_IMAGE_SIZE_WRONG);
+        give_back(image);
+    }
+}
+
+static void format_makes_a_store(void)
+{
+    for (size_t pages = QUOTE_LEAST_PAGES; pages <= QUOTE_MOST_PAGES; pages += 1) {
+        struct bytes image = fresh(pages);
+        EXPECT(quote_check(image.at, image.length) == QUOTE_ACCEPTED);
+        EXPECT(image.at[16] == pages);
+        give_back(image);
+    }
+}
+
+/* What check says of a fresh store with one byte changed. */
+static uint8_t checked_with(size_t at, uint8_t byte)
+{
+    struct bytes image = fresh(8);
+    image.at[at] = byte;
+    uint8_t number = quote_check(image.at, image.length);
+    give_back(image);
+    return number;
+}
+
+static void check_finds_what_is_wrong(void)
+{
+    EXPECT(checked_with(40, 1) == QUOTE_UNSOUND);   /* zeros of page 0 */
+    EXPECT(checked_with(0, 1) == QUOTE_UNSOUND);    /* a mark of no headers */
+    EXPECT(checked_with(8, 8) == QUOTE_UNSOUND);    /* a root outside */
+    EXPECT(checked_with(2048, 1) == QUOTE_UNSOUND); /* a record that is not there */
+    EXPECT(checked_with(64, 1) == QUOTE_ACCEPTED);  /* the log may hold anything */
+    struct bytes image = fresh(8);
+    memcpy(image.at, "\1\1\1", 3);
+    EXPECT(quote_check(image.at, image.length) == QUOTE_MARK_WAITS);
+    give_back(image);
+}
+
+/* A store with quotes 101 and 105, of 8 bytes and of none. */
+static struct bytes two_quotes(void)
+{
+    struct bytes image = fresh(8);
+    EXPECT(apply_one(&image, one_edit(QUOTE_INSERT, 101, 8, 'p')) == QUOTE_ACCEPTED);
+    EXPECT(apply_one(&image, one_edit(QUOTE_INSERT, 105, 0, 0)) == QUOTE_ACCEPTED);
+    return image;
+}
+
+static void lookup_finds(void)
+{
+    struct bytes image = two_quotes();
+    uint64_t answer[4] = {7, 7, 7, 7};
+    EXPECT(quote_lookup(image.at, image.length, 101, answer, 4) == QUOTE_ACCEPTED);
+    EXPECT(answer[0] == 1 && answer[2] == 8 && answer[3] == 7);
+    EXPECT(memcmp(image.at + answer[1], "pppppppp", 8) == 0);
+    EXPECT(quote_lookup(image.at, image.length, 105, answer, 3) == QUOTE_ACCEPTED);
+    EXPECT(answer[0] == 1 && answer[1] <= image.length && answer[2] == 0);
+    EXPECT(quote_lookup(image.at, image.length, 102, answer, 3) == QUOTE_ACCEPTED);
+    EXPECT(answer[0] == 0 && answer[1] == 0 && answer[2] == 0);
+    give_back(image);
+}
+
+/* A refusal, and an array without room, leave the numbers as they were. */
+static void lookup_refuses(void)
+{
+    struct bytes image = two_quotes();
+    uint64_t answer[3] = {7, 7, 7};
+    EXPECT(quote_lookup(image.at, image.length, 0, answer, 3) == QUOTE_KEY_RANGE);
+    EXPECT(quote_lookup(image.at, image.length, QUOTE_LAST_KEY + 1, answer, 3) == QUOTE_KEY_RANGE);
+    EXPECT(quote_lookup(image.at, image.length - 1, 0, answer, 3) == QUOTE_IMAGE_SIZE_WRONG);
+    EXPECT(quote_lookup(image.at, image.length, 101, answer, 2) == QUOTE_ACCEPTED);
+    EXPECT(quote_next_key(image.at, image.length, 0, answer, 1) == QUOTE_ACCEPTED);
+    image.at[40] = 1;
+    EXPECT(quote_lookup(image.at, image.length, 0, answer, 3) == QUOTE_UNSOUND);
+    EXPECT(quote_next_key(image.at, image.length, 0, answer, 3) == QUOTE_UNSOUND);
+    EXPECT(answer[0] == 7 && answer[1] == 7 && answer[2] == 7);
+    give_back(image);
+}
+
+static void next_key_leads_through(void)
+{
+    static const uint64_t wanted[][3] = {
+        {0, 1, 101}, {100, 1, 101}, {101, 1, 105}, {105, 0, 0}, {UINT64_MAX, 0, 0}};
+    struct bytes image = two_quotes();
+    for (size_t i = 0; i < sizeof wanted / sizeof *wanted; i += 1) {
+        uint64_t answer[2] = {7, 7};
+        EXPECT(quote_next_key(image.at, image.length, wanted[i][0], answer, 2) == QUOTE_ACCEPTED);
+        EXPECT(answer[0] == wanted[i][1] && answer[1] == wanted[i][2]);
+    }
+    give_back(image);
+}
+
+/* Document 01's first worked row, with a tape of this length. */
+static uint8_t worked_row(struct bytes work, struct bytes tape, uint64_t *answer, size_t numbers)
+{
+    struct bytes image = fresh(8);
+    struct bytes list = one_edit(QUOTE_INSERT, 101, 8, 'p');
+    uint8_t number = quote_transaction(image.at, image.length, work.at, work.length, tape.at,
+                                       tape.length, list.at, list.length, answer, numbers);
+    if (number == QUOTE_TAPE_SHORT)
+        EXPECT(same(work, image));
+    give_back(image);
+    give_back(list);
+    return number;
+}
+
+static void transaction_answers(void)
+{
+    uint64_t answer[5] = {7, 7, 7, 7, 7};
+    struct bytes work = lend(8192), tape = lend(112), other = lend_filled(111, 77);
+    EXPECT(worked_row(work, tape, answer, 5) == QUOTE_ACCEPTED);
+    EXPECT(answer[0] == 0 && answer[1] == QUOTE_PLACE_HEADER && answer[2] == 2);
+    EXPECT(answer[3] == 112 && answer[4] == 2);
+    EXPECT(tape.at[0] == QUOTE_WORD_STORE && tape.at[36] == QUOTE_FLUSH);
+    EXPECT(tape.at[40] == QUOTE_LINE_STORE && tape.at[108] == QUOTE_FLUSH);
+    EXPECT(quote_check(work.at, work.length) == QUOTE_ACCEPTED);
+    EXPECT(worked_row(work, other, answer, 5) == QUOTE_TAPE_SHORT);
+    EXPECT(answer[0] == 0 && answer[1] == 0 && answer[3] == 0 && all_are(other, 77));
+    answer[0] = 7;
+    EXPECT(worked_row(work, tape, answer, 4) == QUOTE_ACCEPTED);
+    EXPECT(answer[0] == 7 && answer[1] == 0);
+    work.length -= 1;
+    EXPECT(worked_row(work, tape, answer, 5) == QUOTE_WORK_SIZE_WRONG);
+    give_back(work);
+    give_back(tape);
+    give_back(other);
+}
+
+struct head {
+    uint8_t kind, length;
+    uint64_t key;
+};
+
+/* A list of these edits, each with a value of as many zeros as it says, without
+ * so many bytes at its end; and the refusal that it gets. */
+struct faulty {
+    uint8_t number;
+    uint64_t edit;
+    size_t cut, edits;
+    struct head heads[2];
+};
+
+static void list_is_refused(const struct faulty *faulty, struct bytes image)
+{
+    uint8_t room[2 * 265] = {0};
+    size_t length = 0;
+    for (size_t i = 0; i < faulty->edits; i += 1) {
+        struct head head = faulty->heads[i];
+        put_head(room + length, head.kind, head.length, head.key);
+        length += QUOTE_EDIT_HEAD + (size_t)head.length;
+    }
+    struct bytes list = lend_copy(room, length - faulty->cut);
+    struct bytes before = lend_copy(image.at, image.length);
+    uint64_t edit = 77;
+    EXPECT(apply(&image, list, &edit) == faulty->number);
+    EXPECT(edit == faulty->edit);
+    EXPECT(same(image, before));
+    give_back(list);
+    give_back(before);
+}
+
+static void lists_are_refused(void)
+{
+    static const struct faulty all[] = {
+        {QUOTE_BAD_LIST, 0, 0, 0, {{0, 0, 0}, {0, 0, 0}}},
+        {QUOTE_BAD_LIST, 0, 1, 1, {{QUOTE_INSERT, 0, 1}, {0, 0, 0}}},
+        {QUOTE_BAD_LIST, 1, 9, 2, {{QUOTE_INSERT, 0, 1}, {QUOTE_INSERT, 0, 2}}},
+        {QUOTE_BAD_LIST, 0, 0, 1, {{4, 0, 1}, {0, 0, 0}}},
+        {QUOTE_BAD_LIST, 0, 0, 1, {{0, 0, 1}, {0, 0, 0}}},
+        {QUOTE_BAD_LIST, 0, 0, 1, {{QUOTE_DELETE, 1, 101}, {0, 0, 0}}},
+        {QUOTE_BAD_LIST, 0, 1, 1, {{QUOTE_INSERT, 8, 1}, {0, 0, 0}}},
+        {QUOTE_LONG_VALUE, 0, 201, 1, {{QUOTE_INSERT, 201, 1}, {0, 0, 0}}},
+        {QUOTE_LONG_VALUE, 1, 0, 2, {{QUOTE_INSERT, 0, 1}, {QUOTE_UPDATE, 255, 2}}},
+        {QUOTE_KEY_RANGE, 0, 0, 1, {{QUOTE_INSERT, 0, 0}, {0, 0, 0}}},
+        {QUOTE_KEY_RANGE, 1, 0, 2, {{QUOTE_INSERT, 0, 1}, {QUOTE_DELETE, 0, QUOTE_LAST_KEY + 1}}},
+        {QUOTE_KEY_PRESENT, 0, 0, 1, {{QUOTE_INSERT, 0, 101}, {0, 0, 0}}},
+        {QUOTE_KEY_PRESENT, 1, 0, 2, {{QUOTE_INSERT, 0, 1}, {QUOTE_INSERT, 0, 1}}},
+        {QUOTE_KEY_MISSING, 0, 0, 1, {{QUOTE_UPDATE, 0, 1}, {0, 0, 0}}},
+        {QUOTE_KEY_MISSING, 1, 0, 2, {{QUOTE_DELETE, 0, 101}, {QUOTE_DELETE, 0, 101}}},
+    };
+    struct bytes image = two_quotes();
+    for (size_t i = 0; i < sizeof all / sizeof *all; i += 1)
+        list_is_refused(&all[i], image);
+    give_back(image);
+}
+
+/* Sixteen edits are accepted; any byte more is a seventeenth. */
+static void seventeenth_edit_is_refused(void)
+{
+    uint8_t room[17 * QUOTE_EDIT_HEAD];
+    for (uint64_t i = 0; i < 17; i += 1)
+        put_head(room + QUOTE_EDIT_HEAD * i, QUOTE_INSERT, 0, 1 + i);
+    struct bytes image = fresh(8);
+    for (size_t length = sizeof room; length >= 16 * QUOTE_EDIT_HEAD; length -= 1) {
+        struct bytes list = lend_copy(room, length);
+        uint64_t edit;
+        int good = length == 16 * QUOTE_EDIT_HEAD;
+        EXPECT(apply(&image, list, &edit) == (good ? QUOTE_ACCEPTED : QUOTE_BAD_LIST));
+        EXPECT(edit == (good ? 0 : 16));
+        give_back(list);
+    }
+    give_back(image);
+}
+
+/* Inserts rising keys, 10 apart, until one is refused; says with what. */
+static uint8_t fill(struct bytes *image, uint8_t length)
+{
+    uint64_t key = 10;
+    uint8_t number;
+    while ((number = apply_one(image, one_edit(QUOTE_INSERT, key, length, 'v'))) == QUOTE_ACCEPTED)
+        key += 10;
+    return number;
+}
+
+static void full_stores_refuse(void)
+{
+    struct bytes small = fresh(8), large = fresh(64);
+    EXPECT(fill(&small, 200) == QUOTE_PAGES_OUT);
+    EXPECT(fill(&large, 200) == QUOTE_INDEX_FULL);
+    EXPECT(quote_check(large.at, large.length) == QUOTE_ACCEPTED);
+    /* Of 28 leaves the last has the most, the others 3: one quote of each of
+     * the first 16. */
+    uint8_t room[16 * 11];
+    for (uint64_t i = 0; i < 16; i += 1) {
+        put_head(room + 11 * i, QUOTE_UPDATE, 1, 10 + 30 * i);
+        room[11 * i + 10] = 'u';
+    }
+    struct bytes list = lend_copy(room, sizeof room), shorter = lend_copy(room, sizeof room - 11);
+    uint64_t edit;
+    EXPECT(apply(&large, list, &edit) == QUOTE_LOG_FULL && edit == 0);
+    EXPECT(apply(&large, shorter, &edit) == QUOTE_ACCEPTED);
+    give_back(small);
+    give_back(large);
+    give_back(list);
+    give_back(shorter);
+}
+
+static uint8_t recover(struct bytes image, struct bytes work, struct bytes tape, uint64_t *answer)
+{
+    return quote_recover(image.at, image.length, work.at, work.length, tape.at, tape.length,
+                         answer, QUOTE_RECOVER_NUMBERS);
+}
+
+static void recovery_finishes_a_commit(void)
+{
+    uint64_t answer[2] = {7, 7};
+    struct bytes image = fresh(8), work = lend_filled(8192, 77);
+    struct bytes tape = lend(88), short_tape = lend_filled(87, 77), none = lend(0);
+    EXPECT(recover(image, work, none, answer) == QUOTE_ACCEPTED);
+    EXPECT(answer[0] == 0 && answer[1] == 0 && same(work, image));
+    memcpy(image.at, "\1\1\1", 3);              /* a mark: one header, root 1 */
+    memcpy(image.at + 64, image.at + 1024, 64); /* that header */
+    EXPECT(recover(image, work, tape, answer) == QUOTE_ACCEPTED);
+    EXPECT(answer[0] == 88 && answer[1] == 2);
+    EXPECT(quote_check(work.at, work.length) == QUOTE_ACCEPTED);
+    EXPECT(recover(image, work, short_tape, answer) == QUOTE_TAPE_SHORT);
+    EXPECT(same(work, image) && all_are(short_tape, 77));
+    memset(work.at, 77, work.length);
+    image.at[64 + 6] = 0; /* the header of page 0 */
+    EXPECT(recover(image, work, tape, answer) == QUOTE_UNSOUND && all_are(work, 77));
+    work.length -= 1;
+    EXPECT(recover(image, work, tape, answer) == QUOTE_WORK_SIZE_WRONG);
+    image.length -= 1;
+    EXPECT(recover(image, work, tape, answer) == QUOTE_IMAGE_SIZE_WRONG);
+    EXPECT(answer[0] == 88 && all_are(work, 77));
+    give_back(image);
+    give_back(work);
+    give_back(tape);
+    give_back(short_tape);
+    give_back(none);
+}
+
+static uint8_t run(struct bytes image, struct bytes work, const char *tape, size_t length)
+{
+    struct bytes lent = lend_copy((const uint8_t *)tape, length);
+    uint8_t number = quote_run(image.at, image.length, work.at, work.length, lent.at, length);
+    give_back(lent);
+    return number;
+}
+
+static void run_carries_out(void)
+{
+    struct bytes image = lend_filled(8192, 1), work = lend_filled(8192, 77);
+    EXPECT(run(image, work, "\4\0\0\0", 4) == QUOTE_BAD_TAPE);    /* unknown kind */
+    EXPECT(run(image, work, "\3\1\0\0", 4) == QUOTE_BAD_TAPE);    /* second byte */
+    EXPECT(run(image, work, "\3\0\200\0", 4) == QUOTE_BAD_TAPE);  /* line 128 */
+    EXPECT(run(image, work, "\3\0\0", 3) == QUOTE_BAD_TAPE);      /* head short */
+    EXPECT(run(image, work, "\1\0\0\0abcdefg", 11) == QUOTE_BAD_TAPE); /* word short */
+    EXPECT(all_are(work, 77));
+    EXPECT(run(image, work, "", 0) == QUOTE_ACCEPTED && same(work, image));
+    EXPECT(run(image, work, "\1\0\377\3abcdefgh\3\0\177\0", 16) == QUOTE_ACCEPTED);
+    EXPECT(memcmp(work.at + 8184, "abcdefgh", 8) == 0);
+    image.length -= 1;
+    EXPECT(run(image, work, "", 0) == QUOTE_IMAGE_SIZE_WRONG);
+    image.length -= 1023;
+    EXPECT(run(work, image, "", 0) == QUOTE_WORK_SIZE_WRONG);
+    give_back(image);
+    give_back(work);
+}
+
+static void cut_keeps_what_was_flushed(void)
+{
+    /* Two stores of word 0, the first flushed. */
+    static const char text[] = "\1\0\0\0aaaaaaaa\3\0\0\0\1\0\0\0bbbbbbbb";
+    struct bytes image = lend_filled(8192, 1), work = lend(8192);
+    struct bytes tape = lend_copy((const uint8_t *)text, 28), choices = lend_filled(128, 0);
+#define CUT(c) quote_cut(image.at, 8192, work.at, 8192, tape.at, tape.length, c, choices.at, choices.length)
+    EXPECT(CUT(1) == QUOTE_ACCEPTED && same(work, image));
+    EXPECT(CUT(3) == QUOTE_ACCEPTED && memcmp(work.at, "aaaaaaaa\1", 9) == 0);
+    choices.at[0] = 1;
+    EXPECT(CUT(3) == QUOTE_ACCEPTED && memcmp(work.at, "bbbbbbbb\1", 9) == 0);
+    EXPECT(CUT(4) == QUOTE_PAST_END && CUT(SIZE_MAX) == QUOTE_PAST_END);
+    tape.length -= 1;
+    EXPECT(CUT(0) == QUOTE_BAD_TAPE);
+    choices.length -= 1;
+    EXPECT(CUT(0) == QUOTE_BAD_CHOICES && memcmp(work.at, "bbbbbbbb\1", 9) == 0);
+#undef CUT
+    give_back(image);
+    give_back(work);
+    give_back(tape);
+    give_back(choices);
+}
+
+int main(void)
+{
+    format_refuses_other_lengths();
+    format_makes_a_store();
+    check_finds_what_is_wrong();
+    lookup_finds();
+    lookup_refuses();
+    next_key_leads_through();
+    transaction_answers();
+    lists_are_refused();
+    seventeenth_edit_is_refused();
+    full_stores_refuse();
+    recovery_finishes_a_commit();
+    run_carries_out();
+    cut_keeps_what_was_flushed();
+    puts("calls: every call answers as its header says");
+    return 0;
+}

@@ -1,0 +1,142 @@
+/* Calls at random, seeded: every answer is one that the call's header lists,
+ * and no byte is touched that was not lent, which valgrind looks at. */
+#include "support.h"
+
+#define ROUNDS 5000
+#define SEED 20240613
+
+static uint64_t state = SEED;
+
+/* A number from 0 to n - 1, by splitmix64. */
+static size_t below(size_t n)
+{
+    uint64_t z = state += UINT64_C(0x9e3779b97f4a7c15);
+    z = (z ^ z >> 30) * UINT64_C(0xbf58476d1ce4e5b9);
+    z = (z ^ z >> 27) * UINT64_C(0x94d049bb133111eb);
+    return (size_t)((z ^ z >> 31) % n);
+}
+
+static struct bytes noise(size_t length)
+{
+    struct bytes bytes = lend(length);
+    for (size_t i = 0; i < length; i += 1)
+        bytes.at[i] = (uint8_t)below(below(2) == 0 ? 4 : 256);
+    return bytes;
+}
+
+/* Some lists are good: inserts of one key, or of several. */
+static struct bytes any_list(void)
+{
+    size_t edits = below(19);
+    struct bytes list = noise(below(4) == 0 ? below(700) : edits * 18);
+    if (list.length == edits * 18)
+        for (size_t i = 0; i < edits; i += 1)
+            put_head(list.at + 18 * i, (uint8_t)(1 + (below(12) == 0)), below(99) == 0 ? 201 : 8,
+                     1 + below(500));
+    return list;
+}
+
+/* The store that the rounds go on with, or a part of it, or it with some bits
+ * turned, or noise. */
+static struct bytes any_image(struct bytes store)
+{
+    if (below(10) == 0)
+        return noise(below(2) == 0 ? below(9000) : 1024 * below(12));
+    struct bytes image = lend_copy(store.at, store.length - (below(12) == 0 ? below(2000) : 0));
+    for (size_t i = below(6); i < 2; i += 1)
+        image.at[1024 * below(image.length / 1024) + below(80)] ^= (uint8_t)(1 << below(8));
+    if (below(8) == 0)
+        memcpy(image.at, "\1\2\1\0\0\0\0", 8);
+    return image;
+}
+
+/* What each call may answer, a bit for each number. */
+#define BIT(number) (1u << (number))
+#define FORMAT_SAYS (BIT(QUOTE_ACCEPTED) | BIT(QUOTE_IMAGE_SIZE_WRONG))
+#define CHECK_SAYS (FORMAT_SAYS | BIT(QUOTE_MARK_WAITS) | BIT(QUOTE_UNSOUND))
+#define LOOKUP_SAYS (CHECK_SAYS | BIT(QUOTE_KEY_RANGE))
+#define TRANSACTION_SAYS (BIT(QUOTE_TAPE_SHORT + 1) - 1)
+#define SIZES_SAY (FORMAT_SAYS | BIT(QUOTE_WORK_SIZE_WRONG))
+#define RECOVER_SAYS (SIZES_SAY | BIT(QUOTE_UNSOUND) | BIT(QUOTE_TAPE_SHORT))
+#define RUN_SAYS (SIZES_SAY | BIT(QUOTE_BAD_TAPE))
+#define CUT_SAYS (RUN_SAYS | BIT(QUOTE_PAST_END) | BIT(QUOTE_BAD_CHOICES))
+
+/* The answers that came, of all calls together. */
+static unsigned came = 0;
+
+static void expect_known(uint8_t number, unsigned known)
+{
+    EXPECT(number <= QUOTE_BAD_CHOICES && (known & BIT(number)) != 0);
+    came |= BIT(number);
+}
+
+static void transaction_and_recovery(struct bytes image, struct bytes *store)
+{
+    struct bytes list = any_list(), work = lend(below(12) == 0 ? below(9000) : image.length);
+    struct bytes tape = lend(below(3) == 0 ? below(400) : 16384);
+    size_t numbers = below(8);
+    uint64_t *answer = (uint64_t *)malloc(8 * numbers);
+    uint8_t number = quote_transaction(image.at, image.length, work.at, work.length, tape.at,
+                                       tape.length, list.at, list.length, answer, numbers);
+    expect_known(number, TRANSACTION_SAYS);
+    if (number == QUOTE_ACCEPTED) {
+        EXPECT(quote_check(work.at, work.length) == QUOTE_ACCEPTED);
+        give_back(*store);
+        *store = lend_copy(work.at, work.length);
+    }
+    number = quote_recover(image.at, image.length, work.at, work.length, tape.at, tape.length,
+                           answer, numbers);
+    expect_known(number, RECOVER_SAYS);
+    free(answer);
+    give_back(list);
+    give_back(work);
+    give_back(tape);
+}
+
+static void device(struct bytes image)
+{
+    struct bytes work = lend(below(12) == 0 ? below(9000) : image.length);
+    struct bytes tape = noise(below(3) == 0 ? below(100) : 4 * below(3));
+    struct bytes choices = noise(below(6) == 0 ? below(200) : image.length / 64);
+    expect_known(quote_run(image.at, image.length, work.at, work.length, tape.at, tape.length),
+                 RUN_SAYS);
+    expect_known(quote_cut(image.at, image.length, work.at, work.length, tape.at, tape.length,
+                           below(4), choices.at, choices.length),
+                 CUT_SAYS);
+    give_back(work);
+    give_back(tape);
+    give_back(choices);
+}
+
+static void reading(struct bytes image)
+{
+    size_t numbers = below(5);
+    uint64_t *answer = (uint64_t *)malloc(8 * numbers);
+    uint64_t key = below(8) == 0 ? UINT64_MAX - below(3) : below(600);
+    expect_known(quote_check(image.at, image.length), CHECK_SAYS);
+    expect_known(quote_lookup(image.at, image.length, key, answer, numbers), LOOKUP_SAYS);
+    expect_known(quote_next_key(image.at, image.length, key, answer, numbers), CHECK_SAYS);
+    expect_known(quote_format(image.at, image.length), FORMAT_SAYS);
+    free(answer);
+}
+
+int main(void)
+{
+    struct bytes store = fresh(12);
+    for (int i = 0; i < ROUNDS; i += 1) {
+        struct bytes image = any_image(store);
+        transaction_and_recovery(image, &store);
+        device(image);
+        reading(image);
+        give_back(image);
+    }
+    give_back(store);
+    printf("fuzz: %d rounds, seed %d; answers that came:", ROUNDS, SEED);
+    for (int number = 0; number <= QUOTE_BAD_CHOICES; number += 1)
+        if (came & BIT(number))
+            printf(" %d", number);
+    puts("");
+    /* Stores of 12 pages have neither 28 leaves nor 16 headers to change. */
+    EXPECT((came | BIT(QUOTE_INDEX_FULL) | BIT(QUOTE_LOG_FULL)) == BIT(QUOTE_BAD_CHOICES + 1) - 1);
+    return 0;
+}

@@ -1,0 +1,121 @@
+/* What the tests in C share: buffers on the heap of exactly the lengths that
+ * are lent, so that valgrind sees every byte read or written outside them. */
+#ifndef SUPPORT_H
+#define SUPPORT_H
+
+#include "quote_store.h"
+
+#include <stdio.h>
+#include <stdlib.h>
+#include <string.h>
+
+#define EXPECT(what)                                                        \
+    do {                                                                    \
+        if (!(what)) {                                                      \
+            fprintf(stderr, "%s:%d: not so: %s\n", __FILE__, __LINE__, #what); \
+            exit(1);                                                        \
+        }                                                                   \
+    } while (0)
+
+/* Bytes on the heap; none too has an address of its own. */
+struct bytes {
+    uint8_t *at;
+    size_t length;
+};
+
+static inline struct bytes lend(size_t length)
+{
+    struct bytes bytes = {(uint8_t *)malloc(length), length};
+    EXPECT(bytes.at != NULL);
+    return bytes;
+}
+
+static inline struct bytes lend_filled(size_t length, int byte)
+{
+    struct bytes bytes = lend(length);
+    memset(bytes.at, byte, length);
+    return bytes;
+}
+
+static inline struct bytes lend_copy(const uint8_t *from, size_t length)
+{
+    struct bytes bytes = lend(length);
+    memcpy(bytes.at, from, length);
+    return bytes;
+}
+
+static inline void give_back(struct bytes bytes)
+{
+    free(bytes.at);
+}
+
+static inline int same(struct bytes one, struct bytes other)
+{
+    return one.length == other.length && memcmp(one.at, other.at, one.length) == 0;
+}
+
+static inline int all_are(struct bytes bytes, uint8_t byte)
+{
+    size_t i = 0;
+    while (i < bytes.length && bytes.at[i] == byte)
+        i += 1;
+    return i == bytes.length;
+}
+
+/* A fresh store on so many pages. */
+static inline struct bytes fresh(size_t pages)
+{
+    struct bytes image = lend(QUOTE_IMAGE_SIZE(pages));
+    EXPECT(quote_format(image.at, image.length) == QUOTE_ACCEPTED);
+    return image;
+}
+
+/* Writes an edit's head; the value's bytes follow it. */
+static inline void put_head(uint8_t *at, uint8_t kind, uint8_t length, uint64_t key)
+{
+    at[0] = kind;
+    at[1] = length;
+    for (int i = 0; i < 8; i += 1)
+        at[2 + i] = (uint8_t)(key >> 8 * i);
+}
+
+/* One edit, whose value has this byte throughout. */
+static inline struct bytes one_edit(uint8_t kind, uint64_t key, uint8_t length, int byte)
+{
+    struct bytes list = lend_filled(QUOTE_EDIT_HEAD + (size_t)length, byte);
+    put_head(list.at, kind, length, key);
+    return list;
+}
+
+/* The transaction of a list on an image, with buffers that suffice. Nothing
+ * but the answer is kept; accepted, the image becomes the new one. */
+static inline uint8_t apply(struct bytes *image, struct bytes list, uint64_t *edit)
+{
+    uint64_t answer[QUOTE_TRANSACTION_NUMBERS];
+    struct bytes work = lend(image->length);
+    struct bytes tape = lend(QUOTE_TAPE_SIZE(image->length / QUOTE_PAGE_SIZE));
+    uint8_t number = quote_transaction(image->at, image->length, work.at, work.length, tape.at,
+                                       tape.length, list.at, list.length, answer,
+                                       QUOTE_TRANSACTION_NUMBERS);
+    *edit = answer[0];
+    if (number == QUOTE_ACCEPTED) {
+        struct bytes old = *image;
+        *image = work;
+        work = old;
+    }
+    give_back(work);
+    give_back(tape);
+    return number;
+}
+
+/* The same of one edit, which is given back. */
+static inline uint8_t apply_one(struct bytes *image, struct bytes list)
+{
+    uint64_t edit;
+    uint8_t number = apply(image, list, &edit);
+    EXPECT(edit == 0);
+    give_back(list);
+    return number;
+}
+
+#endif

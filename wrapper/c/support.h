@@ -87,13 +87,14 @@ static inline struct bytes one_edit(uint8_t kind, uint64_t key, uint8_t length, 
     return list;
 }
 
-/* The transaction of a list on an image, with buffers that suffice. Nothing
- * but the answer is kept; accepted, the image becomes the new one. */
+/* The transaction of a list on an image, with buffers that suffice. Accepted,
+ * the image becomes the new one; refused, work and tape are as the header
+ * says. Gives the edit that is at fault too. */
 static inline uint8_t apply(struct bytes *image, struct bytes list, uint64_t *edit)
 {
     uint64_t answer[QUOTE_TRANSACTION_NUMBERS];
-    struct bytes work = lend(image->length);
-    struct bytes tape = lend(QUOTE_TAPE_SIZE(image->length / QUOTE_PAGE_SIZE));
+    struct bytes work = lend_filled(image->length, 77);
+    struct bytes tape = lend_filled(QUOTE_TAPE_SIZE(image->length / QUOTE_PAGE_SIZE), 77);
     uint8_t number = quote_transaction(image->at, image->length, work.at, work.length, tape.at,
                                        tape.length, list.at, list.length, answer,
                                        QUOTE_TRANSACTION_NUMBERS);
@@ -102,6 +103,9 @@ static inline uint8_t apply(struct bytes *image, struct bytes list, uint64_t *ed
         struct bytes old = *image;
         *image = work;
         work = old;
+    } else {
+        EXPECT(all_are(tape, 77));
+        EXPECT(number < QUOTE_KEY_PRESENT ? all_are(work, 77) : same(work, *image));
     }
     give_back(work);
     give_back(tape);

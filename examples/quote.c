@@ -61,28 +61,37 @@ static void print_quote(uint64_t key)
         printf("%d: %.*s\n", (int)key, (int)answer[2], (const char *)image + answer[1]);
 }
 
-int main(void)
+/* One edit of this kind for each maturity, in one transaction. */
+static void commit_curve(uint8_t kind, const char *const *prices)
 {
     static const uint64_t keys[MATURITIES] = {2, 5, 10};
+    uint8_t edits[QUOTE_LONGEST_LIST], *end = edits;
+    for (int i = 0; i < MATURITIES; i += 1)
+        end = put_edit(end, kind, keys[i], prices[i]);
+    commit(edits, (size_t)(end - edits));
+}
+
+static void print_all(void)
+{
+    uint64_t next[QUOTE_NEXT_KEY_NUMBERS] = {1, 0};
+    for (;;) {
+        stop_if_refused("next key", quote_next_key(image, sizeof image, next[1], next,
+                                                   QUOTE_NEXT_KEY_NUMBERS));
+        if (next[0] == 0)
+            return;
+        print_quote(next[1]);
+    }
+}
+
+int main(void)
+{
     static const char *const old[MATURITIES] = {"101.25", "99.50", "97.75"};
     static const char *const shifted[MATURITIES] = {"101.20", "99.375", "97.50"};
-    uint8_t edits[QUOTE_LONGEST_LIST], *end = edits;
-
     stop_if_refused("format", quote_format(image, sizeof image));
-    for (int i = 0; i < MATURITIES; i += 1)
-        end = put_edit(end, QUOTE_INSERT, keys[i], old[i]);
-    commit(edits, (size_t)(end - edits));
+    commit_curve(QUOTE_INSERT, old);
     print_quote(5);
-
-    end = edits;
-    for (int i = 0; i < MATURITIES; i += 1)
-        end = put_edit(end, QUOTE_UPDATE, keys[i], shifted[i]);
-    commit(edits, (size_t)(end - edits));
-
-    uint64_t next[QUOTE_NEXT_KEY_NUMBERS] = {1, 0};
-    while (quote_next_key(image, sizeof image, next[1], next, QUOTE_NEXT_KEY_NUMBERS) == QUOTE_ACCEPTED &&
-           next[0] == 1)
-        print_quote(next[1]);
+    commit_curve(QUOTE_UPDATE, shifted);
+    print_all();
     print_quote(30);
     return 0;
 }

@@ -120,6 +120,17 @@ static void reading(struct bytes image)
     free(answer);
 }
 
+static void every_answer_came(void)
+{
+    printf("fuzz: %d rounds, seed %d; answers that came:", ROUNDS, SEED);
+    for (int number = 0; number <= QUOTE_BAD_CHOICES; number += 1)
+        if (came & BIT(number))
+            printf(" %d", number);
+    puts("");
+    /* Stores of 12 pages have neither 28 leaves nor 16 headers to change. */
+    EXPECT((came | BIT(QUOTE_INDEX_FULL) | BIT(QUOTE_LOG_FULL)) == BIT(QUOTE_BAD_CHOICES + 1) - 1);
+}
+
 int main(void)
 {
     struct bytes store = fresh(12);
@@ -131,12 +142,6 @@ int main(void)
         give_back(image);
     }
     give_back(store);
-    printf("fuzz: %d rounds, seed %d; answers that came:", ROUNDS, SEED);
-    for (int number = 0; number <= QUOTE_BAD_CHOICES; number += 1)
-        if (came & BIT(number))
-            printf(" %d", number);
-    puts("");
-    /* Stores of 12 pages have neither 28 leaves nor 16 headers to change. */
-    EXPECT((came | BIT(QUOTE_INDEX_FULL) | BIT(QUOTE_LOG_FULL)) == BIT(QUOTE_BAD_CHOICES + 1) - 1);
+    every_answer_came();
     return 0;
 }

@@ -41,24 +41,37 @@ fn played(image: &[u8], tape: &[u8]) -> Vec<u8> {
 }
 
 /// The power fails after each of the tape's commands, with each line keeping
-/// none, one or all of its stores: what is opened then holds one of the two
-/// tables. Gives how often a commit had to be finished.
+/// none, one or all of its stores. Gives how often a commit had to be finished.
 fn every_cut(before: &[u8], tape: &[u8], old: &Map, new: &Map) -> usize {
-    let (mut c, mut recovered) = (0, 0);
-    let mut device = vec![0; before.len()];
-    let lines = before.len() / 64;
-    while calls::cut(before, &mut device, tape, c, &vec![255; lines]).is_ok() {
-        for choice in [0, 1, 255] {
-            calls::cut(before, &mut device, tape, c, &vec![choice; lines]).unwrap();
-            let found = Store::open(&device).expect("no cut is refused");
-            assert!(holds(&found, old) || holds(&found, new));
-            recovered += usize::from(!found.tape().is_empty());
-            assert!(played(&device, found.tape()) == found.image());
-        }
-        c += 1;
+    let (mut cut, mut recovered) = (0, 0);
+    while let Some(device) = after_cut(before, tape, cut / 3, [0, 1, 255][cut % 3]) {
+        recovered += usize::from(opens_to_either(&device, old, new));
+        cut += 1;
     }
-    assert!(c > 1);
+    assert!(cut > 3);
     recovered
+}
+
+/// What the device holds after c commands; none if the tape has fewer.
+fn after_cut(before: &[u8], tape: &[u8], c: usize, choice: u8) -> Option<Vec<u8>> {
+    let mut device = vec![0; before.len()];
+    let choices = vec![choice; before.len() / 64];
+    match calls::cut(before, &mut device, tape, c, &choices) {
+        Ok(()) => Some(device),
+        Err(refusal) => {
+            assert_eq!(refusal, Refusal::PastEnd);
+            None
+        }
+    }
+}
+
+/// What is opened holds one of the two tables. Gives whether a commit had to be
+/// finished.
+fn opens_to_either(device: &[u8], old: &Map, new: &Map) -> bool {
+    let found = Store::open(device).expect("no cut is refused");
+    assert!(holds(&found, old) || holds(&found, new));
+    assert!(played(device, found.tape()) == found.image());
+    !found.tape().is_empty()
 }
 
 #[test]
@@ -126,27 +139,42 @@ fn a_refused_list_changes_nothing() {
         assert_eq!(store.apply(edits), Err(refusal));
         assert!(store.image() == image && store.tape().is_empty());
     }
-    // The lengths that a byte can't hold, and those about the limit.
+}
+
+/// The lengths that a byte can't hold, and those about the limit.
+#[test]
+fn long_values_are_refused() {
+    let mut store = Store::fresh(8).unwrap();
+    let long = [0; 1000];
     for length in [201, 255, 256, 257, 456, 1000] {
         let value = &long[..length];
-        let refused = store.apply(&[Edit::Insert { key: 2, value }, good]);
+        let refused = store.apply(&[Edit::Insert { key: 2, value }]);
         assert_eq!(refused, Err(Refusal::LongValue { edit: 0 }), "{length}");
     }
 }
 
 #[test]
-fn wrong_images_are_refused() {
+fn images_of_other_lengths_are_refused() {
     for length in [0, 1, 1023, 7 * 1024, 8191, 8193, 65 * 1024, 1 << 20] {
         let refusal = Store::open(&vec![0; length]).unwrap_err();
         assert_eq!(refusal, Refusal::ImageSize, "{length}");
     }
-    assert_eq!(Store::open(&[0; 8192]).unwrap_err(), Refusal::Unsound);
+}
+
+#[test]
+fn fresh_stores_of_other_lengths_are_refused() {
     for pages in [0, 7, 65, usize::MAX] {
         assert_eq!(Store::fresh(pages).unwrap_err(), Refusal::ImageSize);
     }
+}
+
+#[test]
+fn unsound_images_are_refused() {
+    assert_eq!(Store::open(&[0; 8192]).unwrap_err(), Refusal::Unsound);
     // A mark that waits over a log that is none.
     let mut image = Store::fresh(8).unwrap().into_image();
     image[..3].copy_from_slice(&[1, 1, 1]);
+    assert_eq!(calls::check(&image), Err(Refusal::MarkWaits));
     assert_eq!(Store::open(&image).unwrap_err(), Refusal::Unsound);
 }
 

@@ -8,6 +8,7 @@ use cases::random::Random;
 use cases::{logs, stores};
 
 /// What the calls of one round are lent.
+#[derive(Clone)]
 pub struct Input {
     pub image: Vec<u8>,
     pub work: Vec<u8>,

@@ -7,7 +7,8 @@
  *   Every buffer is lent by the caller for the time of the call, as a pointer
  *   and a length. The store keeps no pointer, allocates nothing, opens nothing
  *   and has no state of its own: threads may call it at once, each with buffers
- *   that no other thread writes meanwhile.
+ *   that no other thread writes meanwhile. A call takes up to 96 KiB of stack
+ *   (quote_recover; the others 32).
  *   What the caller owes, and nothing else:
  *   - a pointer leads to as many bytes (or numbers) as its length says. It is
  *     not NULL, also where the length is 0; it need not be aligned, but for an

@@ -250,10 +250,10 @@ static uint8_t recover(struct bytes image, struct bytes work, struct bytes tape,
                          answer, QUOTE_RECOVER_NUMBERS);
 }
 
-static void recovery_finishes_a_commit(void)
+static void recovery_finishes_a_commit(size_t pages)
 {
     uint64_t answer[2] = {7, 7};
-    struct bytes image = fresh(8), work = lend_filled(8192, 77);
+    struct bytes image = fresh(pages), work = lend_filled(image.length, 77);
     struct bytes tape = lend(88), short_tape = lend_filled(87, 77), none = lend(0);
     EXPECT(recover(image, work, none, answer) == QUOTE_ACCEPTED);
     EXPECT(answer[0] == 0 && answer[1] == 0 && same(work, image));
@@ -342,7 +342,8 @@ int main(void)
     lists_are_refused();
     seventeenth_edit_is_refused();
     full_stores_refuse();
-    recovery_finishes_a_commit();
+    recovery_finishes_a_commit(QUOTE_LEAST_PAGES);
+    recovery_finishes_a_commit(QUOTE_MOST_PAGES);
     run_carries_out();
     cut_keeps_what_was_flushed();
     puts("calls: every call answers as its header says");

@@ -1,6 +1,6 @@
 //! Run and cut: the check that the three agree, and their rows.
 
-use crate::{lean, measure};
+use bench::{lean, measure};
 use cases::random::Random;
 use cases::tapes::{any_call, commands, DeviceCall, Mix};
 use std::hint::black_box;

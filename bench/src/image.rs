@@ -1,7 +1,7 @@
 //! Format, check, lookup and next key: the check that the three agree, and
 //! their rows.
 
-use crate::{lean, measure};
+use bench::{lean, measure};
 use cases::damage::{damage, other_length, FIELDS};
 use cases::images::{any_shape, build, even, Built, LAST_KEY};
 use cases::random::Random;

@@ -5,10 +5,10 @@
 mod device;
 #[cfg(feature = "image")]
 mod image;
-mod lean;
-mod measure;
 #[cfg(feature = "transaction")]
 mod transaction;
+
+use bench::measure;
 
 fn main() {
     device::check();

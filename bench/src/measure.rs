@@ -6,9 +6,6 @@ pub const REPETITIONS: usize = 301;
 /// A turn lasts about this long, so that the clock's own cost is small.
 const TURN: f64 = 40_000.0;
 
-/// The calls to be timed: lean, proved, reference.
-pub type Three<'a> = [&'a mut dyn FnMut(); 3];
-
 /// What one call leaves, if the three ways of making it leave the same: its
 /// answer and its buffers. Stops the program if not.
 pub fn agreed<C: Clone + PartialEq>(
@@ -32,20 +29,29 @@ pub fn agreed<C: Clone + PartialEq>(
     reference
 }
 
-/// Nanoseconds a call of each of the three. They take turns within each
-/// repetition, so that noise of the machine hits all alike.
-pub fn medians(three: &mut Three) -> [f64; 3] {
-    let mut calls = [1; 3];
-    for (candidate, calls) in three.iter_mut().zip(&mut calls) {
+/// Nanoseconds a call of each candidate, in turns of about the same time.
+pub fn medians<const N: usize>(candidates: &mut [&mut dyn FnMut(); N]) -> [f64; N] {
+    let mut calls = [1; N];
+    for (candidate, calls) in candidates.iter_mut().zip(&mut calls) {
         turn(*candidate, 3);
         let once = turn(*candidate, 10);
         *calls = ((TURN / once) as usize).clamp(1, 100_000);
     }
-    let mut times = [const { Vec::new() }; 3];
-    for repetition in 0..REPETITIONS {
-        for i in 0..3 {
-            let which = (repetition + i) % 3;
-            times[which].push(turn(three[which], calls[which]));
+    taking_turns(candidates, calls, REPETITIONS)
+}
+
+/// The same with so many calls in a turn of each. They take turns within each
+/// repetition, so that noise of the machine hits all alike.
+pub fn taking_turns<const N: usize>(
+    candidates: &mut [&mut dyn FnMut(); N],
+    calls: [usize; N],
+    repetitions: usize,
+) -> [f64; N] {
+    let mut times = [const { Vec::new() }; N];
+    for repetition in 0..repetitions {
+        for i in 0..N {
+            let which = (repetition + i) % N;
+            times[which].push(turn(candidates[which], calls[which]));
         }
     }
     times.map(median)

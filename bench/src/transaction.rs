@@ -1,7 +1,8 @@
 //! Transaction and recovery: the check that the three agree, and their rows.
 
-use crate::{lean, measure};
-use cases::images::{even, Built};
+use bench::books::{book, delete, insert, key, neighbours, one, spread, update, updates};
+use bench::{lean, measure};
+use cases::images::Built;
 use cases::lists::any_list;
 use cases::logs;
 use cases::random::Random;
@@ -176,86 +177,48 @@ pub fn measure() {
 /// The transactions that are timed, all accepted.
 fn transactions(pages: usize) -> [(&'static str, Call); 7] {
     let leaves = if pages == 8 { 4 } else { 26 };
-    let built = book(pages, leaves, 14);
-    let full = book(pages, leaves, 28);
+    let built = book(pages, leaves, leaves * 14);
+    let full = book(pages, leaves, leaves * 28);
     // On 64 pages the index is then copied too.
-    let to_split = book(pages, if pages == 8 { 2 } else { 14 }, 28);
-    let call =
-        |name, built: &Built, edits: Vec<Vec<u8>>| (name, Call::new(&built.image, edits.concat()));
+    let halves = if pages == 8 { 2 } else { 14 };
+    let to_split = book(pages, halves, halves * 28);
+    let call = |name, built: &Built, edits: Vec<u8>| (name, Call::new(&built.image, edits));
     let mut without_room = built.clone();
     let page = built.leaves[1].page;
     without_room.image[page * 1024 + 2..][..2].copy_from_slice(&[64, 0]);
     [
-        call("1 edit", &built, vec![update(built.table[20].0)]),
-        call("16 edits, neighbours", &built, neighbours(&built)),
-        call("16 edits, spread", &built, spread(&built)),
-        call("insert and delete in turn", &built, in_turn(&built)),
+        call("1 edit", &built, updates(&one(&built, 0))),
         call(
-            "copy of a leaf",
-            &without_room,
-            vec![update(key(&built, 1, 5))],
+            "16 edits, neighbours",
+            &built,
+            updates(&neighbours(&built, 0)),
         ),
-        call("split of a leaf", &full, vec![insert(key(&full, 1, 0) + 1)]),
+        call("16 edits, spread", &built, updates(&spread(&built, 0))),
+        call("insert and delete in turn", &built, in_turn(&built)),
+        call("copy of a leaf", &without_room, update(key(&built, 1, 5))),
+        call("split of a leaf", &full, insert(key(&full, 1, 0) + 1)),
         call("split of every leaf", &to_split, in_every_leaf(&to_split)),
     ]
 }
 
-/// A store with so many quotes in each leaf, and no two keys side by side.
-fn book(pages: usize, leaves: usize, each: usize) -> Built {
-    let mut random = Random::new(SEED);
-    loop {
-        let built = even(&mut random, pages, leaves, leaves * each);
-        let apart = |two: &[(u64, Vec<u8>)]| two[0].0 + 1 < two[1].0;
-        if built.table.windows(2).all(apart) {
-            return built;
-        }
-    }
-}
-
 fn logged(pages: usize, headers: usize) -> Vec<u8> {
-    let built = book(pages, if pages == 8 { 4 } else { 26 }, 14);
+    let leaves = if pages == 8 { 4 } else { 26 };
+    let built = book(pages, leaves, leaves * 14);
     match headers {
         0 => built.image,
         _ => logs::waiting(&mut Random::new(SEED), &built, headers),
     }
 }
 
-/// The key of a record by its leaf and its place there.
-fn key(built: &Built, leaf: usize, place: usize) -> u64 {
-    built.leaves[leaf].places[place].key
+fn in_turn(built: &Built) -> Vec<u8> {
+    let both = |i| [insert(key(built, 1, i) + 1), delete(key(built, 1, i))];
+    (0..8).flat_map(both).flatten().collect()
 }
 
-fn edit(kind: u8, key: u64, value: &[u8]) -> Vec<u8> {
-    [&[kind, value.len() as u8], &key.to_le_bytes()[..], value].concat()
-}
-
-fn insert(key: u64) -> Vec<u8> {
-    edit(1, key, &[0x5a; 8])
-}
-
-fn update(key: u64) -> Vec<u8> {
-    edit(2, key, &[0x5a; 8])
-}
-
-fn neighbours(built: &Built) -> Vec<Vec<u8>> {
-    (20..36).map(|i| update(built.table[i].0)).collect()
-}
-
-/// Over as many leaves as the log has lines, if there are so many.
-fn spread(built: &Built) -> Vec<Vec<u8>> {
-    let leaves = built.leaves.len().min(15);
-    let edits = (0..16).map(|i| update(key(built, i % leaves, i / leaves)));
-    edits.collect()
-}
-
-fn in_turn(built: &Built) -> Vec<Vec<u8>> {
-    let both = |i| [insert(key(built, 1, i) + 1), edit(3, key(built, 1, i), &[])];
-    (0..8).flat_map(both).collect()
-}
-
-fn in_every_leaf(built: &Built) -> Vec<Vec<u8>> {
+fn in_every_leaf(built: &Built) -> Vec<u8> {
     let leaves = 0..built.leaves.len();
-    leaves.map(|leaf| insert(key(built, leaf, 0) + 1)).collect()
+    let one = |leaf| insert(key(built, leaf, 0) + 1);
+    leaves.flat_map(one).collect()
 }
 
 fn row(name: &str, pages: usize, ways: [Way; 3], call: Call) {

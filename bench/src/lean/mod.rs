@@ -1,18 +1,12 @@
 //! The calls as they would be written for speed alone. Each gives the same
 //! number (0 is accepted) and the same buffers as the proved one.
 
-#[cfg(feature = "transaction")]
 mod commit;
 pub mod device;
-#[cfg(feature = "image")]
 pub mod image;
-#[cfg(feature = "transaction")]
 pub mod recovery;
-#[cfg(feature = "transaction")]
 mod tape;
-#[cfg(feature = "transaction")]
 pub mod transaction;
-#[cfg(feature = "transaction")]
 mod tree;
 
 pub const PAGE: usize = 1024;

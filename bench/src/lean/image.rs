@@ -11,12 +11,12 @@ pub const SLOTS: usize = 28;
 pub const KEYS: u64 = 1_000_000_000_000;
 
 #[inline(always)]
-pub unsafe fn word(at: *const u8) -> u64 {
+pub(super) unsafe fn word(at: *const u8) -> u64 {
     (at as *const u64).read_unaligned()
 }
 
 #[inline(always)]
-pub unsafe fn half(at: *const u8) -> usize {
+pub(super) unsafe fn half(at: *const u8) -> usize {
     (at as *const u16).read_unaligned() as usize
 }
 
@@ -96,7 +96,7 @@ pub fn next_key(image: &[u8], key: u64, answer: &mut [u64; 2]) -> u8 {
 
 /// The record of this slot.
 #[inline(always)]
-pub unsafe fn record(page: *const u8, slot: usize) -> *const u8 {
+pub(super) unsafe fn record(page: *const u8, slot: usize) -> *const u8 {
     page.add(half(page.add(8 + 2 * slot)))
 }
 
@@ -110,13 +110,13 @@ unsafe fn leaf(image: &[u8], index: *const u8, which: usize) -> *const u8 {
 
 /// The last leaf whose separator is not above the key, else the first.
 #[inline(always)]
-pub unsafe fn route(index: *const u8, key: u64) -> usize {
+pub(super) unsafe fn route(index: *const u8, key: u64) -> usize {
     not_above(index, key).saturating_sub(1)
 }
 
 /// How many of the page's records have a key not above this one.
 #[inline(always)]
-pub unsafe fn not_above(page: *const u8, key: u64) -> usize {
+pub(super) unsafe fn not_above(page: *const u8, key: u64) -> usize {
     let (mut low, mut high) = (0, half(page));
     while low < high {
         let middle = (low + high) / 2;
@@ -159,7 +159,7 @@ pub fn reached(image: &[u8]) -> Result<(usize, u64), u8> {
 
 /// Page 0's mark and root, if line 0 is not wrong.
 #[inline(always)]
-pub unsafe fn page_zero(start: *const u8, pages: u64) -> Option<(u64, usize)> {
+pub(super) unsafe fn page_zero(start: *const u8, pages: u64) -> Option<(u64, usize)> {
     let mark = word(start);
     let root = word(start.add(8));
     let zeros = (3..8).fold(0, |all, i| all | word(start.add(8 * i)));
@@ -176,7 +176,7 @@ pub unsafe fn page_zero(start: *const u8, pages: u64) -> Option<(u64, usize)> {
 /// One bit a page that is reached from this root, and page 0's, if all of them
 /// are sound. `header` gives where a page's header is: it may wait in the log.
 #[inline(always)]
-pub unsafe fn sound(
+pub(super) unsafe fn sound(
     start: *const u8,
     pages: usize,
     root: usize,

@@ -27,6 +27,16 @@ impl Change {
         }
     }
 
+    /// From given places.
+    #[cfg(test)]
+    pub fn of(ranges: &[(usize, usize)], taken: &[usize], freed: &[usize]) -> Change {
+        Change {
+            ranges: ranges.iter().map(|&(start, end)| start..end).collect(),
+            taken: taken.iter().copied().collect(),
+            freed: freed.iter().copied().collect(),
+        }
+    }
+
     /// The ranges in pages taken, which nothing reads before the commit.
     pub fn in_new_pages(&self) -> impl Iterator<Item = &Range<usize>> {
         self.ranges.iter().filter(|range| self.is_new(range))

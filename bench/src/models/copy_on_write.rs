@@ -59,10 +59,7 @@ mod tests {
     /// two requests; the state; the wrapper and the bits; the state.
     #[test]
     fn one_page() {
-        let change = Change {
-            ranges: vec![2048..2056, 3000..3008],
-            ..Change::default()
-        };
+        let change = Change::of(&[(2048, 2056), (3000, 3008)], &[], &[]);
         let hand = Counts {
             flushes: (16 + 1 + 1 + 1) + 1 + (1 + 1) + 1,
             barriers: 4,
@@ -75,11 +72,7 @@ mod tests {
     /// requests for it and one for each page.
     #[test]
     fn the_root_and_a_new_page() {
-        let change = Change {
-            ranges: vec![8..16, 7168..7184],
-            taken: BTreeSet::from([7]),
-            freed: BTreeSet::from([3]),
-        };
+        let change = Change::of(&[(8, 16), (7168, 7184)], &[7], &[3]);
         let hand = Counts {
             flushes: (1 + 1 + 1 + 1 + 1 + 1) + 1 + (1 + 1) + 1,
             barriers: 4,

@@ -62,10 +62,7 @@ mod tests {
     /// twice. One line, one in the log, the mark, one header, the mark.
     #[test]
     fn one_record() {
-        let change = Change {
-            ranges: vec![2048..2064, 3008..3032],
-            ..Change::default()
-        };
+        let change = Change::of(&[(2048, 2064), (3008, 3032)], &[], &[]);
         let hand = Counts {
             flushes: 5,
             barriers: 5,
@@ -78,10 +75,7 @@ mod tests {
     /// needed.
     #[test]
     fn one_delete() {
-        let change = Change {
-            ranges: vec![2048..2064],
-            ..Change::default()
-        };
+        let change = Change::of(&[(2048, 2064)], &[], &[]);
         let hand = Counts {
             flushes: 4,
             barriers: 4,
@@ -94,11 +88,7 @@ mod tests {
     /// with the mark's clearing.
     #[test]
     fn a_new_page_and_the_root() {
-        let change = Change {
-            ranges: vec![8..16, 2048..2056, 7168..7184],
-            taken: BTreeSet::from([7]),
-            ..Change::default()
-        };
+        let change = Change::of(&[(8, 16), (2048, 2056), (7168, 7184)], &[7], &[]);
         let hand = Counts {
             flushes: 5,
             barriers: 5,
@@ -109,11 +99,7 @@ mod tests {
 
     #[test]
     fn the_root_alone() {
-        let change = Change {
-            ranges: vec![8..16, 7168..7184],
-            taken: BTreeSet::from([7]),
-            ..Change::default()
-        };
+        let change = Change::of(&[(8, 16), (7168, 7184)], &[7], &[]);
         let hand = Counts {
             flushes: 2,
             barriers: 2,

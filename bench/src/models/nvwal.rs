@@ -51,16 +51,12 @@ fn portions(change: &Change) -> Vec<Range<usize>> {
 #[cfg(test)]
 mod tests {
     use super::*;
-    use std::collections::BTreeSet;
 
     /// Two frames, of 32 + 16 and 32 + 24 bytes: the first in line 0, the
     /// second in lines 0 and 1; then the mark.
     #[test]
     fn a_header_and_a_record() {
-        let change = Change {
-            ranges: vec![2048..2064, 3000..3024],
-            ..Change::default()
-        };
+        let change = Change::of(&[(2048, 2064), (3000, 3024)], &[], &[]);
         let hand = Counts {
             flushes: 1 + 2 + 1,
             barriers: 2,
@@ -72,10 +68,7 @@ mod tests {
     /// Two words with 32 clean bytes between them are one frame of 32 + 48.
     #[test]
     fn portions_near_each_other() {
-        let change = Change {
-            ranges: vec![2048..2056, 2088..2096],
-            ..Change::default()
-        };
+        let change = Change::of(&[(2048, 2056), (2088, 2096)], &[], &[]);
         let hand = Counts {
             flushes: 2 + 1,
             barriers: 2,
@@ -87,11 +80,7 @@ mod tests {
     /// A frame of 32 + 1,024 bytes is 17 lines.
     #[test]
     fn a_new_page_is_logged_whole() {
-        let change = Change {
-            ranges: vec![7168..7184, 8000..8192],
-            taken: BTreeSet::from([7]),
-            ..Change::default()
-        };
+        let change = Change::of(&[(7168, 7184), (8000, 8192)], &[7], &[]);
         let hand = Counts {
             flushes: 17 + 1,
             barriers: 2,

@@ -37,15 +37,11 @@ pub fn counts(change: &Change) -> Counts {
 #[cfg(test)]
 mod tests {
     use super::*;
-    use std::collections::BTreeSet;
 
     /// A record of 32 bytes, the state, the data, the state.
     #[test]
     fn one_word() {
-        let change = Change {
-            ranges: vec![2096..2104],
-            ..Change::default()
-        };
+        let change = Change::of(&[(2096, 2104)], &[], &[]);
         let hand = Counts {
             flushes: 4,
             barriers: 4,
@@ -58,10 +54,7 @@ mod tests {
     /// the data are three words in two lines.
     #[test]
     fn three_words_in_two_lines() {
-        let change = Change {
-            ranges: vec![2048..2056, 2088..2096, 2120..2128],
-            ..Change::default()
-        };
+        let change = Change::of(&[(2048, 2056), (2088, 2096), (2120, 2128)], &[], &[]);
         let hand = Counts {
             flushes: 2 + 1 + 2 + 1,
             barriers: 4,
@@ -72,11 +65,7 @@ mod tests {
 
     #[test]
     fn a_new_page_for_an_old_one() {
-        let change = Change {
-            ranges: vec![2048..2056, 7168..7184],
-            taken: BTreeSet::from([7]),
-            freed: BTreeSet::from([3]),
-        };
+        let change = Change::of(&[(2048, 2056), (7168, 7184)], &[7], &[3]);
         let hand = Counts {
             // Log, new page, allocation log; state; data, bits; state.
             flushes: 3 + 1 + 2 + 1,

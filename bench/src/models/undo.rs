@@ -62,16 +62,12 @@ impl Log {
 #[cfg(test)]
 mod tests {
     use super::*;
-    use std::collections::BTreeSet;
 
     /// A write of 8 bytes: a record of 48 bytes in line 0 and the tail; the
     /// data line; a commit record of 24 bytes in lines 0 and 1.
     #[test]
     fn one_word() {
-        let change = Change {
-            ranges: vec![2096..2104],
-            ..Change::default()
-        };
+        let change = Change::of(&[(2096, 2104)], &[], &[]);
         let hand = Counts {
             flushes: (1 + 1) + 1 + 2,
             barriers: 3,
@@ -84,10 +80,7 @@ mod tests {
     /// lines 0 and 1, and a commit record from 96 to 120 in line 1.
     #[test]
     fn two_words_of_a_line() {
-        let change = Change {
-            ranges: vec![2048..2056, 2096..2104],
-            ..Change::default()
-        };
+        let change = Change::of(&[(2048, 2056), (2096, 2104)], &[], &[]);
         let hand = Counts {
             flushes: (2 + 1) + 1 + 1,
             barriers: 3,
@@ -100,10 +93,7 @@ mod tests {
     /// data lines; a commit record from 96 to 120.
     #[test]
     fn two_words_apart() {
-        let change = Change {
-            ranges: vec![2048..2056, 2104..2112],
-            ..Change::default()
-        };
+        let change = Change::of(&[(2048, 2056), (2104, 2112)], &[], &[]);
         let hand = Counts {
             flushes: (1 + 1) + (2 + 1) + 1 + 1,
             barriers: 4,
@@ -116,11 +106,7 @@ mod tests {
     /// follow the commit.
     #[test]
     fn a_new_page() {
-        let change = Change {
-            ranges: vec![7168..7184],
-            taken: BTreeSet::from([7]),
-            ..Change::default()
-        };
+        let change = Change::of(&[(7168, 7184)], &[7], &[]);
         let hand = Counts {
             // Data, allocation log; commit record; bit; state.
             flushes: (1 + 1) + 1 + 1 + 1,

@@ -28,6 +28,11 @@ trait Quotes {
     fn lookup(&mut self, key: u64) -> Option<[u8; 8]>;
 }
 
+type Systems<'a> = [&'a mut dyn Quotes; 4];
+type Times = [f64; 4];
+/// A row of the table: what is called, and how long a call takes.
+type Row = (&'static str, Times);
+
 const SYSTEMS: [(&str, &str); 4] = [
     (store::NAME, "#1f4e9e"),
     ("SQLite WAL", "#c65102"),
@@ -62,7 +67,7 @@ fn main() {
     let mut wal = Sqlite::new(&folder.file("wal"), Journal::Wal, &quotes);
     let mut delete = Sqlite::new(&folder.file("delete"), Journal::Delete, &quotes);
     let mut lmdb = Lmdb::new(&folder.file("lmdb"), &quotes);
-    let mut systems: [&mut dyn Quotes; 4] = [&mut store, &mut wal, &mut delete, &mut lmdb];
+    let mut systems: Systems = [&mut store, &mut wal, &mut delete, &mut lmdb];
     check(&book, &quotes, &mut systems);
     println!(
         "SQLite {}, LMDB {}; files in {}.",
@@ -71,17 +76,27 @@ fn main() {
         folder.path()
     );
     println!("Microseconds a call: medians of {REPETITIONS} turns of {CALLS} calls, the systems taking turns.");
-    let mut rows = Vec::new();
-    for (name, keys) in SHIFTS {
-        let lists: Vec<Vec<Quote>> = (0..CALLS).map(|turn| list(&book, keys, turn)).collect();
-        rows.push((name, shifts(&lists, &mut systems)));
-    }
-    rows.push(("lookup", lookups(&quotes, &mut systems)));
+    let rows = measure(&book, &quotes, &mut systems);
     print(&rows);
     if let Some(file) = std::env::args().nth(1) {
         std::fs::write(&file, chart(&rows).svg()).expect("the chart can be written");
         println!("\n{file} is written.");
     }
+}
+
+fn measure(book: &Built, quotes: &[Quote], systems: &mut Systems) -> Vec<Row> {
+    let mut rows = Vec::new();
+    for (name, keys) in SHIFTS {
+        let lists: Vec<Vec<Quote>> = (0..CALLS).map(|turn| list(book, keys, turn)).collect();
+        let times = medians(systems, |system, turn| system.shift(&lists[turn % CALLS]));
+        rows.push((name, times));
+    }
+    let times = medians(systems, |system, turn| {
+        let found = system.lookup(quotes[turn % quotes.len()].0);
+        assert!(found.is_some(), "a timed lookup found nothing");
+    });
+    rows.push(("lookup", times));
+    rows
 }
 
 /// The quotes of one transaction, with values that differ from turn to turn.
@@ -109,37 +124,34 @@ fn check(book: &Built, quotes: &[Quote], systems: &mut [&mut dyn Quotes]) {
     println!("All hold the same table after {CHECKED} transactions.");
 }
 
-/// Nanoseconds of a shift, in each system. Each goes through the lists by
-/// itself.
-fn shifts(lists: &[Vec<Quote>], systems: &mut [&mut dyn Quotes; 4]) -> [f64; 4] {
-    let mut turns = [0; 4];
-    let mut calls = systems.iter_mut().zip(&mut turns).map(|(system, turn)| {
-        move || {
-            system.shift(&lists[*turn % lists.len()]);
-            *turn += 1;
-        }
-    });
-    let mut calls: [_; 4] = std::array::from_fn(|_| calls.next().expect("four systems"));
-    let [a, b, c, d] = &mut calls;
-    taking_turns(&mut [a, b, c, d], [CALLS; 4], REPETITIONS)
+/// Nanoseconds of a call in each system; each counts its own turns.
+fn medians(systems: &mut Systems, call: impl Fn(&mut dyn Quotes, usize)) -> Times {
+    let [a, b, c, d] = systems;
+    let call = &call;
+    taking_turns(
+        &mut [
+            &mut counted(*a, call),
+            &mut counted(*b, call),
+            &mut counted(*c, call),
+            &mut counted(*d, call),
+        ],
+        [CALLS; 4],
+        REPETITIONS,
+    )
 }
 
-/// The same of a lookup.
-fn lookups(quotes: &[Quote], systems: &mut [&mut dyn Quotes; 4]) -> [f64; 4] {
-    let mut turns = [0; 4];
-    let mut calls = systems.iter_mut().zip(&mut turns).map(|(system, turn)| {
-        move || {
-            let found = system.lookup(quotes[*turn % quotes.len()].0);
-            assert!(found.is_some(), "a timed lookup found nothing");
-            *turn += 1;
-        }
-    });
-    let mut calls: [_; 4] = std::array::from_fn(|_| calls.next().expect("four systems"));
-    let [a, b, c, d] = &mut calls;
-    taking_turns(&mut [a, b, c, d], [CALLS; 4], REPETITIONS)
+fn counted<'a>(
+    system: &'a mut dyn Quotes,
+    call: &'a impl Fn(&mut dyn Quotes, usize),
+) -> impl FnMut() + 'a {
+    let mut turn = 0;
+    move || {
+        call(system, turn);
+        turn += 1;
+    }
 }
 
-fn print(rows: &[(&str, [f64; 4])]) {
+fn print(rows: &[Row]) {
     let names = SYSTEMS.map(|(name, _)| format!("{name:>15}")).concat();
     println!("\n{:<16}{names}", "microseconds");
     for (name, times) in rows {
@@ -155,7 +167,7 @@ fn print(rows: &[(&str, [f64; 4])]) {
     }
 }
 
-fn chart(rows: &[(&str, [f64; 4])]) -> Chart {
+fn chart(rows: &[Row]) -> Chart {
     Chart {
         title: "Time per call; a book of 500 quotes".into(),
         note: "SQLite and LMDB on a memory file system; no time to flush is in any of the times."

@@ -107,11 +107,11 @@ struct Scale {
 }
 
 impl Scale {
-    /// The lowest value has a bar too.
+    /// The lowest value has a bar that one can see.
     fn of(values: impl Iterator<Item = f64> + Clone) -> Scale {
         let least = values.clone().fold(f64::INFINITY, f64::min);
         let most = values.fold(0.0, f64::max);
-        let below = row().filter(|&mark| mark < least);
+        let below = row().filter(|&mark| mark < least / 1.5);
         Scale {
             low: below.fold(0.0, f64::max),
             high: row().find(|&mark| mark >= most).expect("the row is long"),
@@ -145,14 +145,15 @@ fn row() -> impl Iterator<Item = f64> {
     (-3..9).flat_map(|power| [1.0, 2.0, 5.0].map(|mark| mark * 10f64.powi(power)))
 }
 
-/// A number to one place, or to none where that one is zero or tells nothing.
+/// A number with the places that tell something.
 fn short(value: f64) -> String {
-    let one_place = format!("{value:.1}");
-    match one_place.strip_suffix(".0") {
-        Some(whole) => whole.into(),
-        None if value >= 100.0 => format!("{value:.0}"),
-        None => one_place,
-    }
+    let places = match value {
+        _ if value < 1.0 => 2,
+        _ if value < 100.0 => 1,
+        _ => return format!("{value:.0}"),
+    };
+    let all = format!("{value:.places$}");
+    all.trim_end_matches('0').trim_end_matches('.').into()
 }
 
 fn rect(x: f64, y: f64, width: f64, height: f64, colour: &str) -> String {
@@ -181,8 +182,11 @@ mod tests {
 
     #[test]
     fn numbers_are_short() {
-        let shown = [0.5, 1.0, 1.98, 2.04, 2.36, 99.5, 283.4].map(short);
-        assert_eq!(shown, ["0.5", "1", "2", "2", "2.4", "99.5", "283"]);
+        let shown = [0.05, 0.5, 1.0, 1.98, 2.36, 99.5, 200.0, 283.4].map(short);
+        assert_eq!(
+            shown,
+            ["0.05", "0.5", "1", "2", "2.4", "99.5", "200", "283"]
+        );
     }
 
     /// Two groups of two, one without a bar: three bars, two boxes of the

@@ -3,9 +3,9 @@
 //! The rules:
 //! - Section 4.2: each write puts its new bytes into the log as a record: here
 //!   address, length, "a pointer to the previous redo log record for that
-//!   object", and the bytes. Commit persists the log; then the state COMMITTED;
-//!   then the log is applied and the writes are persisted; then the state IDLE.
-//!   One barrier each, four in all.
+//!   object", and the bytes; records lie end to end. Commit persists the log;
+//!   then the state COMMITTED; then the log is applied and the writes are
+//!   persisted; then the state IDLE. One barrier each, four in all.
 //! - Section 5: allocations cost no more barriers: their log goes with the first,
 //!   their bits with the third.
 //! - Section 3: a new object is written with no log, and is durable with the

@@ -5,6 +5,7 @@
 //!   sentinel, transaction version, contents, checksum, 8 bytes each but the
 //!   contents, which are here address, length and the old bytes. One barrier
 //!   each. Then the log's tail is stored, and flushed with what comes next.
+//!   Records lie end to end, the first at a line's start.
 //! - Commit: the writes are flushed, one barrier; a commit record, here one
 //!   with no contents, one barrier.
 //! - Only if memory was allocated or freed (section 5): the bits are made

@@ -2,32 +2,36 @@
 
 use std::path::PathBuf;
 
-pub struct Folder(PathBuf);
+pub struct Folder {
+    base: PathBuf,
+    path: PathBuf,
+}
 
 impl Folder {
     /// In /dev/shm, or where the environment's `BENCH_FOLDER` says.
     pub fn new() -> Folder {
         let base = std::env::var_os("BENCH_FOLDER").unwrap_or("/dev/shm".into());
-        let name = format!("quote-store-bench-{}", std::process::id());
-        let path = PathBuf::from(base).join(name);
+        let base = PathBuf::from(base);
+        let path = base.join(format!("quote-store-bench-{}", std::process::id()));
         std::fs::create_dir(&path)
             .unwrap_or_else(|error| panic!("{} can't be made: {error}", path.display()));
-        Folder(path)
+        Folder { base, path }
     }
 
-    pub fn path(&self) -> String {
-        self.0.display().to_string()
+    /// Where the folder is.
+    pub fn base(&self) -> String {
+        self.base.display().to_string()
     }
 
     /// The path of a file in it.
     pub fn file(&self, name: &str) -> String {
-        self.0.join(name).display().to_string()
+        self.path.join(name).display().to_string()
     }
 }
 
 impl Drop for Folder {
     fn drop(&mut self) {
         // Nothing can be done about a folder that stays.
-        let _ = std::fs::remove_dir_all(&self.0);
+        let _ = std::fs::remove_dir_all(&self.path);
     }
 }

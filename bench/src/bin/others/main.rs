@@ -58,11 +58,8 @@ const SHIFTS: [(&str, Keys); 3] = [
 fn main() {
     let book = five_hundred(26);
     let folder = Folder::new();
-    let quotes = book
-        .table
-        .iter()
-        .map(|(key, value)| (*key, value[..].try_into().unwrap()));
-    let quotes: Vec<Quote> = quotes.collect();
+    let quote = |(key, value): &(u64, Vec<u8>)| (*key, value[..].try_into().expect("8 bytes"));
+    let quotes: Vec<Quote> = book.table.iter().map(quote).collect();
     let mut store = Store::new(&book);
     let mut wal = Sqlite::new(&folder.file("wal"), Journal::Wal, &quotes);
     let mut delete = Sqlite::new(&folder.file("delete"), Journal::Delete, &quotes);
@@ -70,10 +67,10 @@ fn main() {
     let mut systems: Systems = [&mut store, &mut wal, &mut delete, &mut lmdb];
     check(&book, &quotes, &mut systems);
     println!(
-        "SQLite {}, LMDB {}; files in {}.",
+        "SQLite {}, LMDB {}; files on {}.",
         sqlite::version(),
         lmdb::version(),
-        folder.path()
+        folder.base()
     );
     println!("Microseconds a call: medians of {REPETITIONS} turns of {CALLS} calls, the systems taking turns.");
     let rows = measure(&book, &quotes, &mut systems);
@@ -170,7 +167,8 @@ fn print(rows: &[Row]) {
 fn chart(rows: &[Row]) -> Chart {
     Chart {
         title: "Time per call; a book of 500 quotes".into(),
-        note: "SQLite and LMDB on a memory file system; no time to flush is in any of the times."
+        note: "SQLite and LMDB on a memory file system, where a sync returns at once; the store's \
+               flushes are commands of a simulated device."
             .into(),
         groups: rows.iter().map(|(name, _)| name.to_string()).collect(),
         series: SYSTEMS

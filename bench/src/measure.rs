@@ -37,8 +37,11 @@ pub fn medians<const N: usize>(candidates: &mut [&mut dyn FnMut(); N]) -> [f64; 
         let once = turn(*candidate, 10);
         *calls = ((TURN / once) as usize).clamp(1, 100_000);
     }
-    taking_turns(candidates, calls, REPETITIONS)
+    taking_turns(candidates, calls, REPETITIONS, turn)
 }
+
+/// Takes the time of so many calls in a row, as nanoseconds a call.
+pub type Turn = fn(&mut dyn FnMut(), usize) -> f64;
 
 /// The same with so many calls in a turn of each. They take turns within each
 /// repetition, so that noise of the machine hits all alike.
@@ -46,6 +49,7 @@ pub fn taking_turns<const N: usize>(
     candidates: &mut [&mut dyn FnMut(); N],
     calls: [usize; N],
     repetitions: usize,
+    turn: Turn,
 ) -> [f64; N] {
     let mut times = [const { Vec::new() }; N];
     for repetition in 0..repetitions {
@@ -57,7 +61,7 @@ pub fn taking_turns<const N: usize>(
     times.map(median)
 }
 
-/// Nanoseconds a call over so many calls.
+/// A turn by the clock on the wall.
 fn turn(candidate: &mut dyn FnMut(), calls: usize) -> f64 {
     let start = Instant::now();
     for _ in 0..calls {

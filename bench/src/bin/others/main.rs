@@ -3,6 +3,7 @@
 //! ratios are printed. No time is asserted. With a file's name as argument also
 //! as a chart.
 
+mod clock;
 mod folder;
 mod lmdb;
 mod sqlite;
@@ -72,7 +73,8 @@ fn main() {
         lmdb::version(),
         folder.base()
     );
-    println!("Microseconds a call: medians of {REPETITIONS} turns of {CALLS} calls, the systems taking turns.");
+    println!("Processor time a call: medians of {REPETITIONS} turns of {CALLS} calls, the systems taking");
+    println!("turns.");
     let rows = measure(&book, &quotes, &mut systems);
     print(&rows);
     if let Some(file) = std::env::args().nth(1) {
@@ -121,7 +123,7 @@ fn check(book: &Built, quotes: &[Quote], systems: &mut [&mut dyn Quotes]) {
     println!("All hold the same table after {CHECKED} transactions.");
 }
 
-/// Nanoseconds of a call in each system; each counts its own turns.
+/// Processor time of a call in each system; each counts its own turns.
 fn medians(systems: &mut Systems, call: impl Fn(&mut dyn Quotes, usize)) -> Times {
     let [a, b, c, d] = systems;
     let call = &call;
@@ -134,6 +136,7 @@ fn medians(systems: &mut Systems, call: impl Fn(&mut dyn Quotes, usize)) -> Time
         ],
         [CALLS; 4],
         REPETITIONS,
+        clock::turn,
     )
 }
 
@@ -166,7 +169,7 @@ fn print(rows: &[Row]) {
 
 fn chart(rows: &[Row]) -> Chart {
     Chart {
-        title: "Time per call; a book of 500 quotes".into(),
+        title: "Processor time per call; a book of 500 quotes".into(),
         note: "SQLite and LMDB on a memory file system, where a sync returns at once; the store's \
                flushes are commands of a simulated device."
             .into(),

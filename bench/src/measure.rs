@@ -61,7 +61,7 @@ pub fn taking_turns<const N: usize>(
     times.map(median)
 }
 
-/// A turn by the clock on the wall.
+/// A turn in wall-clock time.
 fn turn(candidate: &mut dyn FnMut(), calls: usize) -> f64 {
     let start = Instant::now();
     for _ in 0..calls {

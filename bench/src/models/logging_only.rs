@@ -84,8 +84,8 @@ mod tests {
         assert_eq!(counts(&change), hand);
     }
 
-    /// The header of a new page is a record like others; the root word rides
-    /// with the mark's clearing.
+    /// The header of a new page is a record like others; the root word has no
+    /// flush of its own, as the mark's line is flushed after it.
     #[test]
     fn a_new_page_and_the_root() {
         let change = Change::of(&[(8, 16), (2048, 2056), (7168, 7184)], &[7], &[]);

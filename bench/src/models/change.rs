@@ -152,4 +152,19 @@ mod tests {
         assert_eq!(bytes(change.in_new_pages()), 8);
         assert_eq!(bytes(change.in_old_pages()), 8);
     }
+
+    /// The index copied to page 6: the root word, then two words of its header
+    /// and two of its record, whose separator is 0.
+    #[test]
+    fn the_root_word_is_a_range() {
+        let mut before = vec![0; 8 * PAGE];
+        format(&mut before).unwrap();
+        let mut after = before.clone();
+        after.copy_within(PAGE..2 * PAGE, 6 * PAGE);
+        after[6 * PAGE + 6] = 6;
+        after[WORD] = 6;
+        let change = Change::between(&before, &after);
+        let hand = [(8, 16), (6144, 6160), (6144 + 1008, 6144 + 1024)];
+        assert_eq!(change, Change::of(&hand, &[6], &[1]));
+    }
 }

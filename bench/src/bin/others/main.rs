@@ -35,7 +35,7 @@ type Times = [f64; 4];
 type Row = (&'static str, Times);
 
 const SYSTEMS: [(&str, &str); 4] = [
-    (store::NAME, "#1f4e9e"),
+    ("proved store", "#1f4e9e"),
     ("SQLite WAL", "#c65102"),
     ("SQLite DELETE", "#f4b183"),
     ("LMDB", "#1b7f4b"),

@@ -1,6 +1,6 @@
 -- How the parts of the call meet: marks of pages, and the state before the first edit and after the last.
 -- Assumes nothing.
-use Prim.Native.Nat.{ℕ, _/_, _≤_}
+use Prim.Native.Nat.{ℕ, _-_, _/_, _≤_}
 use mathlib.Core.Path.{_≡_, refl, sym, ap, _∙_, subst}
 use mathlib.Core.Bool.{Bool, true, false, not}
 use mathlib.Core.List.{List, []}
@@ -10,6 +10,7 @@ use lib.Dec.{eqb}
 use borrow.Author.Tests.{eqb-true, eqb-false}
 use Rattle.codec.specs.Lists.{All, pick}
 use Rattle.page.specs.Layout.{pageSize}
+use Rattle.page.specs.Operations.{pageOf}
 use Rattle.image.specs.PageZero.{pageCount, rootOf}
 use Rattle.image.specs.Image.{reached, sound}
 use Rattle.image.proofs.Zero.{Size, size-true}
@@ -19,14 +20,16 @@ use Rattle.edit.proofs.Reading.{Proper}
 use Rattle.journal.specs.Edited.{Edited}
 use Rattle.tree.specs.State.{State, begin}
 use Rattle.tree.specs.Whole.{finished, stopped, editsFrom, editsOn, editedImage}
+use Rattle.tree.proofs.Counts.{count}
+use Rattle.tree.proofs.States.{Leads}
 use Rattle.tree.proofs.Tree.{Good}
 use Rattle.tree.proofs.Runs.{begin-good, edits-run}
 use Rattle.tree.proofs.Accepted.{edits-accepted}
 use Rattle.tree_edit.specs.Steps as steps
-use Rattle.tree_edit.specs.Asked.{CanMark}
+use Rattle.tree_edit.specs.Asked.{CanMark, Spared}
 use Rattle.tree_edit.proofs.Marked.{good-marks}
 use Rattle.tree_edit.proofs.Places.{good-none}
-use Rattle.tree_edit.proofs.Free.{begin-state}
+use Rattle.tree_edit.proofs.Free.{begin-state, unmarked-counts}
 use Rattle.tape_write.specs.Calls.{Images, Marks, Lent, reachedIn}
 use Rattle.tree_edit.specs.declared.Tree.{Tree}
 use Rattle.tree_edit.specs.declared.Outcome.{Outcome}
@@ -75,6 +78,7 @@ pub record Begun (a work before : List ℕ) (root : ℕ) : Type 0 where
 pub record Ended (a before : List ℕ) (es : List Edit) (w : List ℕ) (t : Tree) : Type 0 where
   pub finishes : editsOn a es ≡ finished (steps.stateOf before w t)
   pub good : length w ≡ length a → Good (pageCount w) (record { image = w; root = t .root; free = [] })
+  pub spared : Spared before a w (t .top)
   pub edited : (x : List ℕ) → x ≡ editedImage a (steps.stateOf before w t) → Edited a x
 
 module _ {a work before : List ℕ} {root : ℕ} (B : Begun a work before root) where
@@ -102,6 +106,11 @@ module _ {a work before : List ℕ} {root : ℕ} (B : Begun a work before root) 
     pub made-stopped : (k i : ℕ) → o ≡ Stopped k i → editsOn a es ≡ stopped k i
     made-stopped k i q = sym made ∙ ap (steps.outcomeOf before w) q
 
+    -- a page that is still free is as it was
+    as-begun : {st : State} → Leads (begin a .free) (begin a) st → (p : ℕ) → 1 ≤ count p (st .free) → pageOf (st .image) p ≡ pageOf a p
+    unfolding begin
+    as-begun L p free = L .spare p free
+
     pub made-ended : (t : Tree) → o ≡ Finished t → Ended a before es w t
     made-ended t q =
         let st = steps.stateOf before w t in
@@ -110,5 +119,6 @@ module _ {a work before : List ℕ} {root : ℕ} (B : Begun a work before root) 
           finishes = z;
           good = λ same. subst (λ (n : ℕ). Good (n / pageSize) (record { image = w; root = t .root; free = [] })) (sym same)
               (good-none (edits-run a (B .isSound) es P st z .good));
+          spared = λ p one low e. as-begun (edits-run a (B .isSound) es P st z .leads) p (unmarked-counts before (t .top - 1) p one (omega arith) e);
           edited = λ x y. subst (Edited a) (sym y) (edits-accepted a (B .isSound) es P st z);
         }

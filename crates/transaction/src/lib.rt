@@ -72,7 +72,7 @@ fn make_edits(image: &[u8], work: &mut [u8], tape: &mut [u8], list: &[u8]) -> Tr
             Transacted::Refused(Refusal { number, edit })
         }
         Outcome::Finished(end) => {
-            finish(work, image, end.root);
+            finish(work, image, &before, end);
             commit_edits(image, work, tape, &before)
         }
     }

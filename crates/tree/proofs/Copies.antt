@@ -185,7 +185,7 @@ module _ (n : ℕ) (F : List ℕ) (H : Here n F) where
             let A : Filled F u v leafKind p rs = new-filled u (G .size) p (new-page .0) (new-page .1) rs good fits in
             record {
               root = refl;
-              leads = leads-trans F st u v (leads-take F st p f e) (A .leads);
+              leads = leads-trans F st u v (leads-take F st p f e) (A .leads (omega (arith, new-page .3, ap (count p) e, hit-self p)));
               others = λ x h. A .other x (λ z. omega (arith, ap (λ (k : ℕ). count k (st .free)) z, new-page));
               pages = λ x. omega (arith, ap (hit x) left-child, ap (count x) e);
               entries = (index-entry (keptSep (length pre) (c .key)) p, tt);
@@ -248,13 +248,13 @@ module _ (n : ℕ) (F : List ℕ) (H : Here n F) where
           let N = new-page p (q ∷ f) e in
           let apart : p ≡ q → ⊥ = λ z. omega (arith, N .3, ap (count p) e, hit-self p, ap (hit p) z) in
           let A : Filled F w v1 leafKind p (take m rs) = new-filled w (G .size) p (N .0) (N .1) (take m rs) (parts .0) L in
-          let B : Filled F v1 v leafKind q (drop m rs) = new-filled v1 (A .leads .long ∙ G .size) q (new-right .0) (new-right .1) (drop m rs) (parts .1) R in
+          let B : Filled F v1 v leafKind q (drop m rs) = new-filled v1 (A .long ∙ G .size) q (new-right .0) (new-right .1) (drop m rs) (parts .1) R in
           let shown : Shows (pageOf (v .image) p) leafKind p (pageSize - sizes (take m rs)) (take m rs) =
           subst (λ (g : List ℕ). Shows g leafKind p (pageSize - sizes (take m rs)) (take m rs)) (sym (B .other p apart)) (A .shows) in
           let child = left-child p (q ∷ f) e in
           record {
             root = refl;
-            leads = leads-trans F st u v (leads-take F st p (q ∷ f) e) (leads-trans F u w v (leads-take F u q f refl) (leads-trans F w v1 v (A .leads) (B .leads)));
+            leads = leads-trans F st u v (leads-take F st p (q ∷ f) e) (leads-trans F u w v (leads-take F u q f refl) (leads-trans F w v1 v (A .leads (omega (arith, N .3, ap (count p) e, hit-self p))) (B .leads (omega (arith, new-right .3, ap (count q) e, hit-self q)))));
             others = λ x h.
                 B .other x (λ z. omega (arith, ap (λ (k : ℕ). count k (st .free)) z, new-right))
                 ∙ A .other x (λ z. omega (arith, ap (λ (k : ℕ). count k (st .free)) z, N .3));

@@ -29,7 +29,7 @@ use Rattle.tree.specs.State.{State, withPage}
 use Rattle.tree.specs.Edits.{isFull, inPlace, put, dropped}
 use Rattle.tree.specs.Grounds.{room}
 use Rattle.tree.proofs.General.{removeAt-seam}
-use Rattle.tree.proofs.Counts.{inside, hit-self, hit-apart}
+use Rattle.tree.proofs.Counts.{inside, hit-self, hit-apart, inside-most}
 use Rattle.tree.proofs.Sizes.{size-most, sizes-made, made-most}
 use Rattle.tree.proofs.Pages.{Shows, laid-length, laid-start, Lower, place-shows, place-lower, place-old, delete-shows, delete-lower, delete-old}
 use Rattle.tree.proofs.States.{write-length, write-here, write-other, leads-trans, leads-write}
@@ -149,8 +149,8 @@ module _ (n : ℕ) (F : List ℕ) (H : Here n F) where
           pages = loss-pages n F H t L;
           lists = loss-table n F H t L ∙ ap (λ (l : List Rec). leafRecords (st .image) pre ++ (l ++ leafRecords (st .image) post)) (sym empty);
           leads =
-              leads-trans F st s t (leads-write F n st (G .size) q (A .0) (delete p j) whole (λ h. delete-old p (leaf-page .laid) j inn))
-              (leads-write F n s long r page g wide (λ h. delete-old x (X .laid) (length pre) place));
+              leads-trans F st s t (leads-write F n st (G .size) q (A .0) (delete p j) whole (λ h. delete-old p (leaf-page .laid) j inn) (A .2))
+              (leads-write F n s long r page g wide (λ h. delete-old x (X .laid) (length pre) place) (omega (arith, G .apart r, hit-self r, inside-most n r)));
           touch =
               inr (
                 refl,

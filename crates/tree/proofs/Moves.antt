@@ -122,7 +122,7 @@ module _ (n : ℕ) (F : List ℕ) (H : Here n F) where
       let other = write-other n (st .image) (G .size) q (A .0) g whole in
       let root : pageOf (t .image) (st .root) ≡ pageOf (st .image) (st .root) = other (st .root) (λ z. hit-apart q (st .root) (A .1) (sym z)) in
       let there : Shows (pageOf (t .image) q) leafKind q s rs = subst (λ (p : List ℕ). Shows p leafKind q s rs) (sym here) shows in
-      let leads : Leads F st t = leads-write F n st (G .size) q (A .0) g whole (λ h. old) in
+      let leads : Leads F st t = leads-write F n st (G .size) q (A .0) g whole (λ h. old) (A .2) in
       swap-after t c [] rs (record {
         long = leads .long;
         start = readHead (pageOf (st .image) (st .root)) .start;

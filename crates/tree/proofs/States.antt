@@ -45,10 +45,12 @@ pub record Leads (F : List ℕ) (s t : State) : Type 0 where
   pub root : (1 ≤ count (t .root) F) ⊎ (t .root ≡ s .root)
   pub took : List ℕ
   pub order : s .free ≡ took ++ t .free
+  -- the pages that are still free are as they were
+  pub spare : (x : ℕ) → 1 ≤ count x (t .free) → pageOf (t .image) x ≡ pageOf (s .image) x
 
 module _ (F : List ℕ) where
   pub leads-refl : (s : State) → Leads F s s
-  leads-refl s = record { long = refl; zero = refl; old = λ x h. old-refl (pageOf (s .image) x); root = inr refl; took = []; order = refl }
+  leads-refl s = record { long = refl; zero = refl; old = λ x h. old-refl (pageOf (s .image) x); root = inr refl; took = []; order = refl; spare = λ x h. refl }
 
   pub leads-trans : (s t u : State) → Leads F s t → Leads F t u → Leads F s u
   leads-trans s t u h k =
@@ -59,6 +61,7 @@ module _ (F : List ℕ) where
         root = roots (h .root) (k .root);
         took = h .took ++ k .took;
         order = h .order ∙ ap (λ (l : List ℕ). h .took ++ l) (k .order) ∙ sym (append-assoc (h .took) (k .took) (u .free));
+        spare = λ x c. k .spare x c ∙ h .spare x (omega (arith, ap (count x) (k .order), count-append x (k .took) (u .free)));
       }
     where
       roots : (1 ≤ count (t .root) F) ⊎ (t .root ≡ s .root) → (1 ≤ count (u .root) F) ⊎ (u .root ≡ t .root) → (1 ≤ count (u .root) F) ⊎ (u .root ≡ s .root)
@@ -67,15 +70,15 @@ module _ (F : List ℕ) where
       roots (inr a) (inr c) = inr (c ∙ a)
 
   pub leads-take : (s : State) (p : ℕ) (f : List ℕ) → s .free ≡ p ∷ f → Leads F s (record { image = s .image; root = s .root; free = f })
-  leads-take s p f e = record { long = refl; zero = refl; old = λ x h. old-refl (pageOf (s .image) x); root = inr refl; took = p ∷ []; order = e }
+  leads-take s p f e = record { long = refl; zero = refl; old = λ x h. old-refl (pageOf (s .image) x); root = inr refl; took = p ∷ []; order = e; spare = λ x h. refl }
 
   pub leads-root : (s : State) (p : ℕ) → 1 ≤ count p F → Leads F s (withRoot p s)
-  leads-root s p h = record { long = refl; zero = refl; old = λ x h. old-refl (pageOf (s .image) x); root = inl h; took = []; order = refl }
+  leads-root s p h = record { long = refl; zero = refl; old = λ x h. old-refl (pageOf (s .image) x); root = inl h; took = []; order = refl; spare = λ x h. refl }
 
   -- a page written over: one of F, or one that is edited in place
   pub leads-write : (n : ℕ) (s : State) → length (s .image) ≡ pageSize * n → (y : ℕ) → 1 ≤ inside n y → (g : List ℕ) → length g ≡ pageSize →
-      (count y F ≡ 0 → Old (pageOf (s .image) y) g) → Leads F s (withPage y g s)
-  leads-write n s long y page g whole kept =
+      (count y F ≡ 0 → Old (pageOf (s .image) y) g) → count y (s .free) ≡ 0 → Leads F s (withPage y g s)
+  leads-write n s long y page g whole kept used =
       record {
         long = write-length n (s .image) long y page g whole;
         zero = write-other n (s .image) long y page g whole 0 (λ e. omega (arith, inside-range n y page));
@@ -83,6 +86,7 @@ module _ (F : List ℕ) where
         root = inr refl;
         took = [];
         order = refl;
+        spare = λ x h. write-other n (s .image) long y page g whole x (λ e. omega (arith, used, ap (λ (k : ℕ). count k (s .free)) e));
       }
     where
       go : (x : ℕ) → count x F ≡ 0 → (b : Bool) → eqb x y ≡ b → Old (pageOf (s .image) x) (pageOf (putPage (s .image) y g) x)

@@ -19,10 +19,10 @@ use Rattle.edit.proofs.General.{by-tests}
 use Rattle.tree.specs.State.{State, Step, done, refused, withPage, withRoot, takePage, taken, filled}
 use Rattle.tree.specs.Edits.{isFull, inPlace, indexed}
 use Rattle.tree.specs.Grounds.{entrySize}
-use Rattle.tree.proofs.Counts.{hit, count, inside, hit-self, hit-apart, inside-range}
+use Rattle.tree.proofs.Counts.{hit, count, inside, hit-self, hit-apart, inside-most, inside-range}
 use Rattle.tree.proofs.Sizes.{IsEntry, Entries, size-entry, sizes-entries}
 use Rattle.tree.proofs.Pages.{Shows, shows-as, laid-length, laid-start, Lower, lower-trans, place-shows, place-lower, place-old, fill-shows}
-use Rattle.tree.proofs.States.{page-length, write-here, write-other, Leads, leads-trans, leads-take, leads-root, leads-write}
+use Rattle.tree.proofs.States.{page-length, write-length, write-here, write-other, Leads, leads-trans, leads-take, leads-root, leads-write}
 
 -- ---- refused by g, or g is 0 and the state has P
 
@@ -51,7 +51,8 @@ module _ (P : State → Type 0) where
 pub record Filled (F : List ℕ) (s t : State) (kind q : ℕ) (rs : List Rec) : Type 0 where
   pub shows : Shows (pageOf (t .image) q) kind q (pageSize - sizes rs) rs
   pub other : (x : ℕ) → (x ≡ q → ⊥) → pageOf (t .image) x ≡ pageOf (s .image) x
-  pub leads : Leads F s t
+  pub long : length (t .image) ≡ length (s .image)
+  pub leads : count q (s .free) ≡ 0 → Leads F s t
 
 pub filled-facts : (n : ℕ) → n ≤ 64 → (F : List ℕ) (st : State) → length (st .image) ≡ pageSize * n → (q : ℕ) → 1 ≤ inside n q → 1 ≤ count q F → (kind : ℕ) → kind < 256 → (rs : List Rec) →
     All RecOk rs → lineSize + sizes rs ≤ pageSize → length rs ≤ slotCount → Filled F st (filled kind q rs st) kind q rs
@@ -64,6 +65,7 @@ filled-facts n few F st long q page new kind small rs good room slots =
     record {
       shows = subst (λ (p : List ℕ). Shows p kind q (pageSize - sizes rs) rs) (sym (write-here n (st .image) long q page g whole)) shown;
       other = write-other n (st .image) long q page g whole;
+      long = write-length n (st .image) long q page g whole;
       leads = leads-write F n st long q page g whole (λ h. absurd (omega arith));
     }
 
@@ -136,7 +138,7 @@ module _ (n : ℕ) (few : n ≤ 64) (F : List ℕ) (st : State) (long : length (
         index = shows-as (A .shows) (ap (λ (k : ℕ). pageSize - k) total) same;
         other = λ y h. A .other y (λ z. omega (arith, ap (λ (k : ℕ). count k (st .free)) z));
         pages = λ y. omega (arith, ap (count y) e);
-        leads = leads-trans F st u (withRoot q v) (leads-take F st q f e) (leads-trans F u v (withRoot q v) (A .leads) (leads-root F v q new));
+        leads = leads-trans F st u (withRoot q v) (leads-take F st q f e) (leads-trans F u v (withRoot q v) (A .leads (omega (arith, apart q, inside-most n q))) (leads-root F v q new));
         touch = inl new;
       }
 
@@ -161,7 +163,7 @@ module _ (n : ℕ) (few : n ≤ 64) (F : List ℕ) (st : State) (long : length (
             });
         other = λ y h. write-other n (st .image) long (st .root) root-in g whole y (hit-apart y (st .root) (omega arith));
         pages = λ y. omega arith;
-        leads = leads-write F n st long (st .root) root-in g whole (λ h. place-old p (I .laid) i x ok room ins slots);
+        leads = leads-write F n st long (st .root) root-in g whole (λ h. place-old p (I .laid) i x ok room ins slots) (omega (arith, apart (st .root), hit-self (st .root), inside-most n (st .root)));
         touch = inr (refl, subst (Lower p) (sym here) (place-lower p (I .laid) i x ok room ins slots));
       }
 

@@ -95,6 +95,9 @@ module _ {a w marks l : List ℕ} {p : ℕ} (D : Done a w marks l p) where
       more m (ap length e ∙ put-length l g p whole room ∙ D .long) (λ q ne. ap (λ (i : List ℕ). pageOf i q) e ∙ put-other l g p whole room q (λ y. ne (sym y)))
       (ap (λ (i : List ℕ). pageOf i p) e ∙ put-same l g p whole room ∙ rw (ne-eqb p 0 (λ z. omega (arith, D .some)), eq-eqb (getD marks p 0) 0 z))
 
+  pub done-spare : getD marks p 0 ≡ 0 → pageOf w p ≡ pageOf a p → Done a w marks l (p + 1)
+  done-spare z e = more l (D .long) (λ q h. refl) (D .above p (omega arith) ∙ e ∙ rw (ne-eqb p 0 (λ y. omega (arith, D .some)), eq-eqb (getD marks p 0) 0 z))
+
   pub done-all : length a ≡ length w → length a ≡ pageSize * pageCount a → pageCount a ≤ p → l ≡ pagesFrom (λ (q : ℕ). eqb q 0 || isMarked marks q) a w (pageCount a) 0
   done-all same whole end =
       pages-whole (kept marks) a w (pageCount a) 0 l (D .long ∙ sym same ∙ whole) (λ i less.

@@ -99,7 +99,7 @@ module _ {n : ℕ} {st : State} {leaf : Leaf} {new : Change} {v : List ℕ} (can
 
           pub copy-index : CanIndex (pageCount w) (record { image = w; root = st .root; free = f }) false (leaf .slot) sep p
           copy-index =
-              can-index (can .here) w (ap length w-is ∙ filling .leads .long) (ap (λ (i : List ℕ). pageOf i (st .root)) w-is ∙ filling .other (st .root) (new-root (can .here) p is-free)) f
+              can-index (can .here) w (ap length w-is ∙ filling .long) (ap (λ (i : List ℕ). pageOf i (st .root)) w-is ∙ filling .other (st .root) (new-root (can .here) p is-free)) f
               (λ y. omega (arith, ap (count y) first)) sep kept p
 
           pub copied-is : indexed false (leaf .slot) (indexRec sep p) (record { image = w; root = st .root; free = f }) done ≡

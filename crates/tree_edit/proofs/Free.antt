@@ -2,17 +2,18 @@
 -- Assumes nothing.
 use Prim.Native.Nat.{ℕ, zero, suc, _+_, _-_, _≤_, _<_}
 use mathlib.Core.Path.{_≡_, refl, sym, ap, ap₂, _∙_}
-use mathlib.Core.Bool.{Bool, true, false, not}
+use mathlib.Core.Bool.{Bool, true, false, not, false≢true}
 use mathlib.Core.List.{List, [], _∷_}
 use native.Mathlib.Omega.{arith}
 use native.Mathlib.Nat.{not-suc-le-zero}
 use lib.ListN.{length, getD}
 use lib.Dec.{eqb}
-use borrow.Author.Tests.{eq-eqb, ne-eqb}
+use borrow.Author.Tests.{eq-eqb, ne-eqb, eqb-true, eqb-false}
 use Rattle.codec.specs.Lists.{pick}
 use Rattle.image.specs.PageZero.{pageCount, rootOf}
 use Rattle.image.specs.Image.{among, reached}
 use Rattle.tree.specs.State.{State, Step, refused, others, begin, takePage, taken}
+use Rattle.tree.proofs.Counts.{hit, count, hit-self}
 use Rattle.tree_edit.specs.Steps.{isMarked, Marks, unmarked, stateOf}
 
 -- ---- one page looked at
@@ -44,6 +45,22 @@ module _ (st : State) (p : ℕ) (f : List ℕ) (k : ℕ → State → Step) wher
   pub taken-first : st .free ≡ p ∷ f → taken st k ≡ k p (record { image = st .image; root = st .root; free = f })
   unfolding taken takePage
   taken-first e = ap (λ (l : List ℕ). takePage l st k) e
+
+-- ---- a page that is not marked is one of them
+
+pub unmarked-counts : (marks : List ℕ) (n p : ℕ) → 1 ≤ p → p ≤ n → isMarked marks p ≡ false → 1 ≤ count p (unmarked marks n)
+unfolding unmarked
+unmarked-counts marks zero p one low e = absurd (omega arith)
+unmarked-counts marks (suc n) p one low e = go (eqb p (suc n)) refl (isMarked marks (suc n)) refl (λ k. unmarked-counts marks n p one k e)
+  where
+    rest : List ℕ
+    rest = unmarked marks n
+
+    go : (b : Bool) → eqb p (suc n) ≡ b → (m : Bool) → isMarked marks (suc n) ≡ m → (p ≤ n → 1 ≤ count p rest) → 1 ≤ count p (pick m rest (suc n ∷ rest))
+    go true z true y more = absurd (false≢true (sym e ∙ ap (isMarked marks) (eqb-true p (suc n) z) ∙ y))
+    go true z false y more = omega (arith, hit-self (suc n), ap (λ (k : ℕ). hit k (suc n)) (eqb-true p (suc n) z))
+    go false z true y more = more (omega (arith, eqb-false p (suc n) z))
+    go false z false y more = omega (arith, more (omega (arith, eqb-false p (suc n) z)))
 
 -- ---- before the first edit
 

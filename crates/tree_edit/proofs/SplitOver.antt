@@ -101,7 +101,7 @@ module _ {n : ℕ} {st : State} {leaf : Leaf} {new : Change} {v : List ℕ} (can
       w-left = copy ∙ ap (λ (l : List Rec). putPage (st .image) p (fill (pageOf (st .image) p) leafKind p l)) left-run
 
       left-long : length w ≡ length (st .image)
-      left-long = ap length w-left ∙ left-page .leads .long
+      left-long = ap length w-left ∙ left-page .long
 
       old-same : pageOf w (leaf .page) ≡ old
       old-same = ap (λ (i : List ℕ). pageOf i (leaf .page)) w-left ∙ left-page .other (leaf .page) (new-leaf (can .here) p left-free)
@@ -136,13 +136,13 @@ module _ {n : ℕ} {st : State} {leaf : Leaf} {new : Change} {v : List ℕ} (can
             ∙ ap (λ (i : List ℕ). putPage i q (fill (pageOf i q) leafKind q right)) w-left
 
         right-page : Filled (st .free) (filled leafKind p left s) t leafKind q right
-        right-page = new-filled can (filled leafKind p left s) (left-page .leads .long ∙ can .here .good .size) q right-free right (parts .1) (halves .right)
+        right-page = new-filled can (filled leafKind p left s) (left-page .long ∙ can .here .good .size) q right-free right (parts .1) (halves .right)
 
         right-shows : Shows (pageOf z q) leafKind q (pageSize - sizes right) right
         right-shows = subst (λ (i : List ℕ). Shows (pageOf i q) leafKind q (pageSize - sizes right) right) (sym z-right) (right-page .shows)
 
         right-long : length z ≡ length (st .image)
-        right-long = ap length z-right ∙ right-page .leads .long ∙ left-page .leads .long
+        right-long = ap length z-right ∙ right-page .long ∙ left-page .long
 
         root-same : pageOf z (st .root) ≡ pageOf (st .image) (st .root)
         root-same =

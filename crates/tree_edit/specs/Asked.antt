@@ -18,7 +18,7 @@ use Rattle.tree.proofs.Sizes.{Entries}
 use Rattle.tree.proofs.Split.{Fits}
 use Rattle.tree.proofs.Pages.{Shows}
 use Rattle.tree.proofs.Tree.{Good}
-use Rattle.tree_edit.specs.Steps.{leafAt, recBy, madeBy}
+use Rattle.tree_edit.specs.Steps.{isMarked, leafAt, recBy, madeBy}
 use Rattle.tree_edit.specs.declared.Leaf.{Leaf}
 use Rattle.tree_edit.specs.declared.Change.{Change}
 
@@ -76,3 +76,7 @@ pub record CanPutBack (image work : List ℕ) : Type 0 where
   pub whole : length image ≡ pageSize * pageCount image
   pub some : 1 ≤ pageCount image
   pub few : pageCount image ≤ 64
+
+-- the pages below top that were not reached before are in work as they are in the image
+abbrev pub Spared : List ℕ → List ℕ → List ℕ → ℕ → Type 0
+Spared before image work top = (p : ℕ) → 1 ≤ p → p < top → isMarked before p ≡ false → pageOf work p ≡ pageOf image p

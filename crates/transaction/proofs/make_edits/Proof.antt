@@ -50,17 +50,17 @@ ended c =
 
 finish-requires : tie.Need-finish-requires
 finish-requires c κs =
-    let s = c .before .before .before .before .before .before .before .before .before .before .before .before .before .before .before .before .before .before .before in
-    let edit-list = c .before .before .before .before .before .before .edit-list in
-    let copy-all = c .before .before .before .before .before .before .before .before .before .before .before .before .before .copy-all in
-    (ended (c .before .before) .good (edit-list .kept .0 ∙ copy-all .kept .0 ∙ s .pre .1), sym (edit-list .kept .0 ∙ copy-all .kept .0 ∙ s .pre .1))
+    let s = c .before .before .before .before .before .before .before .before .before .before .before .before .before .before .before .before .before .before .before .before in
+    let edit-list = c .before .before .before .before .before .before .before .edit-list in
+    let copy-all = c .before .before .before .before .before .before .before .before .before .before .before .before .before .before .copy-all in
+    (ended (c .before .before .before) .good (edit-list .kept .0 ∙ copy-all .kept .0 ∙ s .pre .1), sym (edit-list .kept .0 ∙ copy-all .kept .0 ∙ s .pre .1), ended (c .before .before .before) .spared)
 
 commit-edits-requires : tie.Need-commit-edits-requires
 commit-edits-requires c κs =
-    let s = c .before .before .before .before .before .before .before .before .before .before .before .before .before .before .before .before .before .before .before .before .before .before .before .before .before in
-    let marks-of = c .before .before .before .before .before .before .before .before .before .before .before .before .before .before .before .marks-of in
-    let edited = ended (c .before .before .before .before .before .before .before .before) .edited _ (c .before .before .before .before .before .finish .ensures _) in
-    (s .pre .0, edited, marks-at (s .args .image .now) (marks-of .result) _ (c .before .before .before .before .before .before .before .before .before .before .before .before .before .before .before .before .root-of .ensures) (marks-of .ensures .0) (marks-of .ensures .1))
+    let s = c .before .before .before .before .before .before .before .before .before .before .before .before .before .before .before .before .before .before .before .before .before .before .before .before .before .before in
+    let marks-of = c .before .before .before .before .before .before .before .before .before .before .before .before .before .before .before .before .marks-of in
+    let edited = ended (c .before .before .before .before .before .before .before .before .before) .edited _ (c .before .before .before .before .before .finish .ensures) in
+    (s .pre .0, edited, marks-at (s .args .image .now) (marks-of .result) _ (c .before .before .before .before .before .before .before .before .before .before .before .before .before .before .before .before .before .root-of .ensures) (marks-of .ensures .0) (marks-of .ensures .1))
 
 same-length : tie.Need-same-length
 same-length c = search needs
@@ -78,8 +78,8 @@ same-length-3 c = search needs
 
 returns-2 : tie.Need-returns-2
 returns-2 c =
-    let s = c .before .before .before .before .before .before .before .before .before .before .before .before .before .before .before .before .before .before .before .before .before .before .before .before .before .before .before .before .before .before in
-    finished-shows (s .args .image .now) (s .args .tape .now) _ _ (ended (c .before .before .before .before .before .before .before .before .before .before .before .before .before) .finishes) _ (c .before .before .before .before .before .before .before .before .before .before .finish .ensures _) _ (c .before .before .before .before .commit-edits .ensures)
+    let s = c .before .before .before .before .before .before .before .before .before .before .before .before .before .before .before .before .before .before .before .before .before .before .before .before .before .before .before .before .before .before .before in
+    finished-shows (s .args .image .now) (s .args .tape .now) _ _ (ended (c .before .before .before .before .before .before .before .before .before .before .before .before .before .before) .finishes) _ (c .before .before .before .before .before .before .before .before .before .before .finish .ensures) _ (c .before .before .before .before .commit-edits .ensures)
 
 pub make-edits-spec : {M : Type 1} → statement M
 make-edits-spec =

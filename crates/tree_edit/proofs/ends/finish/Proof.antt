@@ -13,7 +13,7 @@ marks-of-requires c κs = good-marks _ _ (c .before .before .before .pre .0)
 put-back-requires : tie.Need-put-back-requires
 put-back-requires c κs =
     let s = c .before .before .before .before .before .before in
-    can-put-back _ _ _ (s .pre .0) (s .pre .1)
+    (can-put-back _ _ _ (s .pre .0) (s .pre .1), s .pre .2)
 
 put-long-requires : tie.Need-put-long-requires
 put-long-requires c κs =
@@ -26,7 +26,8 @@ same-length c = search needs
 returns : tie.Need-returns
 returns c =
     let s = c .before .before .before .before .before .before .before .before .before .before .before .before .before in
-    λ f. edited-is _ _ _ (s .pre .0) (s .pre .1) (c .before .before .before .before .before .before .before .before .before .marks-of .result) (c .before .before .before .before .before .before .before .before .before .marks-of .ensures .0) _ (c .before .before .before .before .before .before .put-back .ensures) _ (c .before .before .put-long .ensures) f
+    let marks-of = c .before .before .before .before .before .before .before .before .before .marks-of in
+    edited-is _ _ _ (s .pre .0) (s .pre .1) (marks-of .result) (marks-of .ensures .0) _ (c .before .before .before .before .before .before .put-back .ensures) _ (c .before .before .put-long .ensures) _
 
 pub finish-spec : {M : Type 1} → statement M
 finish-spec =

@@ -26,12 +26,15 @@ array-write-marks : tie.Need-array-write-marks Inv-loop μ-loop
 array-write-marks c = omega (arith, root-low _ _ (c .before .before .before .pre) _ (c .before .page-of .ensures))
 
 loop-holds : tie.Need-loop-holds Inv-loop μ-loop
-loop-holds c = (omega arith, simp length-set (length-replicate {A = ℕ} 64 0), mark-root _ _ (c .before .before .before .pre) _ (c .before .page-of .ensures), ones-set (replicate 64 0) (c .before .before .before .args .root) (λ p. omega (arith, zeros-most 64 p)))
+loop-holds c =
+    let s = c .before .before .before in
+    (omega arith, simp length-set (length-replicate {A = ℕ} 64 0), mark-root _ _ (s .pre) _ (c .before .page-of .ensures), ones-set (replicate 64 0) (s .args .root) (λ p. omega (arith, zeros-most 64 p)))
 
 child-at-requires : tie.Need-child-at-requires Inv-loop μ-loop
 child-at-requires c κs =
+    let page-of = c .before .before .before .page-of in
     let s = c .before .before .before .before .before in
-    (rw (c .before .before .before .page-of .ensures) (s .pre .laid), (omega (arith, c .before .before .count .ensures, c .loop-test .taken)), child-two _ _ (s .pre) _ (c .before .before .before .page-of .ensures) _ (omega (arith, c .before .before .count .ensures, c .loop-test .taken)))
+    (rw (page-of .ensures) (s .pre .laid), (omega (arith, c .before .before .count .ensures, c .loop-test .taken)), child-two _ _ (s .pre) _ (page-of .ensures) _ (omega (arith, c .before .before .count .ensures, c .loop-test .taken)))
 
 array-write-marks-2 : tie.Need-array-write-marks-2 Inv-loop μ-loop
 array-write-marks-2 c = omega (arith, child-low _ _ (c .before .before .before .before .before .before .pre) _ (c .before .before .before .before .page-of .ensures) _ (omega (arith, c .before .before .before .count .ensures, c .before .loop-test .taken)) _ (c .child-at .ensures))

@@ -27,8 +27,9 @@ same-length c = search needs
 
 returns : tie.Need-returns
 returns c =
-    let a = c .before .before .before .before .before .before .before .before .before .before .args in
-    let n : length (part (a .src .now) (a .from) 64) ≡ 64 = length-part (a .src .now) (a .from) 64 (c .before .before .before .before .before .before .before .before .before .before .pre .1) in
+    let s = c .before .before .before .before .before .before .before .before .before .before in
+    let a = s .args in
+    let n : length (part (a .src .now) (a .from) 64) ≡ 64 = length-part (a .src .now) (a .from) 64 (s .pre .1) in
     c .before .before .copy2 .ensures ∙ ap (splice (a .dst .now) (a .at)) (part-front (replicate 64 0) (part (a .src .now) (a .from) 64) _ 64 (c .before .before .before .before .before .before .copy .ensures) n (omega (arith, length-replicate {A = ℕ} 64 0)))
 
 pub copy-line-spec : {M : Type 1} → statement M

@@ -104,8 +104,9 @@ same-length c = simp length-set
 
 returns : tie.Need-returns
 returns c =
-    let a = c .before .before .before .before .before .before .before .before .args in
-    splice-eight (a .dst .now) (a .at) _ _ _ _ _ _ _ _ (c .before .before .before .before .before .before .before .before .pre .0) ∙ ap (splice (a .dst .now) (a .at)) (sym (part-eight (a .src .now) (a .from) (c .before .before .before .before .before .before .before .before .pre .1)))
+    let s = c .before .before .before .before .before .before .before .before in
+    let a = s .args in
+    splice-eight (a .dst .now) (a .at) _ _ _ _ _ _ _ _ (s .pre .0) ∙ ap (splice (a .dst .now) (a .at)) (sym (part-eight (a .src .now) (a .from) (s .pre .1)))
 
 pub copy-word-spec : {M : Type 1} → statement M
 copy-word-spec =

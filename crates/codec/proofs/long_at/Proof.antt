@@ -46,7 +46,9 @@ add-result-3 : tie.Need-add-result-3
 add-result-3 c = search needs
 
 returns : tie.Need-returns
-returns c = omega (arith, number-eight (c .before .before .before .before .before .args .s .now) (c .before .before .before .before .before .args .at) (c .before .before .before .before .before .pre))
+returns c =
+    let s = c .before .before .before .before .before in
+    omega (arith, number-eight (s .args .s .now) (s .args .at) (s .pre))
 
 pub long-at-spec : {M : Type 1} → statement M
 long-at-spec =

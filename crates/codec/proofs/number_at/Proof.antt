@@ -30,8 +30,9 @@ add-result c = search needs
 
 returns : tie.Need-returns
 returns c =
-    let a = c .before .before .before .before .before .args in
-    (sym (number-two (a .s .now) (a .at) (c .before .before .before .before .before .pre) ∙ omega arith), omega arith)
+    let s = c .before .before .before .before .before in
+    let a = s .args in
+    (sym (number-two (a .s .now) (a .at) (s .pre) ∙ omega arith), omega arith)
 
 pub number-at-spec : {M : Type 1} → statement M
 number-at-spec =

@@ -17,7 +17,9 @@ abbrev μ-loop : tie.MeasureT-loop
 μ-loop a b i₀ i = length a - i
 
 returns : tie.Need-returns Inv-loop μ-loop
-returns c = sym (eqs-differ (c .before .before .before .args .a .now) (c .before .before .before .args .b .now) (λ e. c .if1 .taken (ap length e)))
+returns c =
+    let s = c .before .before .before in
+    sym (eqs-differ (s .args .a .now) (s .args .b .now) (λ e. c .if1 .taken (ap length e)))
 
 loop-holds : tie.Need-loop-holds Inv-loop μ-loop
 loop-holds c = (omega arith, refl)

@@ -49,14 +49,15 @@ copy-all-requires c κs = search needs
 
 replay-requires : tie.Need-replay-requires
 replay-requires c κs =
+    let judge = c .before .before .before .before .before .before .before .before .before .before .before .before .before .judge in
     let a = c .before .before .before .before .before .before .before .before .before .before .before .before .before .before .before .before .before .before .before .before .args in
-    let found = scanned-commands _ _ (sym (c .before .before .before .before .before .before .before .before .before .before .before .before .before .judge .ensures .0) ∙ c .before .before .before .before .before .before .before .before .before .count .given .1) in
+    let found = scanned-commands _ _ (sym (judge .ensures .0) ∙ c .before .before .before .before .before .before .before .before .before .count .given .1) in
     let same = c .before .before .before .before .before .copy-all .ensures in
     let long = ap length same in (
-      (omega (arith, c .before .before .before .before .before .before .before .before .before .before .before .before .before .judge .kept .0), omega arith),
+      (omega (arith, judge .kept .0), omega arith),
       (
         (ap (λ (w : List ℕ). wellFormed (decode (length w) (a .tape .now))) same ∙ found .0, omega (arith, found .1, ap (λ (w : List ℕ). length (decode (length w) (a .tape .now))) same)),
-        λ l. c .before .before .before .before .before .before .before .before .before .before .before .before .before .judge .ensures .1 (found .0) l ∙ sym (ap (λ (w : List ℕ). flushEnd l 0 (take (a .c) (decode (length w) (a .tape .now)))) same),
+        λ l. judge .ensures .1 (found .0) l ∙ sym (ap (λ (w : List ℕ). flushEnd l 0 (take (a .c) (decode (length w) (a .tape .now)))) same),
       ),
     )
 

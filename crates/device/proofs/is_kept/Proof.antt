@@ -18,7 +18,8 @@ shared-slice-read-if1 c = search needs
 
 returns : tie.Need-returns
 returns c =
-    let e = lt-ltb (c .before .before .args .at) (getD (c .before .before .args .last .now) (c .before .before .args .line) 0) (c .if1 .taken) in
+    let s = c .before .before in
+    let e = lt-ltb (s .args .at) (getD (s .args .last .now) (s .args .line) 0) (c .if1 .taken) in
     (sym (rw e), sym (rw e))
 
 slice-read-more : tie.Need-slice-read-more

@@ -32,8 +32,9 @@ abbrev μ-loop : tie.MeasureT-loop
 
 loop-holds : tie.Need-loop-holds Inv-loop μ-loop
 loop-holds c =
-    let a = c .before .before .args in
-    (omega arith, omega arith, refl, refl, omega arith, λ l. simp sub-zero (ends-start (a .last .now) (take (a .c) (decode (a .n) (a .tape .now))) l (c .before .before .pre .1 l)))
+    let s = c .before .before in
+    let a = s .args in
+    (omega arith, omega arith, refl, refl, omega arith, λ l. simp sub-zero (ends-start (a .last .now) (take (a .c) (decode (a .n) (a .tape .now))) l (s .pre .1 l)))
 
 size-at-requires : tie.Need-size-at-requires Inv-loop μ-loop
 size-at-requires c κs = omega arith
@@ -51,10 +52,11 @@ returns c =
 
 note-requires : tie.Need-note-requires Inv-loop μ-loop
 note-requires c κs =
+    let loop-test = c .before .before .before .before .loop-test in
     let a = c .before .before .before .before .before .before .before .before .args in
     let l = c .before .before .before .before .before .loop in
     let is = some-command (a .n) (l .at) (a .tape .now) (omega (arith, c .before .before .before .size-at .ensures .0)) in
-    (head-at (a .n) (l .at) (a .tape .now) (c .before .before .before .before .loop-test .taken) is, λ q. omega (arith, flush-inside (a .n) (l .at) (a .tape .now) (c .before .before .before .before .loop-test .taken) is q))
+    (head-at (a .n) (l .at) (a .tape .now) (loop-test .taken) is, λ q. omega (arith, flush-inside (a .n) (l .at) (a .tape .now) (loop-test .taken) is q))
 
 add-at : tie.Need-add-at Inv-loop μ-loop
 add-at c = omega (arith, c .before .before .before .before .before .before .size-at .ensures .1)
@@ -67,18 +69,20 @@ loop-less c = omega arith
 
 loop-again : tie.Need-loop-again Inv-loop μ-loop
 loop-again c =
+    let size-at = c .before .before .before .before .before .before .size-at in
+    let loop-test = c .before .before .before .before .before .before .before .loop-test in
     let a = c .before .before .before .before .before .before .before .before .before .before .before .args in
     let l = c .before .before .before .before .before .before .before .before .loop in
-    let is = some-command (a .n) (l .at) (a .tape .now) (omega (arith, c .before .before .before .before .before .before .size-at .ensures .0)) in
-    let size = c .before .before .before .before .before .before .size-at .ensures in
-    let next = past-at (a .n) (l .at) (a .tape .now) (c .before .before .before .before .before .before .before .loop-test .taken) _ (size .0) (omega arith) in
+    let is = some-command (a .n) (l .at) (a .tape .now) (omega (arith, size-at .ensures .0)) in
+    let size = size-at .ensures in
+    let next = past-at (a .n) (l .at) (a .tape .now) (loop-test .taken) _ (size .0) (omega arith) in
     let good = sym (ap wellFormed next ∙ wellFormed-next _ _ (omega arith)) ∙ l .inv .3 in (
       size .1,
       omega arith,
       omega (arith, c .before .before .note .kept .0),
       good,
       omega (arith, ap length next),
-      λ i. judge-turn (a .c) (l .count) _ _ _ (l .last) _ (l .at) _ _ (c .before .before .before .before .if2 .taken) next (on-at (a .n) (l .at) (a .tape .now) (c .before .before .before .before .before .before .before .loop-test .taken) is) (λ q. omega (arith, flush-inside (a .n) (l .at) (a .tape .now) (c .before .before .before .before .before .before .before .loop-test .taken) is (eqb-true _ 3 q))) (c .before .before .note .ensures) _ (size .0) i ∙ l .inv .5 i,
+      λ i. judge-turn (a .c) (l .count) _ _ _ (l .last) _ (l .at) _ _ (c .before .before .before .before .if2 .taken) next (on-at (a .n) (l .at) (a .tape .now) (loop-test .taken) is) (λ q. omega (arith, flush-inside (a .n) (l .at) (a .tape .now) (loop-test .taken) is (eqb-true _ 3 q))) (c .before .before .note .ensures) _ (size .0) i ∙ l .inv .5 i,
     )
 
 add-at-2 : tie.Need-add-at-2 Inv-loop μ-loop

@@ -105,7 +105,9 @@ same-length c = c .before .loop .inv .1
 
 returns : tie.Need-returns Inv-loop μ-loop
 unfolding after
-returns c = sym (ap (after (c .before .loop .work)) (decode-end (length (c .before .before .before .before .args .work .now)) (c .before .loop .at) (c .before .before .before .before .args .tape .now) (c .loop-test .left))) ∙ c .before .loop .inv .3
+returns c =
+    let s = c .before .before .before .before in
+    sym (ap (after (c .before .loop .work)) (decode-end (length (s .args .work .now)) (c .before .loop .at) (s .args .tape .now) (c .loop-test .left))) ∙ c .before .loop .inv .3
 
 pub play-spec : {M : Type 1} → statement M
 play-spec =

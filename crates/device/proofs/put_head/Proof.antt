@@ -27,12 +27,13 @@ same-length c = search needs
 
 returns : tie.Need-returns
 returns c =
-    let a = c .before .before .before .before .before .before .before .before .before .args in
+    let s = c .before .before .before .before .before .before .before .before .before in
+    let a = s .args in
     let four : length (bytesOf 2 (a .kind)) ≡ 2 = length-bytesOf 2 (a .kind) in
     let two : length (bytesOf 2 (a .place)) ≡ 2 = length-bytesOf 2 (a .place) in
     c .before .before .put-number2 .ensures
     ∙ splice-next (a .tape .now) (a .at) (bytesOf 2 (a .kind)) (bytesOf 2 (a .place)) _ (a .at + 2) (c .before .before .before .before .before .before .put-number .ensures) (omega arith) (omega arith)
-    ∙ ap (splice (a .tape .now) (a .at)) (headBytes-two (a .kind) (a .place) (c .before .before .before .before .before .before .before .before .before .pre .1))
+    ∙ ap (splice (a .tape .now) (a .at)) (headBytes-two (a .kind) (a .place) (s .pre .1))
 
 pub put-head-spec : {M : Type 1} → statement M
 put-head-spec =

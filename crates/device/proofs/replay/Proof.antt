@@ -27,12 +27,15 @@ abbrev μ-loop : tie.MeasureT-loop
 loop-holds : tie.Need-loop-holds Inv-loop μ-loop
 unfolding cutImage
 loop-holds c =
-    let a = c .before .before .before .before .args in
-    (omega arith, refl, refl, c .before .before .before .before .pre .1 .0 .0, c .before .before .before .before .pre .1 .0 .1, λ l. noted-start (a .last .now) (take (a .c) (decode (length (a .work .now)) (a .tape .now))) l (c .before .before .before .before .pre .1 .1 l), refl)
+    let s = c .before .before .before .before in
+    let a = s .args in
+    (omega arith, refl, refl, s .pre .1 .0 .0, s .pre .1 .0 .1, λ l. noted-start (a .last .now) (take (a .c) (decode (length (a .work .now)) (a .tape .now))) l (s .pre .1 .1 l), refl)
 
 -- bytes are left where commands are
 more : (c : tie.In-loop Inv-loop μ-loop) → c .before .loop .at < length (c .before .before .before .before .before .before .args .tape .now)
-more c = more-at (length (c .before .before .before .before .before .before .args .work .now)) (c .before .loop .at) (c .before .before .before .before .before .before .args .tape .now) (omega arith)
+more c =
+    let s = c .before .before .before .before .before .before in
+    more-at (length (s .args .work .now)) (c .before .loop .at) (s .args .tape .now) (omega arith)
 
 -- a command stands at the place reached
 here : (c : tie.In-loop Inv-loop μ-loop) → isCommand (length (c .before .before .before .before .before .before .args .work .now)) (drop (c .before .loop .at) (c .before .before .before .before .before .before .args .tape .now)) ≡ true
@@ -71,15 +74,18 @@ loop-less c = omega arith
 
 loop-again : tie.Need-loop-again Inv-loop μ-loop
 loop-again c =
+    let s = c .before .before .before .before .before .before .before .before .before .before .before .before .before .before .before .before in
+    let keep-word = c .before .before .before .before .keep-word in
+    let loop-test = c .before .before .before .before .before .before .before .before .before .before .loop-test in
     let k = word (c .before .before .before .before .before .before .before) in
     let l = c .before .before .before .before .before .before .before .before .before .before .before .loop in (
       k .inTape,
-      omega (arith, c .before .before .before .before .keep-word .kept .0),
-      omega (arith, c .before .before .before .before .keep-word .kept .1),
+      omega (arith, keep-word .kept .0),
+      omega (arith, keep-word .kept .1),
       store-good _ _ _ _ _ k (l .inv .3),
       omega (arith, ap length (k .next)),
-      noted-past-store (length (c .before .before .before .before .before .before .before .before .before .before .before .before .before .before .before .before .args .work .now)) (c .before .before .before .before .before .before .before .before .before .before .before .before .before .before .before .before .args .tape .now) (l .at) (l .todo) (c .before .before .before .before .before .before .before .before .before .before .loop-test .taken) (c .before .before .before .before .before .before .before .before .before .before .before .before .before .before .before .before .args .last .now) (l .inv .5) _ _ k,
-      replay-store (length (c .before .before .before .before .before .before .before .before .before .before .before .before .before .before .before .before .args .work .now)) (c .before .before .before .before .before .before .before .before .before .before .before .before .before .before .before .before .args .tape .now) (l .at) (l .todo) (c .before .before .before .before .before .before .before .before .before .before .loop-test .taken) (c .before .before .before .before .before .before .before .before .before .before .before .before .before .before .before .before .args .last .now) (l .inv .5) _ _ k _ (l .work) (l .left) _ _ (omega arith) (l .inv .1) (omega arith) (c .before .before .before .before .keep-word .ensures) ∙ l .inv .6,
+      noted-past-store (length (s .args .work .now)) (s .args .tape .now) (l .at) (l .todo) (loop-test .taken) (s .args .last .now) (l .inv .5) _ _ k,
+      replay-store (length (s .args .work .now)) (s .args .tape .now) (l .at) (l .todo) (loop-test .taken) (s .args .last .now) (l .inv .5) _ _ k _ (l .work) (l .left) _ _ (omega arith) (l .inv .1) (omega arith) (keep-word .ensures) ∙ l .inv .6,
     )
 
 keep-line-requires : tie.Need-keep-line-requires Inv-loop μ-loop
@@ -96,15 +102,18 @@ loop-less-2 c = omega arith
 
 loop-again-2 : tie.Need-loop-again-2 Inv-loop μ-loop
 loop-again-2 c =
+    let s = c .before .before .before .before .before .before .before .before .before .before .before .before .before .before .before .before .before in
+    let keep-line = c .before .before .before .before .keep-line in
+    let loop-test = c .before .before .before .before .before .before .before .before .before .before .before .loop-test in
     let k = line (c .before .before .before .before .before .before .before) in
     let l = c .before .before .before .before .before .before .before .before .before .before .before .before .loop in (
       k .inTape,
-      omega (arith, c .before .before .before .before .keep-line .kept .0),
-      omega (arith, c .before .before .before .before .keep-line .kept .1),
+      omega (arith, keep-line .kept .0),
+      omega (arith, keep-line .kept .1),
       store-good _ _ _ _ _ k (l .inv .3),
       omega (arith, ap length (k .next)),
-      noted-past-store (length (c .before .before .before .before .before .before .before .before .before .before .before .before .before .before .before .before .before .args .work .now)) (c .before .before .before .before .before .before .before .before .before .before .before .before .before .before .before .before .before .args .tape .now) (l .at) (l .todo) (c .before .before .before .before .before .before .before .before .before .before .before .loop-test .taken) (c .before .before .before .before .before .before .before .before .before .before .before .before .before .before .before .before .before .args .last .now) (l .inv .5) _ _ k,
-      replay-store (length (c .before .before .before .before .before .before .before .before .before .before .before .before .before .before .before .before .before .args .work .now)) (c .before .before .before .before .before .before .before .before .before .before .before .before .before .before .before .before .before .args .tape .now) (l .at) (l .todo) (c .before .before .before .before .before .before .before .before .before .before .before .loop-test .taken) (c .before .before .before .before .before .before .before .before .before .before .before .before .before .before .before .before .before .args .last .now) (l .inv .5) _ _ k _ (l .work) (l .left) _ _ (omega arith) (l .inv .1) (omega arith) (c .before .before .before .before .keep-line .ensures) ∙ l .inv .6,
+      noted-past-store (length (s .args .work .now)) (s .args .tape .now) (l .at) (l .todo) (loop-test .taken) (s .args .last .now) (l .inv .5) _ _ k,
+      replay-store (length (s .args .work .now)) (s .args .tape .now) (l .at) (l .todo) (loop-test .taken) (s .args .last .now) (l .inv .5) _ _ k _ (l .work) (l .left) _ _ (omega arith) (l .inv .1) (omega arith) (keep-line .ensures) ∙ l .inv .6,
     )
 
 add-at-3 : tie.Need-add-at-3 Inv-loop μ-loop
@@ -118,6 +127,8 @@ loop-less-3 c = omega arith
 
 loop-again-3 : tie.Need-loop-again-3 Inv-loop μ-loop
 loop-again-3 c =
+    let s = c .before .before .before .before .before .before .before .before .before .before in
+    let loop-test = c .before .before .before .before .loop-test in
     let k = flushed-line c in
     let l = c .before .before .before .before .before .loop in (
       k .inTape,
@@ -125,8 +136,8 @@ loop-again-3 c =
       l .inv .2,
       flush-good _ _ _ _ k (l .inv .3),
       omega (arith, ap length (k .next)),
-      noted-past-flush (length (c .before .before .before .before .before .before .before .before .before .before .args .work .now)) (c .before .before .before .before .before .before .before .before .before .before .args .tape .now) (l .at) (l .todo) (c .before .before .before .before .loop-test .taken) (c .before .before .before .before .before .before .before .before .before .before .args .last .now) (l .inv .5) _ k,
-      replay-flush (length (c .before .before .before .before .before .before .before .before .before .before .args .work .now)) (c .before .before .before .before .before .before .before .before .before .before .args .tape .now) (l .at) (l .todo) (c .before .before .before .before .loop-test .taken) (c .before .before .before .before .before .before .before .before .before .before .args .last .now) (l .inv .5) _ k (l .work) (l .left) ∙ l .inv .6,
+      noted-past-flush (length (s .args .work .now)) (s .args .tape .now) (l .at) (l .todo) (loop-test .taken) (s .args .last .now) (l .inv .5) _ k,
+      replay-flush (length (s .args .work .now)) (s .args .tape .now) (l .at) (l .todo) (loop-test .taken) (s .args .last .now) (l .inv .5) _ k (l .work) (l .left) ∙ l .inv .6,
     )
 
 same-length : tie.Need-same-length Inv-loop μ-loop

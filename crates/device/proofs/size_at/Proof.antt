@@ -65,10 +65,11 @@ returns-3 c =
 
 returns-4 : tie.Need-returns-4
 returns-4 c =
+    let size-of = c .before .before .before .size-of in
     let a = c .before .before .before .before .before .before .before .before .args in
     let r = read (c .before .before .before .before) in
     let byte = rw (add-zero (a .at)) at (getD-drop (a .at) (a .tape .now) 0 0) in
-    (c .before .before .before .size-of .ensures .0 ∙ sym (extent-size (a .n) _ (r .0) _ _ (r .1) (r .2) (omega (arith, byte, c .before .before .before .before .before .before .before .shared-slice-known .given (a .at))) (omega (arith, length-drop (a .at) (a .tape .now), c .before .before .before .size-of .ensures .0)) (omega (arith, c .before .end-of .ensures))), omega (arith, length-drop (a .at) (a .tape .now)))
+    (size-of .ensures .0 ∙ sym (extent-size (a .n) _ (r .0) _ _ (r .1) (r .2) (omega (arith, byte, c .before .before .before .before .before .before .before .shared-slice-known .given (a .at))) (omega (arith, length-drop (a .at) (a .tape .now), size-of .ensures .0)) (omega (arith, c .before .end-of .ensures))), omega (arith, length-drop (a .at) (a .tape .now)))
 
 pub size-at-spec : {M : Type 1} → statement M
 size-at-spec =

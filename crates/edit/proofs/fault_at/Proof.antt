@@ -13,7 +13,9 @@ sub-left : tie.Need-sub-left
 sub-left c = search needs
 
 returns : tie.Need-returns
-returns c = sym (fault-short (c .before .before .args .list .now) (c .before .before .args .at) (c .if1 .taken))
+returns c =
+    let s = c .before .before in
+    sym (fault-short (s .args .list .now) (s .args .at) (c .if1 .taken))
 
 add-wide : tie.Need-add-wide
 add-wide c = search needs
@@ -31,16 +33,25 @@ bad-head-requires : tie.Need-bad-head-requires
 bad-head-requires c κs = search needs
 
 returns-2 : tie.Need-returns-2
-returns-2 c = sym (fault-head (c .before .before .before .before .before .before .before .args .list .now) (c .before .before .before .before .before .before .before .args .at) (c .before .before .before .before .before .if1 .left) (c .before .before .before .wide .result) (c .before .before .before .wide .ensures .0) (sym (c .before .bad-head .ensures) ∙ c .if2 .taken))
+returns-2 c =
+    let s = c .before .before .before .before .before .before .before in
+    let wide = c .before .before .before .wide in
+    sym (fault-head (s .args .list .now) (s .args .at) (c .before .before .before .before .before .if1 .left) (wide .result) (wide .ensures .0) (sym (c .before .bad-head .ensures) ∙ c .if2 .taken))
 
 add-whole : tie.Need-add-whole
 add-whole c = search needs
 
 returns-3 : tie.Need-returns-3
-returns-3 c = sym (fault-value (c .before .before .before .before .before .before .before .before .args .list .now) (c .before .before .before .before .before .before .before .before .args .at) (c .before .before .before .before .before .before .if1 .left) (c .before .before .before .before .wide .result) (c .before .before .before .before .wide .ensures .0) (sym (c .before .before .bad-head .ensures) ∙ c .before .if2 .left) (c .if3 .taken))
+returns-3 c =
+    let s = c .before .before .before .before .before .before .before .before in
+    let wide = c .before .before .before .before .wide in
+    sym (fault-value (s .args .list .now) (s .args .at) (c .before .before .before .before .before .before .if1 .left) (wide .result) (wide .ensures .0) (sym (c .before .before .bad-head .ensures) ∙ c .before .if2 .left) (c .if3 .taken))
 
 returns-4 : tie.Need-returns-4
-returns-4 c = sym (fault-cut (c .before .before .before .before .before .before .before .before .before .args .list .now) (c .before .before .before .before .before .before .before .before .before .args .at) (c .before .before .before .before .before .before .before .if1 .left) (c .before .before .before .before .before .wide .result) (c .before .before .before .before .before .wide .ensures .0) (sym (c .before .before .before .bad-head .ensures) ∙ c .before .before .if2 .left) (c .before .if3 .left) (c .if4 .taken))
+returns-4 c =
+    let s = c .before .before .before .before .before .before .before .before .before in
+    let wide = c .before .before .before .before .before .wide in
+    sym (fault-cut (s .args .list .now) (s .args .at) (c .before .before .before .before .before .before .before .if1 .left) (wide .result) (wide .ensures .0) (sym (c .before .before .before .bad-head .ensures) ∙ c .before .before .if2 .left) (c .before .if3 .left) (c .if4 .taken))
 
 add-long-at : tie.Need-add-long-at
 add-long-at c = search needs
@@ -52,7 +63,10 @@ key-fault-requires : tie.Need-key-fault-requires
 key-fault-requires c κs = search needs
 
 returns-5 : tie.Need-returns-5
-returns-5 c = c .key-fault .ensures ∙ ap (λ (k : ℕ). pick (keyOk k) 0 6) (c .before .long-at .ensures) ∙ sym (fault-key (c .before .before .before .before .before .before .before .before .before .before .before .args .list .now) (c .before .before .before .before .before .before .before .before .before .before .before .args .at) (c .before .before .before .before .before .before .before .before .before .if1 .left) (c .before .before .before .before .before .before .before .wide .result) (c .before .before .before .before .before .before .before .wide .ensures .0) (sym (c .before .before .before .before .before .bad-head .ensures) ∙ c .before .before .before .before .if2 .left) (c .before .before .before .if3 .left) (c .before .before .if4 .left))
+returns-5 c =
+    let s = c .before .before .before .before .before .before .before .before .before .before .before in
+    let wide = c .before .before .before .before .before .before .before .wide in
+    c .key-fault .ensures ∙ ap (λ (k : ℕ). pick (keyOk k) 0 6) (c .before .long-at .ensures) ∙ sym (fault-key (s .args .list .now) (s .args .at) (c .before .before .before .before .before .before .before .before .before .if1 .left) (wide .result) (wide .ensures .0) (sym (c .before .before .before .before .before .bad-head .ensures) ∙ c .before .before .before .before .if2 .left) (c .before .before .before .if3 .left) (c .before .before .if4 .left))
 
 pub fault-at-spec : {M : Type 1} → statement M
 fault-at-spec =

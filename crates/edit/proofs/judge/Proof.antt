@@ -29,7 +29,9 @@ fault-at-requires : tie.Need-fault-at-requires Inv-loop μ-loop
 fault-at-requires c κs = omega arith
 
 returns-3 : tie.Need-returns-3 Inv-loop μ-loop
-returns-3 c = sym (judged-fault (c .before .before .before .before .before .before .before .args .list .now) (c .before .before .before .before .loop .at) (c .before .before .before .loop-test .taken) _ (c .before .before .before .before .loop .edit) (15 - c .before .before .before .before .loop .edit) (omega arith) _ (c .before .fault-at .ensures) (c .if3 .taken)) ∙ c .before .before .before .before .loop .inv .2
+returns-3 c =
+    let loop = c .before .before .before .before .loop in
+    sym (judged-fault (c .before .before .before .before .before .before .before .args .list .now) (loop .at) (c .before .before .before .loop-test .taken) _ (loop .edit) (15 - loop .edit) (omega arith) _ (c .before .fault-at .ensures) (c .if3 .taken)) ∙ loop .inv .2
 
 add-at : tie.Need-add-at Inv-loop μ-loop
 add-at c = omega (arith, (faultless-in (c .before .before .before .before .before .before .before .args .list .now) (c .before .before .before .before .loop .at) (sym (c .before .fault-at .ensures) ∙ c .if3 .left) (omega arith)))
@@ -53,11 +55,14 @@ loop-less : tie.Need-loop-less Inv-loop μ-loop
 loop-less c = omega (arith, (faultless-in (c .before .before .before .before .before .before .before .before .before .args .list .now) (c .before .before .before .before .before .before .loop .at) (sym (c .before .before .before .fault-at .ensures) ∙ c .before .before .if3 .left) (omega arith)), c .wide .ensures .0)
 
 loop-again : tie.Need-loop-again Inv-loop μ-loop
-loop-again c = (
-  omega (arith, (faultless-in (c .before .before .before .before .before .before .before .before .before .args .list .now) (c .before .before .before .before .before .before .loop .at) (sym (c .before .before .before .fault-at .ensures) ∙ c .before .before .if3 .left) (omega arith)), c .wide .ensures .0),
-  omega arith,
-  sym (judged-next (c .before .before .before .before .before .before .before .before .before .args .list .now) (c .before .before .before .before .before .before .loop .at) (c .before .before .before .before .before .loop-test .taken) (16 - c .before .before .before .before .before .before .loop .edit) (c .before .before .before .before .before .before .loop .edit) (16 - (c .before .before .before .before .before .before .loop .edit + 1)) (omega arith) (c .before .before .before .before .before .before .loop .at + 10 + c .wide .result) (sym (c .before .before .before .fault-at .ensures) ∙ c .before .before .if3 .left) (omega (arith, c .wide .ensures .0))) ∙ c .before .before .before .before .before .before .loop .inv .2,
-)
+loop-again c =
+    let s = c .before .before .before .before .before .before .before .before .before in
+    let fault-at = c .before .before .before .fault-at in
+    let loop = c .before .before .before .before .before .before .loop in (
+      omega (arith, (faultless-in (s .args .list .now) (loop .at) (sym (fault-at .ensures) ∙ c .before .before .if3 .left) (omega arith)), c .wide .ensures .0),
+      omega arith,
+      sym (judged-next (s .args .list .now) (loop .at) (c .before .before .before .before .before .loop-test .taken) (16 - loop .edit) (loop .edit) (16 - (loop .edit + 1)) (omega arith) (loop .at + 10 + c .wide .result) (sym (fault-at .ensures) ∙ c .before .before .if3 .left) (omega (arith, c .wide .ensures .0))) ∙ loop .inv .2,
+    )
 
 returns-4 : tie.Need-returns-4 Inv-loop μ-loop
 returns-4 c = sym (judged-end (c .before .before .before .before .args .list .now) (c .before .loop .at) (16 - c .before .loop .edit) (c .before .loop .edit) (c .loop-test .left)) ∙ c .before .loop .inv .2

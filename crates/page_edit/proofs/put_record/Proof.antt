@@ -55,13 +55,14 @@ same-length c = search needs
 
 returns : tie.Need-returns
 returns c =
+    let copy = c .before .before .before .before .before .before .before .copy in
     let s = c .before .before .before .before .before .before .before .before .before .before .before .before .before .before .before .before .before .before .before in
     let v = s .args .value .now in
-    let q = c .before .before .before .before .before .before .before .copy .last .0 in
+    let q = copy .last .0 in
     record-written _ _ _ v _ _ _ _ (s .pre .1) (omega arith)
     (c .before .before .before .before .before .before .before .before .before .before .before .before .before .before .before .put-long .ensures)
     (c .before .before .before .before .before .before .before .before .before .before .before .put-long2 .ensures)
-    (c .before .before .before .before .before .before .before .copy .ensures)
+    (copy .ensures)
     (c .before .before .fill .ensures ∙ ap (λ (n : ℕ). splice q (s .args .at + 16 + length v) (replicate (n - length v) 0)) (c .before .before .before .round-up .ensures))
 
 pub put-record-spec : {M : Type 1} → statement M

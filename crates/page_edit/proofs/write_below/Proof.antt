@@ -35,8 +35,9 @@ same-length c = search needs
 returns : tie.Need-returns
 unfolding written
 returns c =
+    let round-up = c .before .before .before .before .round-up in
     let s = c .before .before .before .before .before .before .before in
-    let z = size-of (s .args .key) (s .args .value .now) (c .before .before .before .before .round-up .result) (c .before .before .before .before .round-up .ensures) in
+    let z = size-of (s .args .key) (s .args .value .now) (round-up .result) (round-up .ensures) in
     let r = recOf (s .args .key) (s .args .value .now) in
     (z, c .before .before .put-record .ensures ∙ ap (λ (n : ℕ). splice (s .args .page .now) (s .args .start - n) (recordBytes r)) z)
 

@@ -30,8 +30,9 @@ same-length c = search needs
 
 returns : tie.Need-returns
 returns c =
+    let place = c .before .before .before .before .before .place in
     let s = c .before .before .before .before .before .before .before .before in
-    c .before .before .put-numbers .ensures ∙ commit-written (s .args .commit) (Header (c .before .before .before .before .before .place .given .0 .0)) (c .before .before .before .before .before .place .given .1) (s .args .answer .now)
+    c .before .before .put-numbers .ensures ∙ commit-written (s .args .commit) (Header (place .given .0 .0)) (place .given .1) (s .args .answer .now)
 
 same-length-2 : tie.Need-same-length-2
 same-length-2 c = search needs

@@ -16,7 +16,9 @@ same-length : tie.Need-same-length
 same-length c = search needs
 
 returns : tie.Need-returns
-returns c = (c .number-of .ensures ∙ ap numberOf (c .before .before .before .cut .ensures .0), c .before .before .before .cut .ensures .1)
+returns c =
+    let cut = c .before .before .before .cut in
+    (c .number-of .ensures ∙ ap numberOf (cut .ensures .0), cut .ensures .1)
 
 pub quote-cut-spec : {M : Type 1} → statement M
 quote-cut-spec = tie.close (tie.spec cut-requires number-of-requires same-length returns)

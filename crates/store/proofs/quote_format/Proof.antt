@@ -16,7 +16,9 @@ same-length : tie.Need-same-length
 same-length c = search needs
 
 returns : tie.Need-returns
-returns c = (c .number-of .ensures ∙ ap numberOf (c .before .before .before .format .ensures .0), c .before .before .before .format .ensures .1)
+returns c =
+    let format = c .before .before .before .format in
+    (c .number-of .ensures ∙ ap numberOf (format .ensures .0), format .ensures .1)
 
 pub quote-format-spec : {M : Type 1} → statement M
 quote-format-spec = tie.close (tie.spec format-requires number-of-requires same-length returns)

@@ -31,7 +31,9 @@ same-length c = search needs
 
 returns : tie.Need-returns
 unfolding lookupNumber lookupNumbers
-returns c = written lookupNumber lookupNumbers _ (Found (c .before .before .before .before .before .offset .given .0 .0) (c .before .before .before .before .before .offset .given .0 .1 .0)) (sym (c .before .before .before .before .before .before .before .lookup .ensures) ∙ c .before .before .before .before .before .offset .given .1) _ _ (c .before .before .put-numbers .ensures)
+returns c =
+    let offset = c .before .before .before .before .before .offset in
+    written lookupNumber lookupNumbers _ (Found (offset .given .0 .0) (offset .given .0 .1 .0)) (sym (c .before .before .before .before .before .before .before .lookup .ensures) ∙ offset .given .1) _ _ (c .before .before .put-numbers .ensures)
 
 same-length-2 : tie.Need-same-length-2
 same-length-2 c = search needs

@@ -31,7 +31,9 @@ same-length c = search needs
 
 returns : tie.Need-returns
 unfolding nextNumber nextNumbers
-returns c = written nextNumber nextNumbers _ (Key (c .before .before .before .before .before .next .given .0 .0)) (sym (c .before .before .before .before .before .before .before .next-key .ensures) ∙ c .before .before .before .before .before .next .given .1) _ _ (c .before .before .put-numbers .ensures)
+returns c =
+    let next = c .before .before .before .before .before .next in
+    written nextNumber nextNumbers _ (Key (next .given .0 .0)) (sym (c .before .before .before .before .before .before .before .next-key .ensures) ∙ next .given .1) _ _ (c .before .before .put-numbers .ensures)
 
 same-length-2 : tie.Need-same-length-2
 same-length-2 c = search needs

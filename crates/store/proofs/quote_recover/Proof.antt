@@ -31,7 +31,10 @@ same-length-3 c = search needs
 
 returns : tie.Need-returns
 unfolding recoveredNumber recoveredNumbers
-returns c = let w = written recoveredNumber recoveredNumbers _ (Accepted (c .before .before .before .before .before .done .given .0 .0)) (sym (c .before .before .before .before .before .before .before .before .before .before .before .recover .ensures .0) ∙ c .before .before .before .before .before .done .given .1) _ _ (c .before .before .put-numbers .ensures) in (w .0, (c .before .before .before .before .before .before .before .before .before .before .before .recover .ensures .1 .0, (c .before .before .before .before .before .before .before .before .before .before .before .recover .ensures .1 .1, w .1)))
+returns c =
+    let done = c .before .before .before .before .before .done in
+    let recover = c .before .before .before .before .before .before .before .before .before .before .before .recover in
+    let w = written recoveredNumber recoveredNumbers _ (Accepted (done .given .0 .0)) (sym (recover .ensures .0) ∙ done .given .1) _ _ (c .before .before .put-numbers .ensures) in (w .0, (recover .ensures .1 .0, (recover .ensures .1 .1, w .1)))
 
 same-length-4 : tie.Need-same-length-4
 same-length-4 c = search needs
@@ -41,7 +44,9 @@ same-length-5 c = search needs
 
 returns-2 : tie.Need-returns-2
 unfolding recoveredNumber recoveredNumbers
-returns-2 c = let w = written recoveredNumber recoveredNumbers _ (Refused (c .before .refusal .given .0 .0)) (sym (c .before .before .before .before .before .before .before .recover .ensures .0) ∙ c .before .refusal .given .1) _ _ (sym (lent-none _)) in (w .0, (c .before .before .before .before .before .before .before .recover .ensures .1 .0, (c .before .before .before .before .before .before .before .recover .ensures .1 .1, w .1)))
+returns-2 c =
+    let recover = c .before .before .before .before .before .before .before .recover in
+    let w = written recoveredNumber recoveredNumbers _ (Refused (c .before .refusal .given .0 .0)) (sym (recover .ensures .0) ∙ c .before .refusal .given .1) _ _ (sym (lent-none _)) in (w .0, (recover .ensures .1 .0, (recover .ensures .1 .1, w .1)))
 
 pub quote-recover-spec : {M : Type 1} → statement M
 quote-recover-spec =

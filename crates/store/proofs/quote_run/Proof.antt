@@ -16,7 +16,9 @@ same-length : tie.Need-same-length
 same-length c = search needs
 
 returns : tie.Need-returns
-returns c = (c .number-of .ensures ∙ ap numberOf (c .before .before .before .run .ensures .0), c .before .before .before .run .ensures .1)
+returns c =
+    let run = c .before .before .before .run in
+    (c .number-of .ensures ∙ ap numberOf (run .ensures .0), run .ensures .1)
 
 pub quote-run-spec : {M : Type 1} → statement M
 quote-run-spec = tie.close (tie.spec run-requires number-of-requires same-length returns)

@@ -37,7 +37,10 @@ same-length-3 c = search needs
 
 returns : tie.Need-returns
 unfolding transactedNumber transactedNumbers
-returns c = let w = written transactedNumber transactedNumbers _ (Accepted (c .before .before .before .before .before .commit .given .0 .0)) (sym (c .before .before .before .before .before .before .before .before .before .before .before .transaction .ensures .0) ∙ c .before .before .before .before .before .commit .given .1) _ _ (c .before .before .put-commit .ensures) in (w .0, (c .before .before .before .before .before .before .before .before .before .before .before .transaction .ensures .1 .0, (c .before .before .before .before .before .before .before .before .before .before .before .transaction .ensures .1 .1, w .1)))
+returns c =
+    let commit = c .before .before .before .before .before .commit in
+    let transaction = c .before .before .before .before .before .before .before .before .before .before .before .transaction in
+    let w = written transactedNumber transactedNumbers _ (Accepted (commit .given .0 .0)) (sym (transaction .ensures .0) ∙ commit .given .1) _ _ (c .before .before .put-commit .ensures) in (w .0, (transaction .ensures .1 .0, (transaction .ensures .1 .1, w .1)))
 
 same-length-4 : tie.Need-same-length-4
 same-length-4 c = search needs
@@ -50,7 +53,10 @@ same-length-6 c = search needs
 
 returns-2 : tie.Need-returns-2
 unfolding transactedNumber transactedNumbers
-returns-2 c = let w = written transactedNumber transactedNumbers _ (Refused (c .before .before .before .before .before .before .refusal .given .0 .0)) (sym (c .before .before .before .before .before .before .before .before .before .before .before .before .transaction .ensures .0) ∙ c .before .before .before .before .before .before .refusal .given .1) _ _ (c .before .before .put-numbers .ensures) in (w .0, (c .before .before .before .before .before .before .before .before .before .before .before .before .transaction .ensures .1 .0, (c .before .before .before .before .before .before .before .before .before .before .before .before .transaction .ensures .1 .1, w .1)))
+returns-2 c =
+    let refusal = c .before .before .before .before .before .before .refusal in
+    let transaction = c .before .before .before .before .before .before .before .before .before .before .before .before .transaction in
+    let w = written transactedNumber transactedNumbers _ (Refused (refusal .given .0 .0)) (sym (transaction .ensures .0) ∙ refusal .given .1) _ _ (c .before .before .put-numbers .ensures) in (w .0, (transaction .ensures .1 .0, (transaction .ensures .1 .1, w .1)))
 
 pub quote-transaction-spec : {M : Type 1} → statement M
 quote-transaction-spec =

@@ -25,7 +25,9 @@ same-length : tie.Need-same-length
 same-length c = search needs
 
 returns : tie.Need-returns
-returns c = tape-then (c .before .before .before .before .before .before .before .before .before .before .before .args .tape .now) _ _ 0 (12 * c .before .before .before .before .before .before .before .before .before .before .before .args .n) (map (wordStore (c .before .before .before .before .before .before .before .before .before .before .before .args .work .now)) (take (c .before .before .before .before .before .before .before .before .before .before .before .args .n) (c .before .before .before .before .before .before .before .before .before .before .before .args .words .now))) (map flush (linesPast 0 (take (c .before .before .before .before .before .before .before .before .before .before .before .args .n) (c .before .before .before .before .before .before .before .before .before .before .before .args .words .now)))) (c .before .before .before .before .before .before .emit-words .ensures) (omega (arith, words-size (c .before .before .before .before .before .before .before .before .before .before .before .args .work .now) (take (c .before .before .before .before .before .before .before .before .before .before .before .args .n) (c .before .before .before .before .before .before .before .before .before .before .before .args .words .now)) (c .before .before .before .before .before .before .before .before .before .before .before .pre .2), first-length (c .before .before .before .before .before .before .before .before .before .before .before .args .words .now) (c .before .before .before .before .before .before .before .before .before .before .before .args .n) (c .before .before .before .before .before .before .before .before .before .before .before .pre .1))) (c .before .before .emit-flushes .ensures)
+returns c =
+    let s = c .before .before .before .before .before .before .before .before .before .before .before in
+    tape-then (s .args .tape .now) _ _ 0 (12 * s .args .n) (map (wordStore (s .args .work .now)) (take (s .args .n) (s .args .words .now))) (map flush (linesPast 0 (take (s .args .n) (s .args .words .now)))) (c .before .before .before .before .before .before .emit-words .ensures) (omega (arith, words-size (s .args .work .now) (take (s .args .n) (s .args .words .now)) (s .pre .2), first-length (s .args .words .now) (s .args .n) (s .pre .1))) (c .before .before .emit-flushes .ensures)
 
 pub emit-stage-spec : {M : Type 1} → statement M
 emit-stage-spec =

@@ -29,8 +29,9 @@ enum-known-i c = search needs
 
 found : (c : tie.After-i) → c .i .given .0 .0 < length (records (c .before .before .before .before .args .page .now))
 found c =
-    let a = c .before .before .before .before .args in
-    search-at leafKind (a .own) (a .own) (a .page .now) (c .before .before .before .before .pre) (a .key) (c .i .given .0 .0) (sym (c .before .before .find .ensures) ∙ c .i .given .1) .0
+    let s = c .before .before .before .before in
+    let a = s .args in
+    search-at leafKind (a .own) (a .own) (a .page .now) (s .pre) (a .key) (c .i .given .0 .0) (sym (c .before .before .find .ensures) ∙ c .i .given .1) .0
 
 slot-at-requires : tie.Need-slot-at-requires
 slot-at-requires c κs = (laid (c .before .before .before .before .before), found (c .before))
@@ -40,10 +41,11 @@ room : (c : tie.After-slot-at) →
     let a = c .before .before .before .before .before .before .args in
     (a .own < 65536) × (c .slot-at .result + 16 ≤ length (a .page .now)) × (length (a .page .now) ≡ pageSize)
 room c =
-    let a = c .before .before .before .before .before .before .args in
+    let s = c .before .before .before .before .before .before in
+    let a = s .args in
     let p = a .page .now in
     let k = ok-is p (laid (c .before .before .before .before .before .before)) .body in (
-      omega (arith, k .head .ownFits, pageOk-true leafKind (a .own) p (c .before .before .before .before .before .before .pre) .own),
+      omega (arith, k .head .ownFits, pageOk-true leafKind (a .own) p (s .pre) .own),
       omega (arith, c .slot-at .ensures, value-in p (laid (c .before .before .before .before .before .before)) (c .before .before .i .given .0 .0) (found (c .before .before)) (recOf 0 [])),
       k .whole,
     )
@@ -68,20 +70,22 @@ enum-told c = search needs
 
 returns : tie.Need-returns
 returns c =
+    let s = c .before .before .before .before .before .before .before in
     let i′ = c .before .before .before .i in
-    let a = c .before .before .before .before .before .before .before .args in
+    let a = s .args in
     let i = i′ .given .0 .0 in
     let n : c .number-at .result ≡ length (recordAt (a .page .now) (slot (a .page .now) i) .value) =
     c .number-at .ensures .0 ∙ ap (λ (o : ℕ). number (part (a .page .now) (o + 8) 2)) (c .before .slot-at .ensures)
     ∙ length-here (a .page .now) (laid (c .before .before .before .before .before .before .before)) i (found (c .before .before .before)) (recOf 0 []) ∙ ap (λ (r : Rec). length (r .value)) (record-here (a .page .now) (laid (c .before .before .before .before .before .before .before)) i (found (c .before .before .before)) (recOf 0 [])) in
     ap (Found (1024 * a .own + c .before .slot-at .result + 16)) n
     ∙ ap (λ (o : ℕ). Found (1024 * a .own + o + 16) (length (recordAt (a .page .now) (slot (a .page .now) i) .value))) (c .before .slot-at .ensures)
-    ∙ sym (search-at leafKind (a .own) (a .own) (a .page .now) (c .before .before .before .before .before .before .before .pre) (a .key) i (sym (c .before .before .before .before .before .find .ensures) ∙ i′ .given .1) .1)
+    ∙ sym (search-at leafKind (a .own) (a .own) (a .page .now) (s .pre) (a .key) i (sym (c .before .before .before .before .before .find .ensures) ∙ i′ .given .1) .1)
 
 returns-2 : tie.Need-returns-2
 returns-2 c =
-    let a = c .before .before .before .before .args in
-    sym (search-missing leafKind (a .own) (a .own) (a .page .now) (c .before .before .before .before .pre) (a .key) _ (sym (c .before .before .find .ensures) ∙ c .enum-told .given .1))
+    let s = c .before .before .before .before in
+    let a = s .args in
+    sym (search-missing leafKind (a .own) (a .own) (a .page .now) (s .pre) (a .key) _ (sym (c .before .before .find .ensures) ∙ c .enum-told .given .1))
 
 pub find-in-spec : {M : Type 1} → statement M
 find-in-spec =

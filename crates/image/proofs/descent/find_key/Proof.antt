@@ -17,7 +17,9 @@ root-of-requires : tie.Need-root-of-requires
 root-of-requires c κs = let z = sound-size (c .before .args .image .now) (c .before .pre) in omega arith
 
 page-of-requires : tie.Need-page-of-requires
-page-of-requires c κs = rw (c .root-of .ensures) (sound-root (c .before .before .args .image .now) (c .before .before .pre))
+page-of-requires c κs =
+    let s = c .before .before in
+    rw (c .root-of .ensures) (sound-root (s .args .image .now) (s .pre))
 
 index : (c : tie.After-page-of) →
     let a = c .before .before .before .args in
@@ -25,7 +27,9 @@ index : (c : tie.After-page-of) →
 index c = c .page-of .ensures ∙ ap (pageOf (c .before .before .before .args .image .now)) (c .before .root-of .ensures)
 
 known : (c : tie.After-page-of) → Way (c .before .before .before .args .image .now) (c .page-of .result .now)
-known c = way (c .before .before .before .args .image .now) (c .before .before .before .pre) (c .page-of .result .now) (index c)
+known c =
+    let s = c .before .before .before in
+    way (s .args .image .now) (s .pre) (c .page-of .result .now) (index c)
 
 route-requires : tie.Need-route-requires
 route-requires c κs = (known c .laid, known c .rise)
@@ -37,8 +41,9 @@ child-at-requires c κs =
 
 leaf : (c : tie.After-child-at) → LeafAt (c .before .before .before .before .before .args .image .now) (c .before .before .page-of .result .now) (c .before .route .result) (c .child-at .result)
 leaf c =
-    let a = c .before .before .before .before .before .args in
-    leaf-way (a .image .now) (c .before .before .before .before .before .pre) _ (index (c .before .before)) _ _ (c .child-at .ensures) (known (c .before .before) .inside (a .key) _ (c .before .route .ensures))
+    let s = c .before .before .before .before .before in
+    let a = s .args in
+    leaf-way (a .image .now) (s .pre) _ (index (c .before .before)) _ _ (c .child-at .ensures) (known (c .before .before) .inside (a .key) _ (c .before .route .ensures))
 
 page-of-requires-2 : tie.Need-page-of-requires-2
 page-of-requires-2 c κs = leaf c .fits
@@ -48,10 +53,11 @@ find-in-requires c κs = ap (pageOk leafKind (c .before .child-at .result)) (c .
 
 returns : tie.Need-returns
 returns c =
-    let a = c .before .before .before .before .before .before .before .args in
+    let s = c .before .before .before .before .before .before .before in
+    let a = s .args in
     c .find-in .ensures
     ∙ ap (λ (p : List ℕ). foundIn (a .key) (map (inImage (c .before .before .child-at .result)) (entries p))) (c .before .page-of2 .ensures)
-    ∙ sym (lookup-leaf (a .image .now) (c .before .before .before .before .before .before .before .pre) _ (index (c .before .before .before .before)) (a .key) _ _ (c .before .before .before .route .ensures) (leaf (c .before .before)))
+    ∙ sym (lookup-leaf (a .image .now) (s .pre) _ (index (c .before .before .before .before)) (a .key) _ _ (c .before .before .before .route .ensures) (leaf (c .before .before)))
 
 pub find-key-spec : {M : Type 1} → statement M
 find-key-spec =

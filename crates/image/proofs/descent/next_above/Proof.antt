@@ -26,14 +26,19 @@ use Rattle.image.proofs.descent.next_above.Tie as tie
 
 returns : tie.Need-returns
 returns c =
-    let a = c .before .before .args in
-    sym (above-largest (a .image .now) (c .before .before .pre) (a .key) (c .if1 .taken))
+    let s = c .before .before in
+    let a = s .args in
+    sym (above-largest (a .image .now) (s .pre) (a .key) (c .if1 .taken))
 
 root-of-requires : tie.Need-root-of-requires
-root-of-requires c κs = let z = sound-size (c .before .before .args .image .now) (c .before .before .pre) in omega arith
+root-of-requires c κs =
+    let s = c .before .before in
+    let z = sound-size (s .args .image .now) (s .pre) in omega arith
 
 page-of-requires : tie.Need-page-of-requires
-page-of-requires c κs = rw (c .root-of .ensures) (sound-root (c .before .before .before .args .image .now) (c .before .before .before .pre))
+page-of-requires c κs =
+    let s = c .before .before .before in
+    rw (c .root-of .ensures) (sound-root (s .args .image .now) (s .pre))
 
 index : (c : tie.After-page-of) →
     let a = c .before .before .before .before .args in
@@ -41,7 +46,9 @@ index : (c : tie.After-page-of) →
 index c = c .page-of .ensures ∙ ap (pageOf (c .before .before .before .before .args .image .now)) (c .before .root-of .ensures)
 
 known : (c : tie.After-page-of) → Way (c .before .before .before .before .args .image .now) (c .page-of .result .now)
-known c = way (c .before .before .before .before .args .image .now) (c .before .before .before .before .pre) (c .page-of .result .now) (index c)
+known c =
+    let s = c .before .before .before .before in
+    way (s .args .image .now) (s .pre) (c .page-of .result .now) (index c)
 
 route-requires : tie.Need-route-requires
 route-requires c κs = (known c .laid, known c .rise)
@@ -53,8 +60,9 @@ child-at-requires c κs =
 
 leaf : (c : tie.After-child-at) → LeafAt (c .before .before .before .before .before .before .args .image .now) (c .before .before .page-of .result .now) (c .before .route .result) (c .child-at .result)
 leaf c =
-    let a = c .before .before .before .before .before .before .args in
-    leaf-way (a .image .now) (c .before .before .before .before .before .before .pre) _ (index (c .before .before)) _ _ (c .child-at .ensures) (known (c .before .before) .inside (a .key) _ (c .before .route .ensures))
+    let s = c .before .before .before .before .before .before in
+    let a = s .args in
+    leaf-way (a .image .now) (s .pre) _ (index (c .before .before)) _ _ (c .child-at .ensures) (known (c .before .before) .inside (a .key) _ (c .before .route .ensures))
 
 page-of-requires-2 : tie.Need-page-of-requires-2
 page-of-requires-2 c κs = leaf c .fits
@@ -66,9 +74,10 @@ either : (c : tie.After-next-in) →
     let a = c .before .before .before .before .before .before .before .before .args in
     above (a .key) (table (a .image .now)) ≡ orElse (c .next-in .result) (aboveFirst (a .image .now) (a .key) (drop (c .before .before .before .route .result + 1) (records (c .before .before .before .before .page-of .result .now))))
 either c =
-    let a = c .before .before .before .before .before .before .before .before .args in
+    let s = c .before .before .before .before .before .before .before .before in
+    let a = s .args in
     let route = c .before .before .before .route in
-    next-leaf (a .image .now) (c .before .before .before .before .before .before .before .before .pre) _ (index (c .before .before .before .before)) (a .key) _ _ (route .ensures) (leaf (c .before .before))
+    next-leaf (a .image .now) (s .pre) _ (index (c .before .before .before .before)) (a .key) _ _ (route .ensures) (leaf (c .before .before))
     ∙ ap (λ (x : Next). orElse x (aboveFirst (a .image .now) (a .key) (drop (route .result + 1) (records (c .before .before .before .before .page-of .result .now)))))
     (sym (c .next-in .ensures ∙ ap (λ (p : List ℕ). above (a .key) (records p)) (c .before .page-of2 .ensures)))
 

@@ -33,8 +33,9 @@ enum-known-i c = search needs
 
 key-at-requires : tie.Need-key-at-requires
 key-at-requires c κs =
-    let a = c .before .before .before .before .before .args in
-    (c .before .before .before .before .before .pre .0, above-at (a .key) (records (a .page .now)) (recOf 0 []) (c .before .i .given .0 .0) (sought (c .before .before .before) _ (c .before .i .given .1)) .0)
+    let s = c .before .before .before .before .before in
+    let a = s .args in
+    (s .pre .0, above-at (a .key) (records (a .page .now)) (recOf 0 []) (c .before .i .given .0 .0) (sought (c .before .before .before) _ (c .before .i .given .1)) .0)
 
 enum-known-i-2 : tie.Need-enum-known-i-2
 enum-known-i-2 c = search needs

@@ -18,8 +18,9 @@ enum-known-i-2 c = search needs
 
 returns : tie.Need-returns
 returns c =
-    let a = c .before .before .before .before .before .before .args in
-    let pre = c .before .before .before .before .before .before .pre in
+    let s = c .before .before .before .before .before .before in
+    let a = s .args in
+    let pre = s .pre in
     sym (ap (λ (i : ℕ). i - 1) (c .if1 .taken)) ∙ route-searched (a .page .now) (pre .0) (pre .1) (a .key) _ (sym (c .before .before .i2 .given .1) ∙ c .before .before .before .before .find .ensures)
 
 sub-result : tie.Need-sub-result
@@ -27,14 +28,16 @@ sub-result c = search needs
 
 returns-2 : tie.Need-returns-2
 returns-2 c =
-    let a = c .before .before .before .before .before .args in
-    let pre = c .before .before .before .before .before .pre in
+    let s = c .before .before .before .before .before in
+    let a = s .args in
+    let pre = s .pre in
     route-searched (a .page .now) (pre .0) (pre .1) (a .key) _ (sym (c .before .i .given .1) ∙ c .before .before .before .find .ensures)
 
 returns-3 : tie.Need-returns-3
 returns-3 c =
-    let a = c .before .before .before .before .before .before .args in
-    let pre = c .before .before .before .before .before .before .pre in
+    let s = c .before .before .before .before .before .before in
+    let a = s .args in
+    let pre = s .pre in
     route-searched (a .page .now) (pre .0) (pre .1) (a .key) _ (sym (c .before .before .i2 .given .1) ∙ c .before .before .before .before .find .ensures)
 
 pub route-spec : {M : Type 1} → statement M

@@ -17,19 +17,27 @@ use Rattle.image.proofs.format.put_fresh.Statement.{statement}
 use Rattle.image.proofs.format.put_fresh.Tie as tie
 
 fill-requires : tie.Need-fill-requires
-fill-requires c κs = let z = size-true (length (c .before .before .args .image .now)) (c .before .before .pre) in omega arith
+fill-requires c κs =
+    let s = c .before .before in
+    let z = size-true (length (s .args .image .now)) (s .pre) in omega arith
 
 put-long-requires : tie.Need-put-long-requires
-put-long-requires c κs = let z = size-true (length (c .before .before .before .before .before .before .args .image .now)) (c .before .before .before .before .before .before .pre) in omega (arith, c .before .before .before .fill .kept .0)
+put-long-requires c κs =
+    let s = c .before .before .before .before .before .before in
+    let z = size-true (length (s .args .image .now)) (s .pre) in omega (arith, c .before .before .before .fill .kept .0)
 
 add-put-long : tie.Need-add-put-long
 add-put-long c = search needs
 
 put-long-requires-2 : tie.Need-put-long-requires-2
-put-long-requires-2 c κs = let z = size-true (length (c .before .before .before .before .before .before .before .before .before .before .args .image .now)) (c .before .before .before .before .before .before .before .before .before .before .pre) in omega (arith, c .before .before .before .before .before .before .before .fill .kept .0, c .before .before .before .put-long .kept .0)
+put-long-requires-2 c κs =
+    let s = c .before .before .before .before .before .before .before .before .before .before in
+    let z = size-true (length (s .args .image .now)) (s .pre) in omega (arith, c .before .before .before .before .before .before .before .fill .kept .0, c .before .before .before .put-long .kept .0)
 
 long : (c : tie.After-put-long2) → 8192 ≤ length (c .put-long2 .last .0)
-long c = let z = size-true (length (c .before .before .before .before .before .before .before .before .before .before .before .args .image .now)) (c .before .before .before .before .before .before .before .before .before .before .before .pre) in omega (arith, c .before .before .before .before .before .before .before .before .fill .kept .0, c .before .before .before .before .put-long .kept .0, c .put-long2 .kept .0)
+long c =
+    let s = c .before .before .before .before .before .before .before .before .before .before .before in
+    let z = size-true (length (s .args .image .now)) (s .pre) in omega (arith, c .before .before .before .before .before .before .before .before .fill .kept .0, c .before .before .before .before .put-long .kept .0, c .put-long2 .kept .0)
 
 sub-put-index : tie.Need-sub-put-index
 sub-put-index c = search needs
@@ -62,15 +70,16 @@ same-length c = search needs
 
 returns : tie.Need-returns
 returns c =
+    let s = c .before .before .before .before .before .before .before .before .before .before .before .before .before .before .before .before .before .before .before .before .before in
     let put-long2 = c .before .before .before .before .before .before .before .before .before .before .put-long2 in
     let put-index = c .before .before .before .before .before .before .put-index in
-    let a = c .before .before .before .before .before .before .before .before .before .before .before .before .before .before .before .before .before .before .before .before .before .args in
+    let a = s .args in
     let put-leaf = c .before .before .put-leaf in
     let h = long (c .before .before .before .before .before .before .before .before .before .before) in
     let i3 = put-long2 .last .0 in
     let i4 = take 1024 i3 ++ (put-index .last .0 ++ drop 1024 (drop 1024 i3)) in
     let m : length i4 ≡ length i3 = length-mid i3 (put-index .last .0) (omega arith) (put-index .kept .0) in
-    fresh-made (a .image .now) _ _ i3 i4 _ (size-true (length (a .image .now)) (c .before .before .before .before .before .before .before .before .before .before .before .before .before .before .before .before .before .before .before .before .before .pre)) (pageCount (a .image .now)) refl (c .before .before .before .before .before .before .before .before .before .before .before .before .before .before .before .before .before .before .fill .ensures) (c .before .before .before .before .before .before .before .before .before .before .before .before .before .before .put-long .ensures) (put-long2 .ensures)
+    fresh-made (a .image .now) _ _ i3 i4 _ (size-true (length (a .image .now)) (s .pre)) (pageCount (a .image .now)) refl (c .before .before .before .before .before .before .before .before .before .before .before .before .before .before .before .before .before .before .fill .ensures) (c .before .before .before .before .before .before .before .before .before .before .before .before .before .before .put-long .ensures) (put-long2 .ensures)
     (back i3 1 _ _ (omega arith) (put-index .kept .0) (put-index .ensures ∙ ap (λ (p : List ℕ). fill p indexKind 1 (recOf 0 (bytesOf 2 2) ∷ [])) (lent i3 1)))
     (back i4 2 _ _ (omega arith) (put-leaf .kept .0) (put-leaf .ensures ∙ ap (λ (p : List ℕ). fill p leafKind 2 []) (lent i4 2)))
 

@@ -29,9 +29,10 @@ same-length c = search needs
 
 returns : tie.Need-returns
 returns c =
+    let s = c .before .before .before .before .before .before .before .before .before .before .before .before .before .before .before .before .before .before .before in
     let unused = c .before .before .before .before .before .unused in
     let inserted = c .before .before .before .before .inserted in
-    c .before .before .write .ensures ∙ index-made (c .before .before .before .before .before .before .before .before .before .before .before .before .before .before .before .before .before .before .before .args .page .now) _ _ _ (c .before .before .before .before .before .before .before .before .before .before .before .before .before .before .before .before .before .before .before .pre) (c .before .before .before .before .before .before .before .before .before .before .before .before .before .before .before .before .put-long .ensures) (c .before .before .before .before .before .before .before .before .before .before .before .before .put-long2 .ensures) (c .before .before .before .before .before .before .before .before .put-long3 .ensures) (unused .result) (inserted .result) (unused .ensures) (inserted .ensures)
+    c .before .before .write .ensures ∙ index-made (s .args .page .now) _ _ _ (s .pre) (c .before .before .before .before .before .before .before .before .before .before .before .before .before .before .before .before .put-long .ensures) (c .before .before .before .before .before .before .before .before .before .before .before .before .put-long2 .ensures) (c .before .before .before .before .before .before .before .before .put-long3 .ensures) (unused .result) (inserted .result) (unused .ensures) (inserted .ensures)
 
 pub put-index-spec : {M : Type 1} → statement M
 put-index-spec =

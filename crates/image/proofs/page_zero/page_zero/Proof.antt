@@ -31,7 +31,9 @@ unfolding rootOf
 returns c = sym (zero-wrong _ (bytes (c .before .before .before)) (size-true _ (c .before .before .before .before .pre)) (λ l. true≢false (sym (l .root) ∙ ap (isPage _) (sym (c .before .before .long-at .ensures)) ∙ sym (c .before .is-page .ensures) ∙ not-true _ (c .if1 .taken))))
 
 long-at-requires-2 : tie.Need-long-at-requires-2
-long-at-requires-2 c κs = let fits = size-true (length (c .before .before .before .before .args .image .now)) (c .before .before .before .before .pre) in omega arith
+long-at-requires-2 c κs =
+    let s = c .before .before .before .before in
+    let fits = size-true (length (s .args .image .now)) (s .pre) in omega arith
 
 add-if2 : tie.Need-add-if2
 add-if2 c = search needs
@@ -41,14 +43,18 @@ unfolding rootOf
 returns-2 c = sym (zero-wrong _ (bytes (c .before .before .before .before .before)) (size-true _ (c .before .before .before .before .before .before .pre)) (λ l. c .if2 .taken (c .before .long-at2 .ensures ∙ l .second)))
 
 zero-words-requires : tie.Need-zero-words-requires
-zero-words-requires c κs = let fits = size-true (length (c .before .before .before .before .before .before .args .image .now)) (c .before .before .before .before .before .before .pre) in omega arith
+zero-words-requires c κs =
+    let s = c .before .before .before .before .before .before in
+    let fits = size-true (length (s .args .image .now)) (s .pre) in omega arith
 
 returns-3 : tie.Need-returns-3
 unfolding rootOf
 returns-3 c = sym (zero-wrong _ (bytes (c .before .before .before .before .before .before .before)) (size-true _ (c .before .before .before .before .before .before .before .before .pre)) (λ l. true≢false (sym (l .rest) ∙ sym (c .before .zero-words .ensures) ∙ not-true _ (c .if3 .taken))))
 
 long-at-requires-3 : tie.Need-long-at-requires-3
-long-at-requires-3 c κs = let fits = size-true (length (c .before .before .before .before .before .before .before .before .args .image .now)) (c .before .before .before .before .before .before .before .before .pre) in omega arith
+long-at-requires-3 c κs =
+    let s = c .before .before .before .before .before .before .before .before in
+    let fits = size-true (length (s .args .image .now)) (s .pre) in omega arith
 
 past : (c : tie.Else3) → Past (c .before .before .before .before .before .before .before .before .args .image .now)
 unfolding rootOf
@@ -85,10 +91,11 @@ returns-8 c = no-mark (c .before .before .before .before .before) (λ k. true≢
 
 returns-9 : tie.Need-returns-9
 returns-9 c =
+    let s = c .before .before .before .before .before .before .before .before .before .before .before .before .before .before .before in
     let long-at3 = c .before .before .before .before .before .before .long-at3 in
     let e = long-at3 .ensures in
-    let k : Mark (pageCount (c .before .before .before .before .before .before .before .before .before .before .before .before .before .before .before .args .image .now)) (long-at3 .result) = record { one = c .before .before .before .before .if5 .left; some = c .before .before .before .if6 .left; few = c .before .before .if7 .left; page = sym (c .before .is-page2 .ensures) ∙ not-false _ (c .if8 .left) } in
-    rw e (sym (zero-waits _ (bytes (c .before .before .before .before .before .before .before .before .before .before .before .before .before .before)) (size-true _ (c .before .before .before .before .before .before .before .before .before .before .before .before .before .before .before .pre)) (past (c .before .before .before .before .before .before .before)) (rw e at k)))
+    let k : Mark (pageCount (s .args .image .now)) (long-at3 .result) = record { one = c .before .before .before .before .if5 .left; some = c .before .before .before .if6 .left; few = c .before .before .if7 .left; page = sym (c .before .is-page2 .ensures) ∙ not-false _ (c .if8 .left) } in
+    rw e (sym (zero-waits _ (bytes (c .before .before .before .before .before .before .before .before .before .before .before .before .before .before)) (size-true _ (s .pre)) (past (c .before .before .before .before .before .before .before)) (rw e at k)))
 
 pub page-zero-spec : {M : Type 1} → statement M
 page-zero-spec =

@@ -17,20 +17,23 @@ slot-at-requires c κs = search needs
 
 add-number-at : tie.Need-add-number-at
 add-number-at c =
-    let a = c .before .before .args in
-    let pre = c .before .before .pre in
+    let s = c .before .before in
+    let a = s .args in
+    let pre = s .pre in
     omega (arith, c .slot-at .ensures, value-in (a .page .now) (pre .0) (a .i) (pre .1) (recOf 0 []))
 
 number-at-requires : tie.Need-number-at-requires
 number-at-requires c κs =
-    let a = c .before .before .args in
-    let pre = c .before .before .pre in
+    let s = c .before .before in
+    let a = s .args in
+    let pre = s .pre in
     omega (arith, c .slot-at .ensures, value-in (a .page .now) (pre .0) (a .i) (pre .1) (recOf 0 []))
 
 returns : tie.Need-returns
 returns c =
-    let a = c .before .before .before .args in
-    let pre = c .before .before .before .pre in
+    let s = c .before .before .before in
+    let a = s .args in
+    let pre = s .pre in
     c .number-at .ensures .0 ∙ ap (λ (o : ℕ). number (part (a .page .now) (o + 16) 2)) (c .before .slot-at .ensures) ∙ child-here (a .page .now) (pre .0) (a .i) (pre .1) (recOf 0 []) (pre .2)
 
 pub child-at-spec : {M : Type 1} → statement M

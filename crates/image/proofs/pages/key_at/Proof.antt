@@ -17,14 +17,16 @@ slot-at-requires c κs = search needs
 
 long-at-requires : tie.Need-long-at-requires
 long-at-requires c κs =
-    let a = c .before .before .args in
-    let pre = c .before .before .pre in
+    let s = c .before .before in
+    let a = s .args in
+    let pre = s .pre in
     omega (arith, c .slot-at .ensures, value-in (a .page .now) (pre .0) (a .i) (pre .1) (recOf 0 []))
 
 returns : tie.Need-returns
 returns c =
-    let a = c .before .before .before .args in
-    let pre = c .before .before .before .pre in
+    let s = c .before .before .before in
+    let a = s .args in
+    let pre = s .pre in
     c .long-at .ensures ∙ ap (λ (o : ℕ). number (part (a .page .now) o 8)) (c .before .slot-at .ensures) ∙ key-here (a .page .now) (pre .0) (a .i) (pre .1) (recOf 0 [])
 
 pub key-at-spec : {M : Type 1} → statement M

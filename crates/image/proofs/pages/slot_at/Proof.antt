@@ -18,8 +18,9 @@ number-at-requires c κs = omega (arith, slot-in (c .before .args .page .now) (c
 
 returns : tie.Need-returns
 returns c =
-    let a = c .before .before .args in
-    c .number-at .ensures .0 ∙ slot-at (a .page .now) (a .i) (c .before .before .pre .1)
+    let s = c .before .before in
+    let a = s .args in
+    c .number-at .ensures .0 ∙ slot-at (a .page .now) (a .i) (s .pre .1)
 
 pub slot-at-spec : {M : Type 1} → statement M
 slot-at-spec = tie.close (tie.spec mul-number-at add-number-at number-at-requires returns)

@@ -54,14 +54,16 @@ array-write-marks c = omega arith
 
 array-write-marks-2 : tie.Need-array-write-marks-2 Inv-loop μ-loop
 array-write-marks-2 c =
-    let a = c .before .before .before .before .before .before .args in
-    let pre = c .before .before .before .before .before .before .pre in
+    let s = c .before .before .before .before .before .before in
+    let a = s .args in
+    let pre = s .pre in
     let z = size-true (length (a .image .now)) (pre .0) in omega (arith, isPage-true (pageCount (a .image .now)) (a .root) (pre .1))
 
 loop-holds : tie.Need-loop-holds Inv-loop μ-loop
 loop-holds c =
-    let a = c .before .before .before .before .before .before .args in
-    let pre = c .before .before .before .before .before .before .pre in
+    let s = c .before .before .before .before .before .before in
+    let a = s .args in
+    let pre = s .pre in
     (omega arith, index-claims (a .image .now) (a .root) (size-true _ (pre .0)) (pre .1) _ (c .before .before .before .before .page-of .ensures) (page-is (c .before .before)) (omega (arith, c .before .count .ensures, c .if2 .left)))
 
 child-at-requires : tie.Need-child-at-requires Inv-loop μ-loop
@@ -75,7 +77,9 @@ returns-3 c =
     sym (marks-past _ (l .marks) _ (l .i) (recOf 0 []) (omega (arith, c .before .before .before .before .before .count .ensures, c .before .before .loop-test .taken)) _ (c .before .child-at .ensures) (c .if3 .taken)) ∙ l .inv .1
 
 array-read-if4 : tie.Need-array-read-if4 Inv-loop μ-loop
-array-read-if4 c = let z = size-true (length (c .before .before .before .before .before .before .before .before .before .before .args .image .now)) (c .before .before .before .before .before .before .before .before .before .before .pre .0) in omega (arith, c .if3 .left)
+array-read-if4 c =
+    let s = c .before .before .before .before .before .before .before .before .before .before in
+    let z = size-true (length (s .args .image .now)) (s .pre .0) in omega (arith, c .if3 .left)
 
 returns-4 : tie.Need-returns-4 Inv-loop μ-loop
 returns-4 c =
@@ -83,7 +87,9 @@ returns-4 c =
     sym (marks-twice _ (l .marks) _ (l .i) (recOf 0 []) (omega (arith, c .before .before .before .before .before .before .count .ensures, c .before .before .before .loop-test .taken)) _ (c .before .before .child-at .ensures) (c .before .if3 .left) (c .if4 .taken)) ∙ l .inv .1
 
 array-write-marks-3 : tie.Need-array-write-marks-3 Inv-loop μ-loop
-array-write-marks-3 c = let z = size-true (length (c .before .before .before .before .before .before .before .before .before .before .before .args .image .now)) (c .before .before .before .before .before .before .before .before .before .before .before .pre .0) in omega (arith, c .before .if3 .left)
+array-write-marks-3 c =
+    let s = c .before .before .before .before .before .before .before .before .before .before .before in
+    let z = size-true (length (s .args .image .now)) (s .pre .0) in omega (arith, c .before .if3 .left)
 
 add-i : tie.Need-add-i Inv-loop μ-loop
 add-i c = omega arith

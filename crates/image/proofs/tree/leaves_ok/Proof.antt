@@ -31,8 +31,9 @@ known : (c : tie.After-page-of Inv-loop μ-loop) →
     let a = c .before .before .args in
     Index (a .image .now) (a .root)
 known c =
-    let a = c .before .before .args in
-    index-facts (a .image .now) (a .root) (c .before .before .pre .2)
+    let s = c .before .before in
+    let a = s .args in
+    index-facts (a .image .now) (a .root) (s .pre .2)
 
 laid : (c : tie.After-page-of Inv-loop μ-loop) → laidOut (c .page-of .result .now) ≡ true
 laid c =

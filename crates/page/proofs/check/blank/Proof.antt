@@ -31,12 +31,13 @@ shr-if1 c = omega arith
 
 returns : tie.Need-returns Inv-loop μ-loop
 returns c =
-    let a = c .before .before .before .before .before .args in
+    let s = c .before .before .before .before .before in
+    let a = s .args in
     let p = a .page .now in
     let l = c .before .before .before .loop in
     sym (not-true _ (λ t. c .if1 .taken (ap (λ (n : ℕ). n / 2 ^ (8 * (l .a % 8))) (c .before .long-at .ensures)
-    ∙ from-word p (λ i. omega (arith, c .before .before .before .before .shared-slice-known .given i)) (l .a) (a .end) (c .before .before .loop-test .taken) (c .before .before .before .before .before .pre .2) (c .before .before .before .before .before .pre .1)
-    (λ i h k. test-blank p (a .at) (a .end) (c .before .before .before .before .before .pre .0) t i (omega (arith, l .inv .0)) k))))
+    ∙ from-word p (λ i. omega (arith, c .before .before .before .before .shared-slice-known .given i)) (l .a) (a .end) (c .before .before .loop-test .taken) (s .pre .2) (s .pre .1)
+    (λ i h k. test-blank p (a .at) (a .end) (s .pre .0) t i (omega (arith, l .inv .0)) k))))
 
 sub-a : tie.Need-sub-a Inv-loop μ-loop
 sub-a c = omega arith
@@ -49,20 +50,22 @@ loop-less c = omega arith
 
 loop-again : tie.Need-loop-again Inv-loop μ-loop
 loop-again c =
-    let a = c .before .before .before .before .before .args in
+    let s = c .before .before .before .before .before in
+    let a = s .args in
     let p = a .page .now in
     let l = c .before .before .before .loop in (
       omega arith,
       omega arith,
       blank-join p (a .at) (l .a) (l .a - l .a % 8 + 8) (l .inv .2)
-          (word-from p (λ i. omega (arith, c .before .before .before .before .shared-slice-known .given i)) (l .a) (a .end) (c .before .before .loop-test .taken) (c .before .before .before .before .before .pre .2) (c .before .before .before .before .before .pre .1)
+          (word-from p (λ i. omega (arith, c .before .before .before .before .shared-slice-known .given i)) (l .a) (a .end) (c .before .before .loop-test .taken) (s .pre .2) (s .pre .1)
           (ap (λ (n : ℕ). n / 2 ^ (8 * (l .a % 8))) (sym (c .before .long-at .ensures)) ∙ c .if1 .left)),
     )
 
 returns-2 : tie.Need-returns-2 Inv-loop μ-loop
 returns-2 c =
-    let a = c .before .before .before .args in
-    sym (blank-test (a .page .now) (a .at) (a .end) (c .before .before .before .pre .0) (c .before .before .before .pre .1) (λ i h k. c .before .loop .inv .2 i h (omega (arith, c .loop-test .left))))
+    let s = c .before .before .before in
+    let a = s .args in
+    sym (blank-test (a .page .now) (a .at) (a .end) (s .pre .0) (s .pre .1) (λ i h k. c .before .loop .inv .2 i h (omega (arith, c .loop-test .left))))
 
 pub blank-spec : {M : Type 1} → statement M
 blank-spec =

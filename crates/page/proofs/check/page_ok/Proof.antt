@@ -87,12 +87,14 @@ tested c = let h = c .before .before .before .before .before .before .before in 
 
 -- after all tests it may come next
 next : (c : tie.Else4 Inv-loop μ-loop) → let h = c .before .before .before .before .before .before .before .before in Next (kind h) (p h) (low h) (taken h) (entryAt (p h) (o h))
-next c = let h = c .before .before .before .before .before .before .before .before in
+next c =
+    let if3 = c .before .before .before .before .if3 in
+    let h = c .before .before .before .before .before .before .before .before in
     let key = c .before .before .before .before .before .long-at .ensures ∙ numbers (c .before .before .before .before .before .before) .key in
     record {
       held = held (c .before .before .before .before .before .before);
-      form = fitting-form (kind h) _ (omega (arith, c .before .before .before .before .before .before .before .before .before .before .loop .inv .1 .above, c .before .before .before .before .if3 .left)) (record-fits (kind h) (p h) _ (o h) (good (c .before .before .before .before .before .before)));
-      above = omega (arith, c .before .before .before .before .if3 .left);
+      form = fitting-form (kind h) _ (omega (arith, c .before .before .before .before .before .before .before .before .before .before .loop .inv .1 .above, if3 .left)) (record-fits (kind h) (p h) _ (o h) (good (c .before .before .before .before .before .before)));
+      above = omega (arith, if3 .left);
       clear = eqb-true _ 0 (sym (tested (c .before)) ∙ not-false _ (c .if4 .left));
     }
 

@@ -26,8 +26,11 @@ same-length-2 c = search needs
 returns : tie.Need-returns
 unfolding byLog
 returns c =
-    let n = first-length (c .before .before .before .before .before .before .before .before .before .before .before .before .before .before .args .pages .now) (c .before .before .before .before .before .before .before .before .before .before .before .before .before .before .args .k) (c .before .before .before .before .before .before .before .before .before .before .before .before .before .before .pre .2) in
-    (c .before .before .before .before .before .before .before .log-headers .ensures, log-tape (c .before .before .before .before .before .before .before .before .before .before .before .before .before .before .args .work .now) (c .before .before .before .before .before .before .before .before .before .before .before .before .before .before .args .tape .now) _ (c .before .before .before .before .before .before .before .before .before .before .before .before .before .before .args .at) (c .before .before .before .before .before .before .before .before .before .before .before .before .before .before .args .k) (c .before .before .before .before .before .before .before .before .before .long-at .result) _ (take (c .before .before .before .before .before .before .before .before .before .before .before .before .before .before .args .k) (c .before .before .before .before .before .before .before .before .before .before .before .before .before .before .args .pages .now)) (c .before .before .before .before .before .before .before .before .before .before .before .before .before .before .args .same) (c .before .before .before .before .before .before .before .log-headers .ensures) n (c .before .before .before .before .before .before .before .before .before .long-at .ensures) (c .before .before .before .before .before .before .before .before .before .before .before .before .before .before .pre .4) (c .before .before .before .before .before .before .before .before .before .before .before .before .before .before .pre .1) (c .before .before .before .before .before .before .before .before .before .before .before .before .before .before .pre .3) (c .before .before .emit-log .ensures))
+    let s = c .before .before .before .before .before .before .before .before .before .before .before .before .before .before in
+    let log-headers = c .before .before .before .before .before .before .before .log-headers in
+    let long-at = c .before .before .before .before .before .before .before .before .before .long-at in
+    let n = first-length (s .args .pages .now) (s .args .k) (s .pre .2) in
+    (log-headers .ensures, log-tape (s .args .work .now) (s .args .tape .now) _ (s .args .at) (s .args .k) (long-at .result) _ (take (s .args .k) (s .args .pages .now)) (s .args .same) (log-headers .ensures) n (long-at .ensures) (s .pre .4) (s .pre .1) (s .pre .3) (c .before .before .emit-log .ensures))
 
 pub emit-by-log-spec : {M : Type 1} → statement M
 emit-by-log-spec =

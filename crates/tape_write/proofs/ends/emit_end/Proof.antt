@@ -18,7 +18,9 @@ long-at-requires : tie.Need-long-at-requires
 long-at-requires c κs = search needs
 
 emit-settled-requires : tie.Need-emit-settled-requires
-emit-settled-requires c κs = omega (arith, bytes-none (c .before .before .before .before .before .before .before .args .k) (c .before .before .before .before .before .before .before .args .same) (c .before .before .before .if1 .taken) .0)
+emit-settled-requires c κs =
+    let s = c .before .before .before .before .before .before .before in
+    omega (arith, bytes-none (s .args .k) (s .args .same) (c .before .before .before .if1 .taken) .0)
 
 same-length : tie.Need-same-length
 same-length c = search needs
@@ -27,10 +29,15 @@ same-length-2 : tie.Need-same-length-2
 same-length-2 c = search needs
 
 returns : tie.Need-returns
-returns c = leaves-as _ _ (c .before .before .before .before .before .before .before .before .before .before .args .tape .now) (c .before .before .before .before .before .before .before .before .before .before .args .at) _ _ _ (end-root (c .before .before .before .before .before .before .before .before .before .before .args .work .now) (c .before .before .before .before .before .before .before .before .before .before .args .same) (take (c .before .before .before .before .before .before .before .before .before .before .args .k) (c .before .before .before .before .before .before .before .before .before .before .args .pages .now)) ((first-length (c .before .before .before .before .before .before .before .before .before .before .args .pages .now) (c .before .before .before .before .before .before .before .before .before .before .args .k) (c .before .before .before .before .before .before .before .before .before .before .pre .2)) ∙ c .before .before .before .before .before .before .if1 .taken)) (leaves-root (c .before .before .before .before .before .before .before .before .before .before .args .work .now) (c .before .before .before .before .before .before .before .before .before .before .args .tape .now) _ (c .before .before .before .before .before .before .before .before .before .before .args .at) (c .before .before .before .long-at .result) (c .before .before .before .long-at .ensures) (c .before .before .emit-settled .ensures))
+returns c =
+    let s = c .before .before .before .before .before .before .before .before .before .before in
+    let long-at = c .before .before .before .long-at in
+    leaves-as _ _ (s .args .tape .now) (s .args .at) _ _ _ (end-root (s .args .work .now) (s .args .same) (take (s .args .k) (s .args .pages .now)) ((first-length (s .args .pages .now) (s .args .k) (s .pre .2)) ∙ c .before .before .before .before .before .before .if1 .taken)) (leaves-root (s .args .work .now) (s .args .tape .now) _ (s .args .at) (long-at .result) (long-at .ensures) (c .before .before .emit-settled .ensures))
 
 emit-by-log-requires : tie.Need-emit-by-log-requires
-emit-by-log-requires c κs = (omega (arith, bytes-other (c .before .before .before .before .before .before .before .args .k) (c .before .before .before .before .before .before .before .args .same) (c .before .before .before .if1 .left) (not-true _ (c .before .before .if2 .taken))), c .before .before .before .before .before .before .before .pre .1, c .before .before .before .before .before .before .before .pre .2, c .before .before .before .before .before .before .before .pre .3, c .before .before .before .before .before .before .before .pre .4)
+emit-by-log-requires c κs =
+    let s = c .before .before .before .before .before .before .before in
+    (omega (arith, bytes-other (s .args .k) (s .args .same) (c .before .before .before .if1 .left) (not-true _ (c .before .before .if2 .taken))), s .pre .1, s .pre .2, s .pre .3, s .pre .4)
 
 same-length-3 : tie.Need-same-length-3
 same-length-3 c = search needs
@@ -39,7 +46,10 @@ same-length-4 : tie.Need-same-length-4
 same-length-4 c = search needs
 
 returns-2 : tie.Need-returns-2
-returns-2 c = leaves-as _ _ (c .before .before .before .before .before .before .before .before .before .before .before .before .args .tape .now) (c .before .before .before .before .before .before .before .before .before .before .before .before .args .at) _ _ _ (end-other (c .before .before .before .before .before .before .before .before .before .before .before .before .args .work .now) (c .before .before .before .before .before .before .before .before .before .before .before .before .args .same) (take (c .before .before .before .before .before .before .before .before .before .before .before .before .args .k) (c .before .before .before .before .before .before .before .before .before .before .before .before .args .pages .now)) (λ e. c .before .before .before .before .before .before .before .before .if1 .left (sym (first-length (c .before .before .before .before .before .before .before .before .before .before .before .before .args .pages .now) (c .before .before .before .before .before .before .before .before .before .before .before .before .args .k) (c .before .before .before .before .before .before .before .before .before .before .before .before .pre .2)) ∙ e)) (not-true _ (c .before .before .before .before .before .before .before .if2 .taken))) (leaves-log (c .before .before .before .before .before .before .before .before .before .before .before .before .args .work .now) (c .before .before .before .before .before .before .before .before .before .before .before .before .args .tape .now) _ (c .before .before .before .before .before .before .before .before .before .before .before .before .args .at) (c .before .before .before .before .before .before .before .before .before .before .before .before .args .same) (take (c .before .before .before .before .before .before .before .before .before .before .before .before .args .k) (c .before .before .before .before .before .before .before .before .before .before .before .before .args .pages .now)) _ (c .before .before .before .before .emit-by-log .ensures .0) (c .before .before .before .before .emit-by-log .ensures .1))
+returns-2 c =
+    let s = c .before .before .before .before .before .before .before .before .before .before .before .before in
+    let emit-by-log = c .before .before .before .before .emit-by-log in
+    leaves-as _ _ (s .args .tape .now) (s .args .at) _ _ _ (end-other (s .args .work .now) (s .args .same) (take (s .args .k) (s .args .pages .now)) (λ e. c .before .before .before .before .before .before .before .before .if1 .left (sym (first-length (s .args .pages .now) (s .args .k) (s .pre .2)) ∙ e)) (not-true _ (c .before .before .before .before .before .before .before .if2 .taken))) (leaves-log (s .args .work .now) (s .args .tape .now) _ (s .args .at) (s .args .same) (take (s .args .k) (s .args .pages .now)) _ (emit-by-log .ensures .0) (emit-by-log .ensures .1))
 
 shared-slice-read-wide : tie.Need-shared-slice-read-wide
 shared-slice-read-wide c = search needs
@@ -48,7 +58,9 @@ wide-requires : tie.Need-wide-requires
 wide-requires c κs = search needs
 
 emit-header-requires : tie.Need-emit-header-requires
-emit-header-requires c κs = (omega (arith, bytes-one (c .before .before .before .before .before .before .before .before .before .before .args .k) (c .before .before .before .before .before .before .before .before .before .before .args .same) (c .before .before .before .before .if3 .taken) (not-false _ (c .before .before .before .before .before .if2 .left)) .0), (subst (PageIn (c .before .before .before .before .before .before .before .before .before .before .args .work .now)) (getD-take (c .before .before .before .before .before .before .before .before .before .before .args .k) (c .before .before .before .before .before .before .before .before .before .before .args .pages .now) 0 0 (omega arith) ∙ sym (c .before .before .wide .ensures .0)) (all-at (PageIn (c .before .before .before .before .before .before .before .before .before .before .args .work .now)) (take (c .before .before .before .before .before .before .before .before .before .before .args .k) (c .before .before .before .before .before .before .before .before .before .before .args .pages .now)) 0 (c .before .before .before .before .before .before .before .before .before .before .pre .4) (omega (arith, (first-length (c .before .before .before .before .before .before .before .before .before .before .args .pages .now) (c .before .before .before .before .before .before .before .before .before .before .args .k) (c .before .before .before .before .before .before .before .before .before .before .pre .2)))))))
+emit-header-requires c κs =
+    let s = c .before .before .before .before .before .before .before .before .before .before in
+    (omega (arith, bytes-one (s .args .k) (s .args .same) (c .before .before .before .before .if3 .taken) (not-false _ (c .before .before .before .before .before .if2 .left)) .0), (subst (PageIn (s .args .work .now)) (getD-take (s .args .k) (s .args .pages .now) 0 0 (omega arith) ∙ sym (c .before .before .wide .ensures .0)) (all-at (PageIn (s .args .work .now)) (take (s .args .k) (s .args .pages .now)) 0 (s .pre .4) (omega (arith, (first-length (s .args .pages .now) (s .args .k) (s .pre .2)))))))
 
 same-length-5 : tie.Need-same-length-5
 same-length-5 c = search needs
@@ -57,10 +69,15 @@ same-length-6 : tie.Need-same-length-6
 same-length-6 c = search needs
 
 returns-3 : tie.Need-returns-3
-returns-3 c = leaves-as _ _ (c .before .before .before .before .before .before .before .before .before .before .before .before .before .args .tape .now) (c .before .before .before .before .before .before .before .before .before .before .before .before .before .args .at) _ _ _ (end-header (c .before .before .before .before .before .before .before .before .before .before .before .before .before .args .work .now) (c .before .before .before .before .before .before .before .before .before .before .before .before .before .args .same) (take (c .before .before .before .before .before .before .before .before .before .before .before .before .before .args .k) (c .before .before .before .before .before .before .before .before .before .before .before .before .before .args .pages .now)) ((first-length (c .before .before .before .before .before .before .before .before .before .before .before .before .before .args .pages .now) (c .before .before .before .before .before .before .before .before .before .before .before .before .before .args .k) (c .before .before .before .before .before .before .before .before .before .before .before .before .before .pre .2)) ∙ c .before .before .before .before .before .before .before .if3 .taken) (not-false _ (c .before .before .before .before .before .before .before .before .if2 .left)) ∙ ap (byHeader [] (c .before .before .before .before .before .before .before .before .before .before .before .before .before .args .work .now)) (getD-take (c .before .before .before .before .before .before .before .before .before .before .before .before .before .args .k) (c .before .before .before .before .before .before .before .before .before .before .before .before .before .args .pages .now) 0 0 (omega arith) ∙ sym (c .before .before .before .before .before .wide .ensures .0))) (leaves-header (c .before .before .before .before .before .before .before .before .before .before .before .before .before .args .work .now) (c .before .before .before .before .before .before .before .before .before .before .before .before .before .args .tape .now) _ (c .before .before .before .before .before .before .before .before .before .before .before .before .before .args .at) (c .before .before .before .before .before .wide .result) (c .before .before .emit-header .ensures))
+returns-3 c =
+    let s = c .before .before .before .before .before .before .before .before .before .before .before .before .before in
+    let wide = c .before .before .before .before .before .wide in
+    leaves-as _ _ (s .args .tape .now) (s .args .at) _ _ _ (end-header (s .args .work .now) (s .args .same) (take (s .args .k) (s .args .pages .now)) ((first-length (s .args .pages .now) (s .args .k) (s .pre .2)) ∙ c .before .before .before .before .before .before .before .if3 .taken) (not-false _ (c .before .before .before .before .before .before .before .before .if2 .left)) ∙ ap (byHeader [] (s .args .work .now)) (getD-take (s .args .k) (s .args .pages .now) 0 0 (omega arith) ∙ sym (wide .ensures .0))) (leaves-header (s .args .work .now) (s .args .tape .now) _ (s .args .at) (wide .result) (c .before .before .emit-header .ensures))
 
 emit-by-log-requires-2 : tie.Need-emit-by-log-requires-2
-emit-by-log-requires-2 c κs = (omega (arith, bytes-log (c .before .before .before .before .before .before .before .before .args .k) (c .before .before .before .before .before .before .before .before .args .same) (c .before .before .before .before .if1 .left) (c .before .before .if3 .left)), c .before .before .before .before .before .before .before .before .pre .1, c .before .before .before .before .before .before .before .before .pre .2, c .before .before .before .before .before .before .before .before .pre .3, c .before .before .before .before .before .before .before .before .pre .4)
+emit-by-log-requires-2 c κs =
+    let s = c .before .before .before .before .before .before .before .before in
+    (omega (arith, bytes-log (s .args .k) (s .args .same) (c .before .before .before .before .if1 .left) (c .before .before .if3 .left)), s .pre .1, s .pre .2, s .pre .3, s .pre .4)
 
 same-length-7 : tie.Need-same-length-7
 same-length-7 c = search needs
@@ -69,7 +86,10 @@ same-length-8 : tie.Need-same-length-8
 same-length-8 c = search needs
 
 returns-4 : tie.Need-returns-4
-returns-4 c = leaves-as _ _ (c .before .before .before .before .before .before .before .before .before .before .before .before .before .args .tape .now) (c .before .before .before .before .before .before .before .before .before .before .before .before .before .args .at) _ _ _ (end-log (c .before .before .before .before .before .before .before .before .before .before .before .before .before .args .work .now) (c .before .before .before .before .before .before .before .before .before .before .before .before .before .args .same) (take (c .before .before .before .before .before .before .before .before .before .before .before .before .before .args .k) (c .before .before .before .before .before .before .before .before .before .before .before .before .before .args .pages .now)) (λ e. c .before .before .before .before .before .before .before .before .before .if1 .left (sym (first-length (c .before .before .before .before .before .before .before .before .before .before .before .before .before .args .pages .now) (c .before .before .before .before .before .before .before .before .before .before .before .before .before .args .k) (c .before .before .before .before .before .before .before .before .before .before .before .before .before .pre .2)) ∙ e)) (λ e. c .before .before .before .before .before .before .before .if3 .left (sym (first-length (c .before .before .before .before .before .before .before .before .before .before .before .before .before .args .pages .now) (c .before .before .before .before .before .before .before .before .before .before .before .before .before .args .k) (c .before .before .before .before .before .before .before .before .before .before .before .before .before .pre .2)) ∙ e))) (leaves-log (c .before .before .before .before .before .before .before .before .before .before .before .before .before .args .work .now) (c .before .before .before .before .before .before .before .before .before .before .before .before .before .args .tape .now) _ (c .before .before .before .before .before .before .before .before .before .before .before .before .before .args .at) (c .before .before .before .before .before .before .before .before .before .before .before .before .before .args .same) (take (c .before .before .before .before .before .before .before .before .before .before .before .before .before .args .k) (c .before .before .before .before .before .before .before .before .before .before .before .before .before .args .pages .now)) _ (c .before .before .before .before .emit-by-log2 .ensures .0) (c .before .before .before .before .emit-by-log2 .ensures .1))
+returns-4 c =
+    let s = c .before .before .before .before .before .before .before .before .before .before .before .before .before in
+    let emit-by-log2 = c .before .before .before .before .emit-by-log2 in
+    leaves-as _ _ (s .args .tape .now) (s .args .at) _ _ _ (end-log (s .args .work .now) (s .args .same) (take (s .args .k) (s .args .pages .now)) (λ e. c .before .before .before .before .before .before .before .before .before .if1 .left (sym (first-length (s .args .pages .now) (s .args .k) (s .pre .2)) ∙ e)) (λ e. c .before .before .before .before .before .before .before .if3 .left (sym (first-length (s .args .pages .now) (s .args .k) (s .pre .2)) ∙ e))) (leaves-log (s .args .work .now) (s .args .tape .now) _ (s .args .at) (s .args .same) (take (s .args .k) (s .args .pages .now)) _ (emit-by-log2 .ensures .0) (emit-by-log2 .ensures .1))
 
 pub emit-end-spec : {M : Type 1} → statement M
 emit-end-spec =

@@ -31,13 +31,17 @@ same-length : tie.Need-same-length
 same-length c = search needs
 
 returns : tie.Need-returns
-returns c = rw (c .before .before .before .before .if1 .taken) (c .before .before .emit-settled .ensures ∙ ap (λ (cs : List Op). sets (c .before .before .before .before .before .before .args .tape .now) (c .before .before .before .before .before .before .args .at) (tapeBytes cs)) (sym (ending-same (c .before .before .before .before .before .before .args .root))))
+returns c =
+    let s = c .before .before .before .before .before .before in
+    rw (c .before .before .before .before .if1 .taken) (c .before .before .emit-settled .ensures ∙ ap (λ (cs : List Op). sets (s .args .tape .now) (s .args .at) (tapeBytes cs)) (sym (ending-same (s .args .root))))
 
 same-length-2 : tie.Need-same-length-2
 same-length-2 c = search needs
 
 returns-2 : tie.Need-returns-2
-returns-2 c = rw (c .before .before .before .before .before .before .before .before .if1 .left) (tape-then (c .before .before .before .before .before .before .before .before .before .before .args .tape .now) _ _ (c .before .before .before .before .before .before .before .before .before .before .args .at) ((c .before .before .before .before .before .before .before .before .before .before .args .at) + 12) (store (8 * 1) (bytesOf 8 (c .before .before .before .before .before .before .before .before .before .before .args .root)) ∷ []) _ (c .before .before .before .before .before .before .emit-number .ensures) (omega (arith, length-number 1 (c .before .before .before .before .before .before .before .before .before .before .args .root))) (c .before .before .emit-settled2 .ensures) ∙ ap (λ (cs : List Op). sets (c .before .before .before .before .before .before .before .before .before .before .args .tape .now) (c .before .before .before .before .before .before .before .before .before .before .args .at) (tapeBytes cs)) (sym (ending-other (c .before .before .before .before .before .before .before .before .before .before .args .root))))
+returns-2 c =
+    let s = c .before .before .before .before .before .before .before .before .before .before in
+    rw (c .before .before .before .before .before .before .before .before .if1 .left) (tape-then (s .args .tape .now) _ _ (s .args .at) ((s .args .at) + 12) (store (8 * 1) (bytesOf 8 (s .args .root)) ∷ []) _ (c .before .before .before .before .before .before .emit-number .ensures) (omega (arith, length-number 1 (s .args .root))) (c .before .before .emit-settled2 .ensures) ∙ ap (λ (cs : List Op). sets (s .args .tape .now) (s .args .at) (tapeBytes cs)) (sym (ending-other (s .args .root))))
 
 pub emit-ending-spec : {M : Type 1} → statement M
 emit-ending-spec =

@@ -39,11 +39,13 @@ same-length c = search needs
 returns : tie.Need-returns
 unfolding headerLine
 returns c =
-    let e : 64 * (16 * (c .before .before .before .before .before .before .before .before .before .before .args .page)) ≡ pageSize * (c .before .before .before .before .before .before .before .before .before .before .args .page) = omega arith in
-    let n = length-part (c .before .before .before .before .before .before .before .before .before .before .args .work .now) (pageSize * (c .before .before .before .before .before .before .before .before .before .before .args .page)) 64 (omega (arith, c .before .before .before .before .before .before .before .before .before .before .pre .1 .1)) in
-    flush-last _ _ ((c .before .before .before .before .before .before .before .before .before .before .args .at) + 68) (16 * (c .before .before .before .before .before .before .before .before .before .before .args .page)) (c .before .before .emit-flush .ensures) (omega (arith, c .before .before .before .before .before .before .emit-line .kept .0))
-    ∙ line-next (c .before .before .before .before .before .before .before .before .before .before .args .tape .now) _ (c .before .before .before .before .before .before .before .before .before .before .args .at) ((c .before .before .before .before .before .before .before .before .before .before .args .at) + 68) (flush (16 * (c .before .before .before .before .before .before .before .before .before .before .args .page)) ∷ []) (16 * (c .before .before .before .before .before .before .before .before .before .before .args .page)) (part (c .before .before .before .before .before .before .before .before .before .before .args .work .now) (pageSize * (c .before .before .before .before .before .before .before .before .before .before .args .page)) 64) (c .before .before .before .before .before .before .emit-line .ensures) n refl (omega arith)
-    ∙ ap (λ (p : ℕ). sets (c .before .before .before .before .before .before .before .before .before .before .args .tape .now) (c .before .before .before .before .before .before .before .before .before .before .args .at) (tapeBytes (store p (part (c .before .before .before .before .before .before .before .before .before .before .args .work .now) (pageSize * (c .before .before .before .before .before .before .before .before .before .before .args .page)) 64) ∷ flush (16 * (c .before .before .before .before .before .before .before .before .before .before .args .page)) ∷ []))) e
+    let s = c .before .before .before .before .before .before .before .before .before .before in
+    let emit-line = c .before .before .before .before .before .before .emit-line in
+    let e : 64 * (16 * (s .args .page)) ≡ pageSize * (s .args .page) = omega arith in
+    let n = length-part (s .args .work .now) (pageSize * (s .args .page)) 64 (omega (arith, s .pre .1 .1)) in
+    flush-last _ _ ((s .args .at) + 68) (16 * (s .args .page)) (c .before .before .emit-flush .ensures) (omega (arith, emit-line .kept .0))
+    ∙ line-next (s .args .tape .now) _ (s .args .at) ((s .args .at) + 68) (flush (16 * (s .args .page)) ∷ []) (16 * (s .args .page)) (part (s .args .work .now) (pageSize * (s .args .page)) 64) (emit-line .ensures) n refl (omega arith)
+    ∙ ap (λ (p : ℕ). sets (s .args .tape .now) (s .args .at) (tapeBytes (store p (part (s .args .work .now) (pageSize * (s .args .page)) 64) ∷ flush (16 * (s .args .page)) ∷ []))) e
 
 pub emit-header-spec : {M : Type 1} → statement M
 emit-header-spec =

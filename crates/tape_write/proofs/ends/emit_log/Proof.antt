@@ -57,7 +57,9 @@ same-length : tie.Need-same-length
 same-length c = search needs
 
 returns : tie.Need-returns
-returns c = log-chain (logged (c .before .before .before .before .before .before .before .before .before .before .before .before .before .before .before .before .before .before .args .k) (c .before .before .before .before .before .before .before .before .before .before .before .before .before .before .before .before .before .before .args .src .now)) (c .before .before .before .before .before .before .before .before .before .before .before .before .before .before .before .before .before .before .args .k) (logged-lines (c .before .before .before .before .before .before .before .before .before .before .before .before .before .before .before .before .before .before .args .k) (c .before .before .before .before .before .before .before .before .before .before .before .before .before .before .before .before .before .before .args .src .now) (c .before .before .before .before .before .before .before .before .before .before .before .before .before .before .before .before .before .before .pre .1)) (logged-length (c .before .before .before .before .before .before .before .before .before .before .before .before .before .before .before .before .before .before .args .k) (c .before .before .before .before .before .before .before .before .before .before .before .before .before .before .before .before .before .before .args .src .now)) (c .before .before .before .before .before .before .before .before .before .before .before .before .before .before .before .before .before .before .args .same) (c .before .before .before .before .before .before .before .before .before .before .before .before .before .before .before .before .before .before .args .root) (omega (arith, c .before .before .before .before .before .before .before .before .before .before .before .before .before .before .before .before .before .before .pre .2)) (c .before .before .before .before .before .before .before .before .before .before .before .before .before .before .before .before .before .before .args .tape .now) _ _ _ _ (c .before .before .before .before .before .before .before .before .before .before .before .before .before .before .before .before .before .before .args .at) (c .before .before .before .before .before .before .before .before .before .before .before .before .before .before .emit-headers .ensures) (c .before .before .before .before .before .before .before .before .before .before .flush-headers .ensures) (c .before .before .before .before .before .before .emit-settled .ensures) (c .before .before .emit-replay .ensures)
+returns c =
+    let s = c .before .before .before .before .before .before .before .before .before .before .before .before .before .before .before .before .before .before in
+    log-chain (logged (s .args .k) (s .args .src .now)) (s .args .k) (logged-lines (s .args .k) (s .args .src .now) (s .pre .1)) (logged-length (s .args .k) (s .args .src .now)) (s .args .same) (s .args .root) (omega (arith, s .pre .2)) (s .args .tape .now) _ _ _ _ (s .args .at) (c .before .before .before .before .before .before .before .before .before .before .before .before .before .before .emit-headers .ensures) (c .before .before .before .before .before .before .before .before .before .before .flush-headers .ensures) (c .before .before .before .before .before .before .emit-settled .ensures) (c .before .before .emit-replay .ensures)
 
 pub emit-log-spec : {M : Type 1} → statement M
 emit-log-spec =

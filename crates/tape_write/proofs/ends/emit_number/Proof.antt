@@ -32,9 +32,10 @@ same-length c = search needs
 
 returns : tie.Need-returns
 returns c =
-    let n = length-bytesOf 8 (c .before .before .before .before .before .before .before .before .before .args .v) in
-    word-last (c .before .before .before .before .before .before .before .before .before .args .tape .now) _ (c .before .before .before .before .before .before .before .before .before .args .at) (c .before .before .before .before .before .before .before .before .before .args .word) (bytesOf 8 (c .before .before .before .before .before .before .before .before .before .args .v))
-    (c .before .before .emit-word .ensures ∙ ap (λ (x : List ℕ). splice (c .before .before .before .before .before .before .before .before .before .args .tape .now) (c .before .before .before .before .before .before .before .before .before .args .at) (wordBytes (c .before .before .before .before .before .before .before .before .before .args .word) x)) (part-front (replicate 8 0) (bytesOf 8 (c .before .before .before .before .before .before .before .before .before .args .v)) _ 8 (c .before .before .before .before .before .before .put-long .ensures) n (omega (arith, length-replicate {A = ℕ} 8 0)))) n (c .before .before .before .before .before .before .before .before .before .pre)
+    let s = c .before .before .before .before .before .before .before .before .before in
+    let n = length-bytesOf 8 (s .args .v) in
+    word-last (s .args .tape .now) _ (s .args .at) (s .args .word) (bytesOf 8 (s .args .v))
+    (c .before .before .emit-word .ensures ∙ ap (λ (x : List ℕ). splice (s .args .tape .now) (s .args .at) (wordBytes (s .args .word) x)) (part-front (replicate 8 0) (bytesOf 8 (s .args .v)) _ 8 (c .before .before .before .before .before .before .put-long .ensures) n (omega (arith, length-replicate {A = ℕ} 8 0)))) n (s .pre)
 
 pub emit-number-spec : {M : Type 1} → statement M
 emit-number-spec =

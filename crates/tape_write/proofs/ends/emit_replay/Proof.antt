@@ -39,7 +39,9 @@ same-length : tie.Need-same-length
 same-length c = search needs
 
 returns : tie.Need-returns
-returns c = replay-chain (logged (c .before .before .before .before .before .before .before .before .before .before .before .before .before .before .args .k) (c .before .before .before .before .before .before .before .before .before .before .before .before .before .before .args .src .now)) (c .before .before .before .before .before .before .before .before .before .before .before .before .before .before .args .k) (logged-lines (c .before .before .before .before .before .before .before .before .before .before .before .before .before .before .args .k) (c .before .before .before .before .before .before .before .before .before .before .before .before .before .before .args .src .now) (c .before .before .before .before .before .before .before .before .before .before .before .before .before .before .pre .1)) (logged-length (c .before .before .before .before .before .before .before .before .before .before .before .before .before .before .args .k) (c .before .before .before .before .before .before .before .before .before .before .before .before .before .before .args .src .now)) (c .before .before .before .before .before .before .before .before .before .before .before .before .before .before .args .same) (c .before .before .before .before .before .before .before .before .before .before .before .before .before .before .args .root) (c .before .before .before .before .before .before .before .before .before .before .before .before .before .before .args .tape .now) _ _ _ (c .before .before .before .before .before .before .before .before .before .before .before .before .before .before .args .at) (c .before .before .before .before .before .before .before .before .before .before .emit-headers .ensures) (c .before .before .before .before .before .before .flush-headers .ensures) (c .before .before .emit-ending .ensures)
+returns c =
+    let s = c .before .before .before .before .before .before .before .before .before .before .before .before .before .before in
+    replay-chain (logged (s .args .k) (s .args .src .now)) (s .args .k) (logged-lines (s .args .k) (s .args .src .now) (s .pre .1)) (logged-length (s .args .k) (s .args .src .now)) (s .args .same) (s .args .root) (s .args .tape .now) _ _ _ (s .args .at) (c .before .before .before .before .before .before .before .before .before .before .emit-headers .ensures) (c .before .before .before .before .before .before .flush-headers .ensures) (c .before .before .emit-ending .ensures)
 
 pub emit-replay-spec : {M : Type 1} → statement M
 emit-replay-spec =

@@ -25,8 +25,10 @@ same-length c = search needs
 
 returns : tie.Need-returns
 returns c =
-    tape-then (c .before .before .before .before .before .before .before .before .before .args .tape .now) _ _ (c .before .before .before .before .before .before .before .before .before .args .at) ((c .before .before .before .before .before .before .before .before .before .args .at) + 12) (store (8 * c .before .before .before .before .before .before .before .before .before .args .word) (bytesOf 8 (c .before .before .before .before .before .before .before .before .before .args .v)) ∷ []) (flush 0 ∷ []) (c .before .before .before .before .before .before .emit-number .ensures) (omega (arith, length-number (c .before .before .before .before .before .before .before .before .before .args .word) (c .before .before .before .before .before .before .before .before .before .args .v)))
-    (flush-last _ _ ((c .before .before .before .before .before .before .before .before .before .args .at) + 12) 0 (c .before .before .emit-flush .ensures) (omega (arith, c .before .before .before .before .before .before .emit-number .kept .0)))
+    let s = c .before .before .before .before .before .before .before .before .before in
+    let emit-number = c .before .before .before .before .before .before .emit-number in
+    tape-then (s .args .tape .now) _ _ (s .args .at) ((s .args .at) + 12) (store (8 * s .args .word) (bytesOf 8 (s .args .v)) ∷ []) (flush 0 ∷ []) (emit-number .ensures) (omega (arith, length-number (s .args .word) (s .args .v)))
+    (flush-last _ _ ((s .args .at) + 12) 0 (c .before .before .emit-flush .ensures) (omega (arith, emit-number .kept .0)))
 
 pub emit-settled-spec : {M : Type 1} → statement M
 emit-settled-spec =

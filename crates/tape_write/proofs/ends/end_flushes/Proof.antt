@@ -17,10 +17,14 @@ add-result : tie.Need-add-result
 add-result c = search needs
 
 returns-2 : tie.Need-returns-2
-returns-2 c = sym (flushes-other (c .before .before .args .k) (c .before .before .args .same) (c .before .if1 .left) (not-true _ (c .if2 .taken)))
+returns-2 c =
+    let s = c .before .before in
+    sym (flushes-other (s .args .k) (s .args .same) (c .before .if1 .left) (not-true _ (c .if2 .taken)))
 
 returns-3 : tie.Need-returns-3
-returns-3 c = sym (bytes-one (c .before .before .before .args .k) (c .before .before .before .args .same) (c .if3 .taken) (not-false _ (c .before .if2 .left)) .1)
+returns-3 c =
+    let s = c .before .before .before in
+    sym (bytes-one (s .args .k) (s .args .same) (c .if3 .taken) (not-false _ (c .before .if2 .left)) .1)
 
 mul-result-2 : tie.Need-mul-result-2
 mul-result-2 c = search needs
@@ -29,7 +33,9 @@ add-result-2 : tie.Need-add-result-2
 add-result-2 c = search needs
 
 returns-4 : tie.Need-returns-4
-returns-4 c = sym (flushes-log (c .before .before .before .args .k) (c .before .before .before .args .same) (c .before .before .if1 .left) (c .if3 .left))
+returns-4 c =
+    let s = c .before .before .before in
+    sym (flushes-log (s .args .k) (s .args .same) (c .before .before .if1 .left) (c .if3 .left))
 
 pub end-flushes-spec : {M : Type 1} → statement M
 end-flushes-spec =

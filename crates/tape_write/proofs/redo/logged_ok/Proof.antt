@@ -37,13 +37,19 @@ number-at-requires : tie.Need-number-at-requires Inv-loop μ-loop
 number-at-requires c κs = omega arith
 
 returns : tie.Need-returns Inv-loop μ-loop
-returns c = sym (ap (claims (length (c .before .before .before .before .before .args .image .now) / pageSize) (c .before .before .before .loop .marks)) (owns-next (c .before .before .before .before .before .args .image .now) (c .before .before .before .before .before .args .headers) (c .before .before .before .loop .i) (c .before .number-at .result) (c .before .before .loop-test .taken) (c .before .number-at .ensures .0)) ∙ claims-past (length (c .before .before .before .before .before .args .image .now) / pageSize) (c .before .before .before .loop .marks) (c .before .number-at .result) _ (c .if1 .taken)) ∙ c .before .before .before .loop .inv .1
+returns c =
+    let s = c .before .before .before .before .before in
+    let loop = c .before .before .before .loop in
+    sym (ap (claims (length (s .args .image .now) / pageSize) (loop .marks)) (owns-next (s .args .image .now) (s .args .headers) (loop .i) (c .before .number-at .result) (c .before .before .loop-test .taken) (c .before .number-at .ensures .0)) ∙ claims-past (length (s .args .image .now) / pageSize) (loop .marks) (c .before .number-at .result) _ (c .if1 .taken)) ∙ loop .inv .1
 
 array-read-if2 : tie.Need-array-read-if2 Inv-loop μ-loop
 array-read-if2 c = omega arith
 
 returns-2 : tie.Need-returns-2 Inv-loop μ-loop
-returns-2 c = sym (ap (claims (length (c .before .before .before .before .before .before .args .image .now) / pageSize) (c .before .before .before .before .loop .marks)) (owns-next (c .before .before .before .before .before .before .args .image .now) (c .before .before .before .before .before .before .args .headers) (c .before .before .before .before .loop .i) (c .before .before .number-at .result) (c .before .before .before .loop-test .taken) (c .before .before .number-at .ensures .0)) ∙ claims-twice (length (c .before .before .before .before .before .before .args .image .now) / pageSize) (c .before .before .before .before .loop .marks) (c .before .before .number-at .result) _ (c .before .if1 .left) (c .if2 .taken)) ∙ c .before .before .before .before .loop .inv .1
+returns-2 c =
+    let s = c .before .before .before .before .before .before in
+    let loop = c .before .before .before .before .loop in
+    sym (ap (claims (length (s .args .image .now) / pageSize) (loop .marks)) (owns-next (s .args .image .now) (s .args .headers) (loop .i) (c .before .before .number-at .result) (c .before .before .before .loop-test .taken) (c .before .before .number-at .ensures .0)) ∙ claims-twice (length (s .args .image .now) / pageSize) (loop .marks) (c .before .before .number-at .result) _ (c .before .if1 .left) (c .if2 .taken)) ∙ loop .inv .1
 
 array-write-marks-2 : tie.Need-array-write-marks-2 Inv-loop μ-loop
 array-write-marks-2 c = omega arith
@@ -55,10 +61,15 @@ loop-less : tie.Need-loop-less Inv-loop μ-loop
 loop-less c = omega arith
 
 loop-again : tie.Need-loop-again Inv-loop μ-loop
-loop-again c = (omega arith, sym (ap (claims (length (c .before .before .before .before .before .before .args .image .now) / pageSize) (c .before .before .before .before .loop .marks)) (owns-next (c .before .before .before .before .before .before .args .image .now) (c .before .before .before .before .before .before .args .headers) (c .before .before .before .before .loop .i) (c .before .before .number-at .result) (c .before .before .before .loop-test .taken) (c .before .before .number-at .ensures .0)) ∙ claims-on (length (c .before .before .before .before .before .before .args .image .now) / pageSize) (c .before .before .before .before .loop .marks) (c .before .before .number-at .result) _ (c .before .if1 .left) (c .if2 .left)) ∙ c .before .before .before .before .loop .inv .1)
+loop-again c =
+    let s = c .before .before .before .before .before .before in
+    let loop = c .before .before .before .before .loop in
+    (omega arith, sym (ap (claims (length (s .args .image .now) / pageSize) (loop .marks)) (owns-next (s .args .image .now) (s .args .headers) (loop .i) (c .before .before .number-at .result) (c .before .before .before .loop-test .taken) (c .before .before .number-at .ensures .0)) ∙ claims-on (length (s .args .image .now) / pageSize) (loop .marks) (c .before .before .number-at .result) _ (c .before .if1 .left) (c .if2 .left)) ∙ loop .inv .1)
 
 returns-3 : tie.Need-returns-3 Inv-loop μ-loop
-returns-3 c = sym (ap (claims (length (c .before .before .before .args .image .now) / pageSize) (c .before .loop .marks)) (owns-end (c .before .before .before .args .image .now) (c .before .before .before .args .headers) (c .before .loop .i) (c .loop-test .left)) ∙ claims-none (length (c .before .before .before .args .image .now) / pageSize) (c .before .loop .marks)) ∙ c .before .loop .inv .1
+returns-3 c =
+    let s = c .before .before .before in
+    sym (ap (claims (length (s .args .image .now) / pageSize) (c .before .loop .marks)) (owns-end (s .args .image .now) (s .args .headers) (c .before .loop .i) (c .loop-test .left)) ∙ claims-none (length (s .args .image .now) / pageSize) (c .before .loop .marks)) ∙ c .before .loop .inv .1
 
 pub logged-ok-spec : {M : Type 1} → statement M
 logged-ok-spec =

@@ -21,7 +21,9 @@ abbrev μ-loop : tie.MeasureT-loop
 
 loop-holds : tie.Need-loop-holds Inv-loop μ-loop
 unfolding logged
-loop-holds c = (omega arith, refl, rw (start-at 0 0 (c .before .before .args .headers) .1) (logged-inside (length (c .before .before .args .image .now) / pageSize) _ (c .before .before .pre .1)), rw (start-at 0 0 (c .before .before .args .headers) .1))
+loop-holds c =
+    let s = c .before .before in
+    (omega arith, refl, rw (start-at 0 0 (s .args .headers) .1) (logged-inside (length (s .args .image .now) / pageSize) _ (s .pre .1)), rw (start-at 0 0 (s .args .headers) .1))
 
 mul-number-at : tie.Need-mul-number-at Inv-loop μ-loop
 mul-number-at c = omega arith
@@ -42,7 +44,10 @@ add-copy-line : tie.Need-add-copy-line Inv-loop μ-loop
 add-copy-line c = omega arith
 
 copy-line-requires : tie.Need-copy-line-requires Inv-loop μ-loop
-copy-line-requires c κs = (omega (arith, isPage-true (length (c .before .before .before .before .before .before .args .image .now) / pageSize) (c .before .number-at .result) ((inside-next (c .before .before .before .before .before .before .args .image .now) (c .before .before .before .before .before .before .args .headers) (c .before .before .before .loop .i) (length (c .before .before .before .before .before .before .args .image .now) / pageSize) (c .before .number-at .result) (c .before .before .loop-test .taken) (c .before .number-at .ensures .0) (c .before .before .before .loop .inv .2)) .0), c .before .before .before .loop .inv .1, c .before .before .before .before .before .before .pre .0 .1), omega arith)
+copy-line-requires c κs =
+    let s = c .before .before .before .before .before .before in
+    let loop = c .before .before .before .loop in
+    (omega (arith, isPage-true (length (s .args .image .now) / pageSize) (c .before .number-at .result) ((inside-next (s .args .image .now) (s .args .headers) (loop .i) (length (s .args .image .now) / pageSize) (c .before .number-at .result) (c .before .before .loop-test .taken) (c .before .number-at .ensures .0) (loop .inv .2)) .0), loop .inv .1, s .pre .0 .1), omega arith)
 
 add-i : tie.Need-add-i Inv-loop μ-loop
 add-i c = omega arith
@@ -51,13 +56,20 @@ loop-less : tie.Need-loop-less Inv-loop μ-loop
 loop-less c = omega arith
 
 loop-again : tie.Need-loop-again Inv-loop μ-loop
-loop-again c = (omega arith, c .before .before .copy-line .kept .0 ∙ c .before .before .before .before .before .before .loop .inv .1, (inside-next (c .before .before .before .before .before .before .before .before .before .args .image .now) (c .before .before .before .before .before .before .before .before .before .args .headers) (c .before .before .before .before .before .before .loop .i) (length (c .before .before .before .before .before .before .before .before .before .args .image .now) / pageSize) (c .before .before .before .before .number-at .result) (c .before .before .before .before .before .loop-test .taken) (c .before .before .before .before .number-at .ensures .0) (c .before .before .before .before .before .before .loop .inv .2)) .1, with-next (c .before .before .before .before .before .before .before .before .before .args .image .now) (c .before .before .before .before .before .before .before .before .before .args .headers) (c .before .before .before .before .before .before .loop .i) (c .before .before .before .before .before .before .loop .work) _ (c .before .before .before .before .number-at .result) (c .before .before .before .before .before .loop-test .taken) (c .before .before .before .before .number-at .ensures .0) (c .before .before .copy-line .ensures) ∙ c .before .before .before .before .before .before .loop .inv .3)
+loop-again c =
+    let s = c .before .before .before .before .before .before .before .before .before in
+    let number-at = c .before .before .before .before .number-at in
+    let loop-test = c .before .before .before .before .before .loop-test in
+    let loop = c .before .before .before .before .before .before .loop in
+    (omega arith, c .before .before .copy-line .kept .0 ∙ loop .inv .1, (inside-next (s .args .image .now) (s .args .headers) (loop .i) (length (s .args .image .now) / pageSize) (number-at .result) (loop-test .taken) (number-at .ensures .0) (loop .inv .2)) .1, with-next (s .args .image .now) (s .args .headers) (loop .i) (loop .work) _ (number-at .result) (loop-test .taken) (number-at .ensures .0) (c .before .before .copy-line .ensures) ∙ loop .inv .3)
 
 same-length : tie.Need-same-length Inv-loop μ-loop
 same-length c = c .before .loop .inv .1
 
 returns : tie.Need-returns Inv-loop μ-loop
-returns c = sym (with-end (c .before .before .before .before .args .image .now) (c .before .before .before .before .args .headers) (c .before .loop .i) (c .before .loop .work) (c .loop-test .left)) ∙ c .before .loop .inv .3
+returns c =
+    let s = c .before .before .before .before in
+    sym (with-end (s .args .image .now) (s .args .headers) (c .before .loop .i) (c .before .loop .work) (c .loop-test .left)) ∙ c .before .loop .inv .3
 
 pub put-headers-spec : {M : Type 1} → statement M
 put-headers-spec =

@@ -21,7 +21,9 @@ same-length c = search needs
 
 returns : tie.Need-returns
 returns c =
-    let r = redo-short (c .before .before .before .before .before .before .before .before .before .before .args .image .now) (c .before .before .before .before .before .before .before .before .before .before .args .tape .now) (c .before .before .before .before .before .before .before .before .before .before .args .headers) (c .before .before .before .before .before .before .before .before .before .before .args .root) _ (c .before .before .before .before .before .before .before .before .before .before .pre .log) (root-same (c .before .before .before .before .before .before .before .before .before .before .args .image .now) (λ i. omega (arith, c .before .before .before .before .before .before .before .before .before .shared-slice-known .given i)) (omega (arith, c .before .before .before .before .before .before .before .before .before .before .pre .log)) (c .before .before .before .before .before .before .long-at .result) (c .before .before .before .before .before .before .before .before .before .before .args .root) (c .before .before .before .before .before .before .long-at .ensures) (omega (arith, c .before .before .before .before .before .before .before .before .before .before .fits .root))) (omega (arith, c .before .before .before .before .if1 .taken, c .before .before .before .before .before .replay-bytes .ensures)) in
+    let s = c .before .before .before .before .before .before .before .before .before .before in
+    let long-at = c .before .before .before .before .before .before .long-at in
+    let r = redo-short (s .args .image .now) (s .args .tape .now) (s .args .headers) (s .args .root) _ (s .pre .log) (root-same (s .args .image .now) (λ i. omega (arith, c .before .before .before .before .before .before .before .before .before .shared-slice-known .given i)) (omega (arith, s .pre .log)) (long-at .result) (s .args .root) (long-at .ensures) (omega (arith, c .before .before .before .before .before .before .before .before .before .before .fits .root))) (omega (arith, c .before .before .before .before .if1 .taken, c .before .before .before .before .before .replay-bytes .ensures)) in
     (r .0, (c .before .before .copy-all .ensures ∙ r .1 .0, r .1 .1))
 
 replay-requires : tie.Need-replay-requires
@@ -40,7 +42,11 @@ same-length-3 : tie.Need-same-length-3
 same-length-3 c = search needs
 
 returns-2 : tie.Need-returns-2
-returns-2 c = redo-done (c .before .before .before .before .before .before .before .before .before .before .before .before .before .before .args .image .now) (c .before .before .before .before .before .before .before .before .before .before .before .before .before .before .args .tape .now) (c .before .before .before .before .before .before .before .before .before .before .before .before .before .before .args .headers) (c .before .before .before .before .before .before .before .before .before .before .before .before .before .before .args .root) _ (c .before .before .before .before .before .before .before .before .before .before .before .before .before .before .pre .log) (root-same (c .before .before .before .before .before .before .before .before .before .before .before .before .before .before .args .image .now) (λ i. omega (arith, c .before .before .before .before .before .before .before .before .before .before .before .before .before .shared-slice-known .given i)) (omega (arith, c .before .before .before .before .before .before .before .before .before .before .before .before .before .before .pre .log)) (c .before .before .before .before .before .before .before .before .before .before .long-at .result) (c .before .before .before .before .before .before .before .before .before .before .before .before .before .before .args .root) (c .before .before .before .before .before .before .before .before .before .before .long-at .ensures) (omega (arith, c .before .before .before .before .before .before .before .before .before .before .before .before .before .before .fits .root))) (omega (arith, c .before .before .before .before .before .before .before .before .if1 .left, c .before .before .before .before .before .before .before .before .before .replay-bytes .ensures)) _ _ _ (c .before .before .before .before .before .before .before .before .before .replay-bytes .ensures) (c .before .before .before .before .before .before .replay .ensures) (c .before .before .emit-replay .ensures)
+returns-2 c =
+    let s = c .before .before .before .before .before .before .before .before .before .before .before .before .before .before in
+    let replay-bytes = c .before .before .before .before .before .before .before .before .before .replay-bytes in
+    let long-at = c .before .before .before .before .before .before .before .before .before .before .long-at in
+    redo-done (s .args .image .now) (s .args .tape .now) (s .args .headers) (s .args .root) _ (s .pre .log) (root-same (s .args .image .now) (λ i. omega (arith, c .before .before .before .before .before .before .before .before .before .before .before .before .before .shared-slice-known .given i)) (omega (arith, s .pre .log)) (long-at .result) (s .args .root) (long-at .ensures) (omega (arith, c .before .before .before .before .before .before .before .before .before .before .before .before .before .before .fits .root))) (omega (arith, c .before .before .before .before .before .before .before .before .if1 .left, replay-bytes .ensures)) _ _ _ (replay-bytes .ensures) (c .before .before .before .before .before .before .replay .ensures) (c .before .before .emit-replay .ensures)
 
 pub redo-spec : {M : Type 1} → statement M
 redo-spec =

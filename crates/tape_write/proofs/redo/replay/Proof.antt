@@ -22,7 +22,9 @@ same-length : tie.Need-same-length
 same-length c = search needs
 
 returns : tie.Need-returns
-returns c = replay-whole (c .before .before .before .before .before .before .before .before .before .before .before .before .before .before .before .before .before .before .args .image .now) _ _ _ _ (logged (c .before .before .before .before .before .before .before .before .before .before .before .before .before .before .before .before .before .before .args .headers) (c .before .before .before .before .before .before .before .before .before .before .before .before .before .before .before .before .before .before .args .image .now)) (c .before .before .before .before .before .before .before .before .before .before .before .before .before .before .before .before .before .before .args .root) (c .before .before .before .before .before .before .before .before .before .before .before .before .before .before .copy-all .ensures) (c .before .before .before .before .before .before .before .before .before .before .put-headers .ensures) (c .before .before .before .before .before .before .put-long .ensures) (c .before .before .put-long2 .ensures)
+returns c =
+    let s = c .before .before .before .before .before .before .before .before .before .before .before .before .before .before .before .before .before .before in
+    replay-whole (s .args .image .now) _ _ _ _ (logged (s .args .headers) (s .args .image .now)) (s .args .root) (c .before .before .before .before .before .before .before .before .before .before .before .before .before .before .copy-all .ensures) (c .before .before .before .before .before .before .before .before .before .before .put-headers .ensures) (c .before .before .before .before .before .before .put-long .ensures) (c .before .before .put-long2 .ensures)
 
 pub replay-spec : {M : Type 1} → statement M
 replay-spec =

@@ -35,8 +35,9 @@ returns c =
 
 drop-record-requires : tie.Need-drop-record-requires
 drop-record-requires c κs =
+    let leaf-of = c .before .before .before .before .before .before .before .leaf-of in
     let s = c .before .before .before .before .before .before .before .before .before .before in
-    ((routed-leaf (s .pre .0) _ _ (c .before .before .before .before .before .before .before .leaf-of .ensures)), found-less _ _ _ (c .before .before .before .before .before .before .before .leaf-of .ensures) _ (c .before .before .before .before .before .page-of .ensures) _ (c .before .before .before .before .find .ensures) (s .pre .0) _ (c .before .before .at .given .1))
+    ((routed-leaf (s .pre .0) _ _ (leaf-of .ensures)), found-less _ _ _ (leaf-of .ensures) _ (c .before .before .before .before .before .page-of .ensures) _ (c .before .before .before .before .find .ensures) (s .pre .0) _ (c .before .before .at .given .1))
 
 same-length-2 : tie.Need-same-length-2
 same-length-2 c = search needs

@@ -48,8 +48,9 @@ same-length-3 c = search needs
 
 returns-3 : tie.Need-returns-3
 returns-3 c =
+    let match = c .before .before .before .before .match in
     let s = c .before .before .before .before .before .before .before in
-    says-same (c .before .before .delete-edit .ensures (s .args .before .now)) _ (ap (λ (e : Edit). edited e (stateOf (s .args .before .now) (s .args .work .now) (s .args .t))) (sym (kind-delete _ (s .args .key) (s .args .value .now) (c .before .before .before .before .match .rest .0 .1) (c .before .before .before .before .match .rest .1))))
+    says-same (c .before .before .delete-edit .ensures (s .args .before .now)) _ (ap (λ (e : Edit). edited e (stateOf (s .args .before .now) (s .args .work .now) (s .args .t))) (sym (kind-delete _ (s .args .key) (s .args .value .now) (match .rest .0 .1) (match .rest .1))))
 
 pub edit-spec : {M : Type 1} → statement M
 edit-spec =

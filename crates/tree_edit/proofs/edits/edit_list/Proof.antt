@@ -85,8 +85,11 @@ loop-less c = omega (arith, head-fits (c .before .before .before .before .before
 
 loop-again : tie.Need-loop-again Inv-loop μ-loop
 loop-again c =
+    let edit = c .before .before .before .before .before .edit in
+    let wide = c .before .before .before .before .before .before .before .before .before .before .wide in
+    let loop-test = c .before .before .before .before .before .before .before .before .before .before .before .before .loop-test in
     let l = c .before .before .before .before .before .before .before .before .before .before .before .before .before .loop in
-    (c .before .before .before .before .before .edit .kept .0 ∙ l .inv .0, head-fits (l .inv .2) (c .before .before .before .before .before .before .before .before .before .before .before .before .loop-test .taken) _ (c .before .before .before .before .before .before .before .before .before .before .wide .ensures .0), left-next (l .inv .2) (c .before .before .before .before .before .before .before .before .before .before .before .before .loop-test .taken) _ (c .before .before .before .before .before .before .before .before .before .before .wide .ensures .0) _ (c .before .before .before .before .before .before .before .before .before .long-at .ensures) _ _ (said-done (c .before .before .before .before .before .edit .ensures) _ (c .before .u .given .1)) (said-low (c .before .before .before .before .before .edit .ensures) _ (c .before .u .given .1)))
+    (edit .kept .0 ∙ l .inv .0, head-fits (l .inv .2) (loop-test .taken) _ (wide .ensures .0), left-next (l .inv .2) (loop-test .taken) _ (wide .ensures .0) _ (c .before .before .before .before .before .before .before .before .before .long-at .ensures) _ _ (said-done (edit .ensures) _ (c .before .u .given .1)) (said-low (edit .ensures) _ (c .before .u .given .1)))
 
 same-length-2 : tie.Need-same-length-2 Inv-loop μ-loop
 same-length-2 c = c .before .loop .inv .0

@@ -22,16 +22,19 @@ made-count-requires c κs = old-laid (c .before .before .before .before .before 
 
 copy-made-requires : tie.Need-copy-made-requires
 copy-made-requires c κs =
+    let if1 = c .before .before .before .before .if1 in
+    let free-below = c .before .before .before .before .before .free-below in
     let s = c .before .before .before .before .before .before .before .before in
-    ((leaf-fits (s .pre .0 .0 .here), copy-fits (s .pre .0 .0) _ _ (c .before .before .before .before .before .free-below .ensures .0) (c .before .before .before .before .if1 .left)), copy-fill (s .pre .0 .0) _ _ (c .before .before .before .before .before .free-below .ensures .0) (c .before .before .before .before .if1 .left) (s .pre .1) _ (c .before .before .page-of .ensures) _ (c .before .made-count .ensures))
+    ((leaf-fits (s .pre .0 .0 .here), copy-fits (s .pre .0 .0) _ _ (free-below .ensures .0) (if1 .left)), copy-fill (s .pre .0 .0) _ _ (free-below .ensures .0) (if1 .left) (s .pre .1) _ (c .before .before .page-of .ensures) _ (c .before .made-count .ensures))
 
 kept-sep-requires : tie.Need-kept-sep-requires
 kept-sep-requires c κs = search needs
 
 index-put-requires : tie.Need-index-put-requires
 index-put-requires c κs =
+    let free-below = c .before .before .before .before .before .before .before .before .before .before .free-below in
     let s = c .before .before .before .before .before .before .before .before .before .before .before .before .before in
-    (copy-index (s .pre .0 .0) _ _ (c .before .before .before .before .before .before .before .before .before .before .free-below .ensures .0) (c .before .before .before .before .before .before .before .before .before .if1 .left) (s .pre .1) _ (c .before .before .before .before .before .before .before .page-of .ensures) _ (c .before .before .before .before .before .before .made-count .ensures) _ (c .before .before .before .before .copy-made .ensures) _ (c .kept-sep .ensures), omega (arith, c .before .before .before .before .before .before .before .before .before .before .free-below .ensures .1, s .pre .0 .1))
+    (copy-index (s .pre .0 .0) _ _ (free-below .ensures .0) (c .before .before .before .before .before .before .before .before .before .if1 .left) (s .pre .1) _ (c .before .before .before .before .before .before .before .page-of .ensures) _ (c .before .before .before .before .before .before .made-count .ensures) _ (c .before .before .before .before .copy-made .ensures) _ (c .kept-sep .ensures), omega (arith, free-below .ensures .1, s .pre .0 .1))
 
 same-length : tie.Need-same-length
 same-length c = search needs

@@ -33,8 +33,9 @@ count-requires-2 c κs =
 
 delete-at-requires-2 : tie.Need-delete-at-requires-2
 delete-at-requires-2 c κs =
+    let delete-at = c .before .before .before .before .before .before .before .before .before .before .before .delete-at in
     let s = c .before .before .before .before .before .before .before .before .before .before .before .before .before .before in
-    (index-fits (s .pre .0) (s .args .j) _ (c .before .before .before .before .before .before .before .before .before .before .before .delete-at .ensures), index-ok (s .pre .0) (s .args .j) _ (c .before .before .before .before .before .before .before .before .before .before .before .delete-at .ensures), slot-in (s .pre .0) (s .args .j) _ (c .before .before .before .before .before .before .before .before .before .before .before .delete-at .ensures))
+    (index-fits (s .pre .0) (s .args .j) _ (delete-at .ensures), index-ok (s .pre .0) (s .args .j) _ (delete-at .ensures), slot-in (s .pre .0) (s .args .j) _ (delete-at .ensures))
 
 same-length : tie.Need-same-length
 same-length c = search needs

@@ -25,8 +25,9 @@ slice-aggregate-put-in-place c = search needs
 
 put-in-place-requires : tie.Need-put-in-place-requires
 put-in-place-requires c κs =
+    let put-number = c .before .before .before .before .before .before .before .put-number in
     let s = c .before .before .before .before .before .before .before .before .before .before in
-    ((index-fits (s .pre .0), can-put (s .pre .0) _ (c .before .before .before .before .before .before .before .put-number .ensures)), not-full (s .pre .0) _ (c .before .before .before .before .before .before .before .put-number .ensures) _ (c .before .before .before .before .page-of .ensures) _ (c .before .before .before .is-full .ensures) (not-true _ (c .before .before .if1 .taken)))
+    ((index-fits (s .pre .0), can-put (s .pre .0) _ (put-number .ensures)), not-full (s .pre .0) _ (put-number .ensures) _ (c .before .before .before .before .page-of .ensures) _ (c .before .before .before .is-full .ensures) (not-true _ (c .before .before .if1 .taken)))
 
 same-length : tie.Need-same-length
 same-length c = search needs
@@ -56,16 +57,23 @@ slice-aggregate-copy-made c = search needs
 
 copy-made-requires : tie.Need-copy-made-requires
 copy-made-requires c κs =
+    let if2 = c .before .before .before .before .before .if2 in
+    let free-below = c .before .before .before .before .before .before .free-below in
+    let if1 = c .before .before .before .before .before .before .before .if1 in
+    let is-full = c .before .before .before .before .before .before .before .before .is-full in
+    let page-of = c .before .before .before .before .before .before .before .before .before .page-of in
+    let put-number = c .before .before .before .before .before .before .before .before .before .before .before .before .put-number in
     let s = c .before .before .before .before .before .before .before .before .before .before .before .before .before .before .before in
-    ((index-fits (s .pre .0), copy-fits (s .pre .0) _ (c .before .before .before .before .before .before .before .before .before .before .before .before .put-number .ensures) _ (c .before .before .before .before .before .before .before .before .before .page-of .ensures) _ (c .before .before .before .before .before .before .before .before .is-full .ensures) (not-false _ (c .before .before .before .before .before .before .before .if1 .left)) _ _ (c .before .before .before .before .before .before .free-below .ensures .0) (c .before .before .before .before .before .if2 .left)), can-copy (s .pre .0) _ (c .before .before .before .before .before .before .before .before .before .before .before .before .put-number .ensures) _ (c .before .before .before .before .before .before .before .before .before .page-of .ensures) _ (c .before .before .before .before .before .before .before .before .is-full .ensures) (not-false _ (c .before .before .before .before .before .before .before .if1 .left)) _ _ (c .before .before .before .before .before .before .free-below .ensures .0) (c .before .before .before .before .before .if2 .left) _ (c .before .before .before .page-of2 .ensures) _ (c .before .before .made-count .ensures))
+    ((index-fits (s .pre .0), copy-fits (s .pre .0) _ (put-number .ensures) _ (page-of .ensures) _ (is-full .ensures) (not-false _ (if1 .left)) _ _ (free-below .ensures .0) (if2 .left)), can-copy (s .pre .0) _ (put-number .ensures) _ (page-of .ensures) _ (is-full .ensures) (not-false _ (if1 .left)) _ _ (free-below .ensures .0) (if2 .left) _ (c .before .before .before .page-of2 .ensures) _ (c .before .before .made-count .ensures))
 
 same-length-3 : tie.Need-same-length-3
 same-length-3 c = search needs
 
 returns-3 : tie.Need-returns-3
 returns-3 c =
+    let free-below = c .before .before .before .before .before .before .before .before .before .free-below in
     let s = c .before .before .before .before .before .before .before .before .before .before .before .before .before .before .before .before .before .before in
-    says-done _ (indexed-copy (s .pre .0) _ (c .before .before .before .before .before .before .before .before .before .before .before .before .before .before .before .put-number .ensures) _ (c .before .before .before .before .before .before .before .before .before .before .before .before .page-of .ensures) _ (c .before .before .before .before .before .before .before .before .before .before .before .is-full .ensures) (not-false _ (c .before .before .before .before .before .before .before .before .before .before .if1 .left)) _ _ (c .before .before .before .before .before .before .before .before .before .free-below .ensures .0) (c .before .before .before .before .before .before .before .before .if2 .left) _ (c .before .before .before .before .before .before .page-of2 .ensures) _ (c .before .before .before .before .before .made-count .ensures) _ (c .before .before .copy-made .ensures)) (omega (arith, c .before .before .before .before .before .before .before .before .before .free-below .ensures .1, s .pre .1))
+    says-done _ (indexed-copy (s .pre .0) _ (c .before .before .before .before .before .before .before .before .before .before .before .before .before .before .before .put-number .ensures) _ (c .before .before .before .before .before .before .before .before .before .before .before .before .page-of .ensures) _ (c .before .before .before .before .before .before .before .before .before .before .before .is-full .ensures) (not-false _ (c .before .before .before .before .before .before .before .before .before .before .if1 .left)) _ _ (free-below .ensures .0) (c .before .before .before .before .before .before .before .before .if2 .left) _ (c .before .before .before .before .before .before .page-of2 .ensures) _ (c .before .before .before .before .before .made-count .ensures) _ (c .before .before .copy-made .ensures)) (omega (arith, free-below .ensures .1, s .pre .1))
 
 pub index-put-spec : {M : Type 1} → statement M
 index-put-spec =

@@ -28,13 +28,17 @@ same-length : tie.Need-same-length
 same-length c = search needs
 
 returns : tie.Need-returns
-returns c = let out = said-refused (c .before .before .before .before .index-put .ensures) _ (c .enum-told .given .1) in says-same (c .before .before .before .before .index-put .ensures) _ (sym out ∙ two-refused (c .before .before .before .before .before .before .before .before .before .before .pre .0) _ out)
+returns c =
+    let index-put = c .before .before .before .before .index-put in
+    let out = said-refused (index-put .ensures) _ (c .enum-told .given .1) in says-same (index-put .ensures) _ (sym out ∙ two-refused (c .before .before .before .before .before .before .before .before .before .before .pre .0) _ out)
 
 add-index-put : tie.Need-add-index-put
 add-index-put c = search needs
 
 index-put-requires-2 : tie.Need-index-put-requires-2
-index-put-requires-2 c κs = (second-index (c .before .before .before .before .before .before .before .before .before .before .before .before .pre .0) _ (c .before .before .before .before .before .before .before .before .before .page-of .ensures) _ (c .before .before .before .before .before .before .before .before .key-at .ensures) _ (said-done (c .before .before .before .before .before .before .index-put .ensures) _ (c .before .before .first .given .1)), said-low (c .before .before .before .before .before .before .index-put .ensures) _ (c .before .before .first .given .1))
+index-put-requires-2 c κs =
+    let index-put = c .before .before .before .before .before .before .index-put in
+    (second-index (c .before .before .before .before .before .before .before .before .before .before .before .before .pre .0) _ (c .before .before .before .before .before .before .before .before .before .page-of .ensures) _ (c .before .before .before .before .before .before .before .before .key-at .ensures) _ (said-done (index-put .ensures) _ (c .before .before .first .given .1)), said-low (index-put .ensures) _ (c .before .before .first .given .1))
 
 same-length-2 : tie.Need-same-length-2
 same-length-2 c = search needs

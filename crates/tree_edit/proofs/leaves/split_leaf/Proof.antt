@@ -40,8 +40,13 @@ returns-3 c = says-refused _ (split-short (c .before .before .before .before .be
 
 split-over-requires : tie.Need-split-over-requires
 split-over-requires c κs =
+    let if2 = c .before .before .before .if2 in
+    let free-below = c .before .before .before .before .free-below in
+    let if1 = c .before .before .before .before .before .if1 in
+    let count = c .before .before .before .before .before .before .count in
+    let page-of = c .before .before .before .before .before .before .before .page-of in
     let s = c .before .before .before .before .before .before .before .before .before .before .before in
-    ((can-split (s .pre .0 .0) _ (c .before .before .before .before .before .before .before .page-of .ensures) _ (c .before .before .before .before .before .before .count .ensures) (c .before .before .before .before .before .if1 .left) _ _ (c .before .before .before .before .free-below .ensures .0) (c .before .before .before .if2 .left) _ _ (c .before .before .free-below2 .ensures .0) (c .before .if3 .left), omega (arith, c .before .before .before .before .free-below .ensures .1, c .before .before .free-below2 .ensures .1, s .pre .0 .1)), (s .pre .1, children-few (s .pre .0 .0) _ (c .before .before .before .before .before .before .before .page-of .ensures) _ (c .before .before .before .before .before .before .count .ensures) (c .before .before .before .before .before .if1 .left) _ _ (c .before .before .before .before .free-below .ensures .0) (c .before .before .before .if2 .left) _ _ (c .before .before .free-below2 .ensures .0) (c .before .if3 .left)))
+    ((can-split (s .pre .0 .0) _ (page-of .ensures) _ (count .ensures) (if1 .left) _ _ (free-below .ensures .0) (if2 .left) _ _ (c .before .before .free-below2 .ensures .0) (c .before .if3 .left), omega (arith, free-below .ensures .1, c .before .before .free-below2 .ensures .1, s .pre .0 .1)), (s .pre .1, children-few (s .pre .0 .0) _ (page-of .ensures) _ (count .ensures) (if1 .left) _ _ (free-below .ensures .0) (if2 .left) _ _ (c .before .before .free-below2 .ensures .0) (c .before .if3 .left)))
 
 same-length-4 : tie.Need-same-length-4
 same-length-4 c = search needs

@@ -20,13 +20,18 @@ made-count-requires c κs = old-laid (c .before .before .before .before .before 
 
 copy-made-requires : tie.Need-copy-made-requires
 copy-made-requires c κs =
+    let page-of = c .before .before .before .page-of in
     let s = c .before .before .before .before .before .before .before in
-    ((leaf-fits (s .pre .0 .0 .here), left-fits (s .pre .0 .0) (s .pre .1 .0) _ _ _ refl _ (c .before .before .before .page-of .ensures) _ (c .before .before .split-point .ensures)), left-fill (s .pre .0 .0) (s .pre .1 .0) _ _ _ refl _ (c .before .before .before .page-of .ensures) _ (c .before .before .split-point .ensures))
+    ((leaf-fits (s .pre .0 .0 .here), left-fits (s .pre .0 .0) (s .pre .1 .0) _ _ _ refl _ (page-of .ensures) _ (c .before .before .split-point .ensures)), left-fill (s .pre .0 .0) (s .pre .1 .0) _ _ _ refl _ (page-of .ensures) _ (c .before .before .split-point .ensures))
 
 copy-made-requires-2 : tie.Need-copy-made-requires-2
 copy-made-requires-2 c κs =
+    let copy-made = c .before .before .before .copy-made in
+    let made-count = c .before .before .before .before .before .made-count in
+    let split-point = c .before .before .before .before .before .before .split-point in
+    let page-of = c .before .before .before .before .before .before .before .page-of in
     let s = c .before .before .before .before .before .before .before .before .before .before .before in
-    ((old-fits (s .pre .0 .0) (s .pre .1 .0) _ _ _ refl _ (c .before .before .before .before .before .before .before .page-of .ensures) _ (c .before .before .before .before .before .before .split-point .ensures) _ (c .before .before .before .copy-made .ensures) _ (c .before .before .before .before .before .made-count .ensures), right-fits (s .pre .0 .0) (s .pre .1 .0) _ _ _ refl _ (c .before .before .before .before .before .before .before .page-of .ensures) _ (c .before .before .before .before .before .before .split-point .ensures) _ (c .before .before .before .copy-made .ensures) _ (c .before .before .before .before .before .made-count .ensures)), right-fill (s .pre .0 .0) (s .pre .1 .0) _ _ _ refl _ (c .before .before .before .before .before .before .before .page-of .ensures) _ (c .before .before .before .before .before .before .split-point .ensures) _ (c .before .before .before .copy-made .ensures) _ (c .before .before .before .before .before .made-count .ensures))
+    ((old-fits (s .pre .0 .0) (s .pre .1 .0) _ _ _ refl _ (page-of .ensures) _ (split-point .ensures) _ (copy-made .ensures) _ (made-count .ensures), right-fits (s .pre .0 .0) (s .pre .1 .0) _ _ _ refl _ (page-of .ensures) _ (split-point .ensures) _ (copy-made .ensures) _ (made-count .ensures)), right-fill (s .pre .0 .0) (s .pre .1 .0) _ _ _ refl _ (page-of .ensures) _ (split-point .ensures) _ (copy-made .ensures) _ (made-count .ensures))
 
 kept-sep-requires : tie.Need-kept-sep-requires
 kept-sep-requires c κs = search needs

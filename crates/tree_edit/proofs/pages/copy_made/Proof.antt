@@ -41,9 +41,10 @@ slice-aggregate-fill-made c = search needs
 
 fill-made-requires : tie.Need-fill-made-requires
 fill-made-requires c κs =
+    let copy = c .before .before .before .copy in
     let s = c .before .before .before .before .before .before .before .before in
     let a = s .args in
-    let e = page-copied _ (a .work .now) (c .before .before .before .copy .last .0) (a .from) (length-replicate {A = ℕ} 1024 0) (s .pre .0 .0) (c .before .before .before .copy .ensures) in
+    let e = page-copied _ (a .work .now) (copy .last .0) (a .from) (length-replicate {A = ℕ} 1024 0) (s .pre .0 .0) (copy .ensures) in
     (length-lent (a .work .now) (a .to) (s .pre .0 .1), rw e (s .pre .1))
 
 same-length : tie.Need-same-length
@@ -51,12 +52,13 @@ same-length c = search needs
 
 returns : tie.Need-returns
 returns c =
+    let copy = c .before .before .before .before .before .before .copy in
     let s = c .before .before .before .before .before .before .before .before .before .before .before in
     let a = s .args in
-    let e = page-copied _ (a .work .now) (c .before .before .before .before .before .before .copy .last .0) (a .from) (length-replicate {A = ℕ} 1024 0) (s .pre .0 .0) (c .before .before .before .before .before .before .copy .ensures) in
+    let e = page-copied _ (a .work .now) (copy .last .0) (a .from) (length-replicate {A = ℕ} 1024 0) (s .pre .0 .0) (copy .ensures) in
     back (a .work .now) (a .to) _ _ (s .pre .0 .1) (c .before .before .fill-made .kept .0)
     (c .before .before .fill-made .ensures
-    ∙ ap (λ (x : List ℕ). fill x (a .kind) (a .to) (between (madeBy (a .new) (a .value .now) (c .before .before .before .before .before .before .copy .last .0)) (a .first) (a .last))) (lent (a .work .now) (a .to))
+    ∙ ap (λ (x : List ℕ). fill x (a .kind) (a .to) (between (madeBy (a .new) (a .value .now) (copy .last .0)) (a .first) (a .last))) (lent (a .work .now) (a .to))
     ∙ ap (λ (x : List ℕ). fill (pageOf (a .work .now) (a .to)) (a .kind) (a .to) (between (madeBy (a .new) (a .value .now) x) (a .first) (a .last))) e)
 
 pub copy-made-spec : {M : Type 1} → statement M

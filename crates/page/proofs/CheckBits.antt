@@ -9,7 +9,7 @@ use native.Mathlib.Numerals.{add-one}
 use native.Mathlib.Nat.{pow-suc, zero-div, div-eq-of-lt, add-comm, mul-assoc, mul-mod-left, lt-of-lt-of-le, one-mul, add-zero}
 use lib.Arith.{bin-ind}
 use lib.Pow.{pow-pos, pow-add, pow-mono, shr-shr, shl-shr, shl-exact, ones-lt, ones-split, high, split}
-use lib.Bits.{bitAnd, bitOr, and-step, or-step, and-shr, or-shr, and-block, or-block}
+use lib.Bits.{bitAnd, bitOr, and-step, or-step, and-shr, or-shr, and-block, or-block, or-add-and, and-le-l, and-le-r}
 use lib.Dec.{leb, eqb}
 use borrow.Author.Tests.{leb-true, leb-false, eqb-true, eq-eqb, ne-eqb}
 use Rattle.page.proofs.CheckBytes.{same-test}
@@ -45,6 +45,13 @@ apart-digits x y e i = sym (digit-and x y i) ∙ digit-zero (bitAnd x y) i e
 
 digits-apart : (x y : ℕ) → ((i : ℕ) → min (digit x i) (digit y i) ≡ 0) → bitAnd x y ≡ 0
 digits-apart x y h = no-digits (bitAnd x y) (λ i. digit-and x y i ∙ h i)
+
+-- numbers joined are 0 exactly if each is
+pub or-none : (x y : ℕ) → bitOr x y ≡ 0 → (x ≡ 0) × (y ≡ 0)
+or-none x y e = (omega (arith, or-add-and x y, and-le-r x y), omega (arith, or-add-and x y, and-le-l x y))
+
+pub none-or : (x y : ℕ) → x ≡ 0 → y ≡ 0 → bitOr x y ≡ 0
+none-or x y e f = rw (e, f)
 
 -- ---- a run of places
 

@@ -75,20 +75,20 @@ impl Marks {
     }
 }
 
-// Whether the bytes from `at` on, up to `end`, are zero: a word at a time, whose bytes below `at` are shifted out.
+// Whether the bytes from `at` on, up to `end`, are zero: a word at a time, whose bytes below `at` are shifted out. The words are joined and
+// tested once at the end.
 fn blank(page: &[u8], at: usize, end: usize) -> bool
     requires { ⌜ (at ≤ end) × (end ≤ length (now page)) × (end % 8 ≡ 0) ⌝ }
     ensures { λ r. ⌜ r ≡ eqs (part (now (page .entry)) at (end - at)) (replicate (end - at) 0) ⌝ }
 {
+    let mut joined = 0u64;
     let mut a = at;
     while a < end {
         let k = a % 8;
-        if codec::long_at(page, a - k) >> (8 * k) != 0 {
-            return false;
-        }
+        joined = joined | (codec::long_at(page, a - k) >> (8 * k));
         a = a - k + 8;
     }
-    true
+    joined == 0
 }
 
 // Whether the header is laid out as it must be, and is of this kind and number.

@@ -8,13 +8,14 @@ use native.Mathlib.Omega.{arith}
 use native.Mathlib.Numerals.{add-one}
 use lib.ListN.{length, getD, take, drop, length-map, drop-of-length-le}
 use lib.Seq.{sets, take-at}
-use lib.Bits.{bitOr, bitXor, or-zero-r, or-add-and, xor-self, xor-add-and, and-le-l, and-le-r}
+use lib.Bits.{bitOr, bitXor, or-zero-r, xor-self, xor-add-and, and-le-l, and-le-r}
 use lib.Dec.{eqb}
 use borrow.Author.Tests.{eq-eqb, ne-eqb, eqb-true, eqb-false}
 use Rattle.codec.specs.Lists.{pick, part, splice, eqs, All}
 use Rattle.codec.proofs.Tests.{eqs-same, eqs-differ}
 use Rattle.codec.proofs.Lists.{length-part, part-drop, drop-splice, splice-sets, sets-append}
 use Rattle.page.specs.Layout.{pageSize, lineSize}
+use Rattle.page.proofs.CheckBits.{or-none}
 use Rattle.image.specs.Image.{among}
 use Rattle.journal.specs.Changes.{headerLine, changedFrom}
 use Rattle.journal.specs.Tape.{newHeaders, joinLines}
@@ -34,9 +35,6 @@ eqs-past (c ∷ x) u v = rw (eq-eqb c c refl) (eqs-past x u v)
 
 eqs-apart : (x y u v : List ℕ) → length x ≡ length y → (x ≡ y → ⊥) → eqs (x ++ u) (y ++ v) ≡ false
 eqs-apart x y u v e other = eqs-differ (x ++ u) (y ++ v) (λ q. other (sym (take-at x u (length y) e) ∙ ap (take (length y)) q ∙ take-at y v (length y) refl))
-
-or-none : (d x : ℕ) → bitOr d x ≡ 0 → x ≡ 0
-or-none d x e = omega (arith, or-add-and d x, and-le-l d x)
 
 xor-none : (u v : ℕ) → bitXor u v ≡ 0 → u ≡ v
 xor-none u v e = omega (arith, xor-add-and u v, and-le-l u v, and-le-r u v)
@@ -79,7 +77,7 @@ module _ (a b : List ℕ) (at n i : ℕ) where
             ap₂ (λ (w : ℕ) (t : Bool). eqb w 0 && t) x (sym (compare-same (same z)))
         go false e =
             let ne = eqb-false u v e in
-            rw (ne-eqb (bitOr d (bitXor u v)) 0 (λ q. ne (xor-none u v (or-none d (bitXor u v) q))), compare-other fa fb (λ q. ne (back q)))
+            rw (ne-eqb (bitOr d (bitXor u v)) 0 (λ q. ne (xor-none u v (or-none d (bitXor u v) q .1))), compare-other fa fb (λ q. ne (back q)))
             (sym (and-false (eqb d 0)))
 
 -- ---- the changed headers, page by page

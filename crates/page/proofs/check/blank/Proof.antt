@@ -1,21 +1,22 @@
--- `blank`: the bytes passed are zero, and the word's number past those below is 0 exactly if its other bytes are.
+-- `blank`: the joined words are 0 only if the bytes passed are, and are 0 if all bytes are.
 -- Assumes nothing.
 use Prim.Native.Nat.{ℕ, _+_, _-_, _*_, _/_, _%_, _^_, _≤_}
-use mathlib.Core.Path.{sym, ap, _∙_}
+use mathlib.Core.Path.{_≡_, refl, sym, ap, _∙_}
 use native.Mathlib.Omega.{arith}
-use Rattle.codec.proofs.Tests.{not-true}
-use Rattle.page.proofs.CheckBytes.{Blank, blank-join, blank-test, test-blank, word-from, from-word}
+use borrow.Author.Tests.{eqb-true, eq-eqb}
+use Rattle.page.proofs.CheckBytes.{Blank, blank-join, blank-test, test-blank, word-from, from-word, same-test}
+use Rattle.page.proofs.CheckBits.{or-none, none-or}
 use Rattle.page.proofs.check.blank.Statement.{statement}
 use Rattle.page.proofs.check.blank.Tie as tie
 
 abbrev Inv-loop : tie.InvT-loop
-Inv-loop page at end a₀ a = (at ≤ a) × (a ≤ end) × Blank page at a
+Inv-loop page at end joined₀ a₀ joined a = (at ≤ a) × (a ≤ end) × (joined ≡ 0 → Blank page at a) × (Blank page at end → joined ≡ 0)
 
 abbrev μ-loop : tie.MeasureT-loop
-μ-loop page at end a₀ a = end - a
+μ-loop page at end joined₀ a₀ joined a = end - a
 
 loop-holds : tie.Need-loop-holds Inv-loop μ-loop
-loop-holds c = (omega arith, omega arith, λ i h k. omega arith)
+loop-holds c = (omega arith, omega arith, λ e i h k. omega arith, λ b. refl)
 
 sub-long-at : tie.Need-sub-long-at Inv-loop μ-loop
 sub-long-at c = omega arith
@@ -23,21 +24,11 @@ sub-long-at c = omega arith
 long-at-requires : tie.Need-long-at-requires Inv-loop μ-loop
 long-at-requires c κs = omega arith
 
-mul-if1 : tie.Need-mul-if1 Inv-loop μ-loop
-mul-if1 c = omega arith
+mul-joined : tie.Need-mul-joined Inv-loop μ-loop
+mul-joined c = omega arith
 
-shr-if1 : tie.Need-shr-if1 Inv-loop μ-loop
-shr-if1 c = omega arith
-
-returns : tie.Need-returns Inv-loop μ-loop
-returns c =
-    let s = c .before .before .before .before .before in
-    let a = s .args in
-    let p = a .page .now in
-    let l = c .before .before .before .loop in
-    sym (not-true _ (λ t. c .if1 .taken (ap (λ (n : ℕ). n / 2 ^ (8 * (l .a % 8))) (c .before .long-at .ensures)
-    ∙ from-word p (λ i. omega (arith, c .before .before .before .before .shared-slice-known .given i)) (l .a) (a .end) (c .before .before .loop-test .taken) (s .pre .2) (s .pre .1)
-    (λ i h k. test-blank p (a .at) (a .end) (s .pre .0) t i (omega (arith, l .inv .0)) k))))
+shr-joined : tie.Need-shr-joined Inv-loop μ-loop
+shr-joined c = omega arith
 
 sub-a : tie.Need-sub-a Inv-loop μ-loop
 sub-a c = omega arith
@@ -50,22 +41,28 @@ loop-less c = omega arith
 
 loop-again : tie.Need-loop-again Inv-loop μ-loop
 loop-again c =
-    let s = c .before .before .before .before .before in
+    let s = c .before .before .before .before in
     let a = s .args in
     let p = a .page .now in
-    let l = c .before .before .before .loop in (
+    let l = c .before .before .loop in
+    let word = ap (λ (n : ℕ). n / 2 ^ (8 * (l .a % 8))) (c .long-at .ensures) in (
       omega arith,
       omega arith,
-      blank-join p (a .at) (l .a) (l .a - l .a % 8 + 8) (l .inv .2)
-          (word-from p (λ i. omega (arith, c .before .before .before .before .shared-slice-known .given i)) (l .a) (a .end) (c .before .before .loop-test .taken) (s .pre .2) (s .pre .1)
-          (ap (λ (n : ℕ). n / 2 ^ (8 * (l .a % 8))) (sym (c .before .long-at .ensures)) ∙ c .if1 .left)),
+      λ e. let z = or-none _ _ e in
+          blank-join p (a .at) (l .a) (l .a - l .a % 8 + 8) (l .inv .2 (z .0))
+          (word-from p (λ i. omega (arith, c .before .before .before .shared-slice-known .given i)) (l .a) (a .end) (c .before .loop-test .taken) (s .pre .2) (s .pre .1) (sym word ∙ z .1)),
+      λ b. none-or _ _ (l .inv .3 b)
+          (word ∙ from-word p (λ i. omega (arith, c .before .before .before .shared-slice-known .given i)) (l .a) (a .end) (c .before .loop-test .taken) (s .pre .2) (s .pre .1) (λ i h k. b i (omega (arith, l .inv .0)) k)),
     )
 
-returns-2 : tie.Need-returns-2 Inv-loop μ-loop
-returns-2 c =
+returns : tie.Need-returns Inv-loop μ-loop
+returns c =
     let s = c .before .before .before in
     let a = s .args in
-    sym (blank-test (a .page .now) (a .at) (a .end) (s .pre .0) (s .pre .1) (λ i h k. c .before .loop .inv .2 i h (omega (arith, c .loop-test .left))))
+    let l = c .before .loop in
+    same-test _ _
+    (λ t. blank-test (a .page .now) (a .at) (a .end) (s .pre .0) (s .pre .1) (λ i h k. l .inv .2 (eqb-true (l .joined) 0 t) i h (omega (arith, c .loop-test .left))))
+    (λ t. eq-eqb (l .joined) 0 (l .inv .3 (test-blank (a .page .now) (a .at) (a .end) (s .pre .0) t)))
 
 pub blank-spec : {M : Type 1} → statement M
 blank-spec =
@@ -76,11 +73,10 @@ blank-spec =
     loop-holds
     sub-long-at
     long-at-requires
-    mul-if1
-    shr-if1
-    returns
+    mul-joined
+    shr-joined
     sub-a
     add-a
     loop-less
     loop-again
-    returns-2)
+    returns)

@@ -34,9 +34,6 @@ unfolding part
 part-behind x y z o n e f = ap (take n) (drop-at x (y ++ z) o e) ∙ take-at y z n f
 
 module _ (kind key price : ℕ) (rest : List ℕ) where
-  last : List ℕ
-  last = columns 12 price ++ (lineFeed ∷ [])
-
   pub line-kind : part (lineBytes kind key price ++ rest) 0 2 ≡ columns 2 kind
   unfolding lineBytes
   line-kind = rw append-assoc (part-behind [] (columns 2 kind) _ 0 2 refl (length-columns 2 kind))

@@ -9,13 +9,14 @@ use native.Mathlib.Omega.{arith}
 use native.Mathlib.Nat.{add-zero}
 use lib.ListN.{length, take, drop, set, replicate, length-set, length-append, length-take}
 use lib.Seq.{take-at, drop-at}
+use lib.Dec.{eqb}
 use borrow.Author.Tests.{ne-eqb}
 use Rattle.codec.specs.Lists.{part, splice, pick, eqs}
 use Rattle.codec.specs.Numbers.{bytesOf}
 use Rattle.codec.proofs.Numbers.{length-bytesOf}
 use Rattle.codec.proofs.Tests.{eqs-same, eqs-differ, eqs-true}
 use Rattle.codec.proofs.Lists.{part-drop, splice-next, splice-sets}
-use Rattle.edit.specs.EditList.{editOf, editBytes}
+use Rattle.edit.specs.EditList.{insert, update, delete, editOf, editBytes}
 use Rattle.lines.specs.Columns.{columns, value}
 use Rattle.lines.specs.Form.{lineFeed, lineBytes, meaning, lineIn, lineEdit}
 use Rattle.lines.specs.declared.Line.the-variants.{Bad}
@@ -152,3 +153,13 @@ length-changes kind key price k =
 
 pub length-deletes : (kind key price : ℕ) → (kind ≡ 1 → ⊥) → (kind ≡ 2 → ⊥) → length (lineEdit kind key price) ≡ 10
 length-deletes kind key price a b = ap length (edit-deletes kind key price a b) ∙ omega (arith, length-bytesOf 8 key)
+
+-- an edit of a line takes at most 18 bytes of an edit list
+pub length-edit : (kind key price : ℕ) → length (lineEdit kind key price) ≤ 18
+unfolding lineEdit editOf editBytes
+length-edit kind key price = go (eqb kind 1) (eqb kind 2)
+  where
+    go : (a b : Bool) → length (editBytes (pick a (insert key (bytesOf 8 price)) (pick b (update key (bytesOf 8 price)) (delete key)))) ≤ 18
+    go true b = simp length-append (omega (arith, length-bytesOf 8 key, length-bytesOf 8 price))
+    go false true = simp length-append (omega (arith, length-bytesOf 8 key, length-bytesOf 8 price))
+    go false false = omega (arith, length-bytesOf 8 key)

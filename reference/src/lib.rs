@@ -8,6 +8,7 @@ pub mod ledger;
 pub mod numbers;
 pub mod page;
 pub mod recovery;
+pub mod sheet;
 pub mod tape;
 pub mod transaction;
 

@@ -16,27 +16,27 @@ cast-t6 c = search needs
 
 returns-2 : tie.Need-returns-2
 unfolding meaning
-returns-2 c = rw (c .before .if2 .taken, ne-eqb (c .before .before .before .args .key) 0 (c .if3 .taken))
+returns-2 c = rw (eq-eqb (c .before .before .before .args .kind) 0 (omega arith), ne-eqb (c .before .before .before .args .key) 0 (λ e. omega arith))
 
 returns-3 : tie.Need-returns-3
 unfolding meaning
-returns-3 c = rw (c .before .before .if2 .taken, ne-eqb (c .before .before .before .before .args .price) 0 (c .if4 .taken), eq-eqb (c .before .before .before .before .args .key) 0 (c .before .if3 .left))
+returns-3 c = rw (eq-eqb (c .before .before .before .before .args .kind) 0 (omega arith), eq-eqb (c .before .before .before .before .args .key) 0 (omega arith), ne-eqb (c .before .before .before .before .args .price) 0 (λ e. omega arith))
 
 returns-4 : tie.Need-returns-4
 unfolding meaning
-returns-4 c = rw (c .before .before .if2 .taken, eq-eqb (c .before .before .before .before .args .key) 0 (c .before .if3 .left), eq-eqb (c .before .before .before .before .args .price) 0 (c .if4 .left))
+returns-4 c = rw (eq-eqb (c .before .before .before .before .args .kind) 0 (omega arith), eq-eqb (c .before .before .before .before .args .key) 0 (omega arith), eq-eqb (c .before .before .before .before .args .price) 0 (omega arith))
 
 returns-5 : tie.Need-returns-5
 unfolding meaning
-returns-5 c = rw (c .before .if5 .taken, ne-eqb (c .before .before .before .before .args .price) 0 (c .if6 .taken))
+returns-5 c = rw (ne-eqb (c .before .before .before .before .args .kind) 0 (λ e. omega arith), eq-eqb (c .before .before .before .before .args .kind) 3 (omega arith), ne-eqb (c .before .before .before .before .args .price) 0 (λ e. omega arith))
 
 returns-6 : tie.Need-returns-6
 unfolding meaning
-returns-6 c = rw (c .before .if5 .taken, eq-eqb (c .before .before .before .before .args .price) 0 (c .if6 .left))
+returns-6 c = rw (ne-eqb (c .before .before .before .before .args .kind) 0 (λ e. omega arith), eq-eqb (c .before .before .before .before .args .kind) 3 (omega arith), eq-eqb (c .before .before .before .before .args .price) 0 (omega arith))
 
 returns-7 : tie.Need-returns-7
 unfolding meaning
-returns-7 c = rw (ne-eqb (c .before .before .before .args .kind) 0 (c .before .if2 .left), ne-eqb (c .before .before .before .args .kind) 3 (c .if5 .left), lt-ltb (c .before .before .before .args .kind) 3 (omega arith))
+returns-7 c = rw (ne-eqb (c .before .before .before .args .kind) 0 (λ e. omega arith), ne-eqb (c .before .before .before .args .kind) 3 (λ e. omega arith), lt-ltb (c .before .before .before .args .kind) 3 (omega arith))
 
 pub line-of-spec : {M : Type 1} → statement M
 line-of-spec =

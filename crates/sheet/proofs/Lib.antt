@@ -1,2 +1,2 @@
-pub mod Running
+pub mod Taking
 pub mod Rising

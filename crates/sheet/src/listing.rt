@@ -39,7 +39,7 @@ fn place_after(last: Place, offset: usize) -> Place
     }
 }
 
-// Prints the rows, and answers how many there are.
+// Prints the rows, and answers how many there are. A key that next key gives is found.
 fn print_rows(image: &[u8]) -> u64 {
     let mut place = Place { page: 0, slot: 0 };
     let mut rows = 0;

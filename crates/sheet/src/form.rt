@@ -2,12 +2,11 @@
 use lines::Line;
 use transaction::Transacted;
 ghost use mathlib.Core.Path.{_≡_};
-ghost use Prim.Native.Nat.{_≤_};
+ghost use Prim.Native.Nat.{ℕ, _≤_};
 ghost use mathlib.Core.List.{List};
-ghost use Prim.Native.Nat.{ℕ};
 ghost use lib.ListN.{length};
 ghost use Rattle.codec.specs.Lists.{pick};
-ghost use Rattle.sheet.specs.Session.{tried, isAccepted, commits, waits, session, stateOf, Room};
+ghost use Rattle.sheet.specs.Steps.{tried, isAccepted, commits, waits, steps, stateOf, Room};
 
 // The edits that wait and the bytes that they take in the edit list; the transactions accepted and refused so far.
 pub struct Counts {
@@ -82,11 +81,11 @@ fn wait(list: &mut [u8], counts: Counts, kind: u8, key: u64, price: u64) -> Coun
     }
 }
 
-// Takes the lines in order. "At a bad line (not of this form), or line 2,001": its number.
-pub fn run(input: &[u8], image: &mut [u8]) -> End
+// Takes the lines in order. "At a bad line (not of this form), or line 2,001": its number. The list has room for 17 edits of 18 bytes.
+pub fn take_lines(input: &[u8], image: &mut [u8]) -> End
     requires { ⌜ length (now image) ≡ 8192 ⌝ }
-    ensures { λ r. ⌜ r ≡ session (now (input .entry)) (now (image .entry)) .end ⌝ }
-    ensures { λ _. ⌜ now (image .exit) ≡ session (now (input .entry)) (now (image .entry)) .image ⌝ }
+    ensures { λ r. ⌜ r ≡ steps (now (input .entry)) (now (image .entry)) .end ⌝ }
+    ensures { λ _. ⌜ now (image .exit) ≡ steps (now (input .entry)) (now (image .entry)) .image ⌝ }
 {
     let mut list = [0u8; 306];
     let mut counts = Counts {

@@ -1,4 +1,4 @@
--- The steps of a session: a transaction's answer, a commit, an edit that waits, a line taken.
+-- The steps of a steps: a transaction's answer, a commit, an edit that waits, a line taken.
 -- Assumes nothing.
 use Prim.Native.Nat.{ℕ, zero, suc, _+_, _*_, _-_, _≤_, _<_}
 use mathlib.Core.Path.{_≡_, refl, sym, ap, _∙_}
@@ -18,9 +18,9 @@ use Rattle.lines.specs.Form.{lineIn, lineEdit}
 use Rattle.lines.proofs.Reading.{length-edit}
 use Rattle.lines.specs.declared.Line.{Line}
 use Rattle.lines.specs.declared.Line.the-variants as says
-use Rattle.sheet.specs.declared.session.Counts.{Counts}
-use Rattle.sheet.specs.declared.session.End.the-variants as ends
-use Rattle.sheet.specs.Session.{State, Session, tried, isAccepted, commits, waits, endedAt, follow, sessionFrom, stateOf, Room}
+use Rattle.sheet.specs.declared.form.Counts.{Counts}
+use Rattle.sheet.specs.declared.form.End.the-variants as ends
+use Rattle.sheet.specs.Steps.{State, Outcome, tried, isAccepted, commits, waits, endedAt, endedWhole, follow, stepsFrom, stateOf, Room}
 
 -- ---- a transaction
 
@@ -119,65 +119,65 @@ wait-bounds kind key price u s n e a b =
 
 -- ---- the lines in order
 
-pub ends-with : (x y : Session) → x ≡ y → (y .end ≡ x .end) × (y .image ≡ x .image)
-ends-with x y e = (ap (λ (z : Session). z .end) (sym e), ap (λ (z : Session). z .image) (sym e))
+pub ends-with : (x y : Outcome) → x ≡ y → (y .end ≡ x .end) × (y .image ≡ x .image)
+ends-with x y e = (ap (λ (z : Outcome). z .end) (sym e), ap (λ (z : Outcome). z .image) (sym e))
 
 -- one line taken, and the rest is still the whole
-pub goes-on : (input : List ℕ) (done : ℕ) (s next : State) (whole : Session) → done ≤ 1999 → sessionFrom (2000 - done) done (drop (28 * done) input) s ≡ whole →
-    (after : State) → sessionFrom (2000 - done) done (drop (28 * done) input) s ≡ sessionFrom (2000 - done - 1) (done + 1) (drop (28 * (done + 1)) input) after → next ≡ after →
-    sessionFrom (2000 - (done + 1)) (done + 1) (drop (28 * (done + 1)) input) next ≡ whole
+pub goes-on : (input : List ℕ) (done : ℕ) (s next : State) (whole : Outcome) → done ≤ 1999 → stepsFrom (2000 - done) done (drop (28 * done) input) s ≡ whole →
+    (after : State) → stepsFrom (2000 - done) done (drop (28 * done) input) s ≡ stepsFrom (2000 - done - 1) (done + 1) (drop (28 * (done + 1)) input) after → next ≡ after →
+    stepsFrom (2000 - (done + 1)) (done + 1) (drop (28 * (done + 1)) input) next ≡ whole
 goes-on input done s next whole h e after f g =
     let one : 2000 - (done + 1) ≡ 2000 - done - 1 = omega arith in
-    ap (λ (m : ℕ). sessionFrom m (done + 1) (drop (28 * (done + 1)) input) next) one
-    ∙ ap (sessionFrom (2000 - done - 1) (done + 1) (drop (28 * (done + 1)) input)) g
+    ap (λ (m : ℕ). stepsFrom m (done + 1) (drop (28 * (done + 1)) input) next) one
+    ∙ ap (stepsFrom (2000 - done - 1) (done + 1) (drop (28 * (done + 1)) input)) g
     ∙ sym f
     ∙ e
 
-session-none : (n done : ℕ) (s : State) → sessionFrom n done [] s ≡ record { image = s .image; end = ends.Whole (s .accepted) (s .refused) }
-unfolding sessionFrom
-session-none zero done s = refl
-session-none (suc n) done s = refl
+steps-none : (n done : ℕ) (s : State) → stepsFrom n done [] s ≡ endedWhole s
+unfolding stepsFrom
+steps-none zero done s = refl
+steps-none (suc n) done s = refl
 
-session-over : (n done : ℕ) (t : List ℕ) (s : State) → n ≡ 0 → 0 < length t → sessionFrom n done t s ≡ endedAt (done + 1) s
-unfolding sessionFrom
-session-over n done [] s e h = absurd (omega arith)
-session-over n done (b ∷ t) s e h = rw e
+steps-over : (n done : ℕ) (t : List ℕ) (s : State) → n ≡ 0 → 0 < length t → stepsFrom n done t s ≡ endedAt (done + 1) s
+unfolding stepsFrom
+steps-over n done [] s e h = absurd (omega arith)
+steps-over n done (b ∷ t) s e h = rw e
 
-session-line : (m n done : ℕ) (t : List ℕ) (s : State) (line : Line) → m ≡ suc n → 0 < length t → line ≡ lineIn t →
-    sessionFrom m done t s ≡ follow line (done + 1) s (sessionFrom n (done + 1) (drop 28 t))
-unfolding sessionFrom
-session-line m n done [] s line e h f = absurd (omega arith)
-session-line m n done (b ∷ t) s line e h f = rw (e, f)
+steps-line : (m n done : ℕ) (t : List ℕ) (s : State) (line : Line) → m ≡ suc n → 0 < length t → line ≡ lineIn t →
+    stepsFrom m done t s ≡ follow line (done + 1) s (stepsFrom n (done + 1) (drop 28 t))
+unfolding stepsFrom
+steps-line m n done [] s line e h f = absurd (omega arith)
+steps-line m n done (b ∷ t) s line e h f = rw (e, f)
 
 module _ (input : List ℕ) (done : ℕ) (s : State) where
-  pub run-whole : (n : ℕ) → length input ≤ 28 * done → sessionFrom n done (drop (28 * done) input) s ≡ record { image = s .image; end = ends.Whole (s .accepted) (s .refused) }
-  run-whole n h = rw (drop-of-length-le input {i = 28 * done} h) (session-none n done s)
+  pub run-whole : (n : ℕ) → length input ≤ 28 * done → stepsFrom n done (drop (28 * done) input) s ≡ endedWhole s
+  run-whole n h = rw (drop-of-length-le input {i = 28 * done} h) (steps-none n done s)
 
   module _ (more : 28 * done < length input) where
     rest : 0 < length (drop (28 * done) input)
     rest = simp length-drop (omega arith)
 
-    pub run-over : (n : ℕ) → n ≡ 0 → sessionFrom n done (drop (28 * done) input) s ≡ endedAt (done + 1) s
-    run-over n e = session-over n done (drop (28 * done) input) s e rest
+    pub run-over : (n : ℕ) → n ≡ 0 → stepsFrom n done (drop (28 * done) input) s ≡ endedAt (done + 1) s
+    run-over n e = steps-over n done (drop (28 * done) input) s e rest
 
     module _ (line : Line) (is : line ≡ lineIn (drop (28 * done) input)) where
-      pub run-bad : (m : ℕ) → 1 ≤ m → line ≡ says.Bad → sessionFrom m done (drop (28 * done) input) s ≡ endedAt (done + 1) s
+      pub run-bad : (m : ℕ) → 1 ≤ m → line ≡ says.Bad → stepsFrom m done (drop (28 * done) input) s ≡ endedAt (done + 1) s
       unfolding follow
-      run-bad m h e = session-line m (m - 1) done (drop (28 * done) input) s says.Bad (omega arith) rest (sym e ∙ is)
+      run-bad m h e = steps-line m (m - 1) done (drop (28 * done) input) s says.Bad (omega arith) rest (sym e ∙ is)
 
       next : drop 28 (drop (28 * done) input) ≡ drop (28 * (done + 1)) input
       next = let e : 28 * done + 28 ≡ 28 * (done + 1) = omega arith in drop-drop 28 (28 * done) input ∙ ap (λ (o : ℕ). drop o input) e
 
       pub run-commit : (m : ℕ) → 1 ≤ m → line ≡ says.Commit →
-          sessionFrom m done (drop (28 * done) input) s ≡ sessionFrom (m - 1) (done + 1) (drop (28 * (done + 1)) input) (commits s)
+          stepsFrom m done (drop (28 * done) input) s ≡ stepsFrom (m - 1) (done + 1) (drop (28 * (done + 1)) input) (commits s)
       unfolding follow
       run-commit m h e =
-          session-line m (m - 1) done (drop (28 * done) input) s says.Commit (omega arith) rest (sym e ∙ is)
-          ∙ ap (λ (t : List ℕ). sessionFrom (m - 1) (done + 1) t (commits s)) next
+          steps-line m (m - 1) done (drop (28 * done) input) s says.Commit (omega arith) rest (sym e ∙ is)
+          ∙ ap (λ (t : List ℕ). stepsFrom (m - 1) (done + 1) t (commits s)) next
 
       pub run-edit : (m kind key price : ℕ) → 1 ≤ m → line ≡ says.Edit kind key price →
-          sessionFrom m done (drop (28 * done) input) s ≡ sessionFrom (m - 1) (done + 1) (drop (28 * (done + 1)) input) (waits kind key price s)
+          stepsFrom m done (drop (28 * done) input) s ≡ stepsFrom (m - 1) (done + 1) (drop (28 * (done + 1)) input) (waits kind key price s)
       unfolding follow
       run-edit m kind key price h e =
-          session-line m (m - 1) done (drop (28 * done) input) s (says.Edit kind key price) (omega arith) rest (sym e ∙ is)
-          ∙ ap (λ (t : List ℕ). sessionFrom (m - 1) (done + 1) t (waits kind key price s)) next
+          steps-line m (m - 1) done (drop (28 * done) input) s (says.Edit kind key price) (omega arith) rest (sym e ∙ is)
+          ∙ ap (λ (t : List ℕ). stepsFrom (m - 1) (done + 1) t (waits kind key price s)) next

@@ -13,9 +13,9 @@ use Rattle.transaction.specs.declared.Transacted.the-variants.{Accepted, Refuse
 use Rattle.lines.specs.Form.{lineIn, lineEdit}
 use Rattle.lines.specs.declared.Line.{Line}
 use Rattle.lines.specs.declared.Line.the-variants.{Commit, Edit, Bad}
-use Rattle.sheet.specs.declared.session.Counts.{Counts}
-use Rattle.sheet.specs.declared.session.End.{End}
-use Rattle.sheet.specs.declared.session.End.the-variants as ends
+use Rattle.sheet.specs.declared.form.Counts.{Counts}
+use Rattle.sheet.specs.declared.form.End.{End}
+use Rattle.sheet.specs.declared.form.End.the-variants as ends
 
 -- the image after the transactions so far, the list of the edits that wait and their number, the transactions accepted and refused
 pub record State : Type 0 where
@@ -62,28 +62,31 @@ waits kind key price s =
     })
 
 -- the image at the end, and how it ended; the edits that still wait are dropped
-pub record Session : Type 0 where
+pub record Outcome : Type 0 where
   pub image : List ℕ
   pub end : End
 
-abbrev pub endedAt : ℕ → State → Session
+abbrev pub endedAt : ℕ → State → Outcome
 endedAt n s = record { image = s .image; end = ends.Bad n }
 
+abbrev pub endedWhole : State → Outcome
+endedWhole s = record { image = s .image; end = ends.Whole (s .accepted) (s .refused) }
+
 -- what a line does, with what the lines after it do then; `bad` is the number that it has if it is bad
-unfoldable pub follow : Line → ℕ → State → (State → Session) → Session
+unfoldable pub follow : Line → ℕ → State → (State → Outcome) → Outcome
 follow Commit bad s rest = rest (commits s)
 follow (Edit kind key price) bad s rest = rest (waits kind key price s)
 follow Bad bad s rest = endedAt bad s
 
 -- the lines of t after `done` lines, where n more are allowed: "At a bad line (not of this form), or line 2,001"
-unfoldable pub sessionFrom : ℕ → ℕ → List ℕ → State → Session
-sessionFrom zero done [] s = record { image = s .image; end = ends.Whole (s .accepted) (s .refused) }
-sessionFrom zero done (b ∷ t) s = endedAt (done + 1) s
-sessionFrom (suc n) done [] s = record { image = s .image; end = ends.Whole (s .accepted) (s .refused) }
-sessionFrom (suc n) done (b ∷ t) s = follow (lineIn (b ∷ t)) (done + 1) s (sessionFrom n (done + 1) (drop 28 (b ∷ t)))
+unfoldable pub stepsFrom : ℕ → ℕ → List ℕ → State → Outcome
+stepsFrom zero done [] s = endedWhole s
+stepsFrom zero done (b ∷ t) s = endedAt (done + 1) s
+stepsFrom (suc n) done [] s = endedWhole s
+stepsFrom (suc n) done (b ∷ t) s = follow (lineIn (b ∷ t)) (done + 1) s (stepsFrom n (done + 1) (drop 28 (b ∷ t)))
 
-unfoldable pub session : List ℕ → List ℕ → Session
-session input image = sessionFrom 2000 0 input (opened image)
+unfoldable pub steps : List ℕ → List ℕ → Outcome
+steps input image = stepsFrom 2000 0 input (opened image)
 
 -- ---- the same in the code's terms
 

@@ -2,11 +2,11 @@
 -- Assumes nothing.
 use mathlib.Core.Path.{refl}
 use native.Mathlib.Omega.{arith}
-use Rattle.sheet.proofs.Running.{commits-accepted, commits-refused, room-none}
+use Rattle.sheet.proofs.Taking.{commits-accepted, commits-refused, room-none}
 use lib.ListN.{length-take}
 use borrow.Author.Needs.{needs}
-use Rattle.sheet.proofs.session.commit.Statement.{statement}
-use Rattle.sheet.proofs.session.commit.Tie as tie
+use Rattle.sheet.proofs.form.commit.Statement.{statement}
+use Rattle.sheet.proofs.form.commit.Tie as tie
 
 slice-aggregate-transact : tie.Need-slice-aggregate-transact
 slice-aggregate-transact c = let r = c .before .before .before .before .pre .1 in simp length-take (omega arith)

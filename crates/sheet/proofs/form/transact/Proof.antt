@@ -1,11 +1,11 @@
 -- `transact`: on acceptance the image is what work holds.
 -- Assumes nothing.
 use mathlib.Core.Path.{refl}
-use Rattle.sheet.specs.Session.{tried}
-use Rattle.sheet.proofs.Running.{accepted-says, refused-says}
+use Rattle.sheet.specs.Steps.{tried}
+use Rattle.sheet.proofs.Taking.{accepted-says, refused-says}
 use borrow.Author.Needs.{needs}
-use Rattle.sheet.proofs.session.transact.Statement.{statement}
-use Rattle.sheet.proofs.session.transact.Tie as tie
+use Rattle.sheet.proofs.form.transact.Statement.{statement}
+use Rattle.sheet.proofs.form.transact.Tie as tie
 
 slice-aggregate-transaction : tie.Need-slice-aggregate-transaction
 slice-aggregate-transaction c = search needs

@@ -1,10 +1,10 @@
 -- `wait`: the edit stands behind those that wait.
 -- Assumes nothing.
 use mathlib.Core.Path.{refl}
-use Rattle.sheet.proofs.Running.{waits-dropped, waits-added, room-more}
+use Rattle.sheet.proofs.Taking.{waits-dropped, waits-added, room-more}
 use borrow.Author.Needs.{needs}
-use Rattle.sheet.proofs.session.wait.Statement.{statement}
-use Rattle.sheet.proofs.session.wait.Tie as tie
+use Rattle.sheet.proofs.form.wait.Statement.{statement}
+use Rattle.sheet.proofs.form.wait.Tie as tie
 
 returns : tie.Need-returns
 returns c =

@@ -1,23 +1,23 @@
--- `run`: what the rest of the lines does after those taken is the whole.
+-- `take_lines`: what the rest of the lines does after those taken is the whole.
 -- Assumes nothing.
 use Prim.Native.Nat.{ℕ, _*_, _-_, _≤_}
 use mathlib.Core.Path.{_≡_, refl, sym, _∙_}
 use native.Mathlib.Omega.{arith}
 use borrow.Author.Needs.{needs}
 use lib.ListN.{length, drop, length-replicate}
-use Rattle.sheet.specs.Session.{sessionFrom, session, stateOf, Room}
-use Rattle.sheet.proofs.Running.{commit-bounds, wait-bounds, ends-with, goes-on, run-whole, run-over, run-bad, run-commit, run-edit}
-use Rattle.sheet.proofs.session.run.Statement.{statement}
-use Rattle.sheet.proofs.session.run.Tie as tie
+use Rattle.sheet.specs.Steps.{stepsFrom, steps, stateOf, Room}
+use Rattle.sheet.proofs.Taking.{commit-bounds, wait-bounds, ends-with, goes-on, run-whole, run-over, run-bad, run-commit, run-edit}
+use Rattle.sheet.proofs.form.take_lines.Statement.{statement}
+use Rattle.sheet.proofs.form.take_lines.Tie as tie
 
 abbrev Inv-loop : tie.InvT-loop
-Inv-loop input image₀ list₀ counts₀ done₀ image list counts done = (done ≤ 2000) × (length image ≡ 8192) × Room list counts × (counts .accepted ≤ done) × (counts .refused ≤ done) × (sessionFrom (2000 - done) done (drop (28 * done) input) (stateOf image list counts) ≡ session input image₀)
+Inv-loop input image₀ list₀ counts₀ done₀ image list counts done = (done ≤ 2000) × (length image ≡ 8192) × Room list counts × (counts .accepted ≤ done) × (counts .refused ≤ done) × (stepsFrom (2000 - done) done (drop (28 * done) input) (stateOf image list counts) ≡ steps input image₀)
 
 abbrev μ-loop : tie.MeasureT-loop
 μ-loop input image₀ list₀ counts₀ done₀ image list counts done = 2000 - done
 
 loop-holds : tie.Need-loop-holds Inv-loop μ-loop
-unfolding session
+unfolding steps
 loop-holds c = (omega arith, c .before .before .pre, record { whole = length-replicate {A = ℕ} 306 0; few = omega arith; fits = omega arith }, omega arith, omega arith, refl)
 
 mul-loop : tie.Need-mul-loop Inv-loop μ-loop
@@ -113,8 +113,8 @@ same-length-3 c = c .before .loop .inv .1 ∙ sym (c .before .before .before .be
 returns-3 : tie.Need-returns-3 Inv-loop μ-loop
 returns-3 c = ends-with _ _ (sym (c .before .loop .inv .5) ∙ run-whole (c .before .before .before .before .args .input .now) (c .before .loop .done) (stateOf (c .before .loop .image) (c .before .loop .list) (c .before .loop .counts)) (2000 - c .before .loop .done) (c .loop-test .left))
 
-pub run-spec : {M : Type 1} → statement M
-run-spec =
+pub take-lines-spec : {M : Type 1} → statement M
+take-lines-spec =
     tie.close
     (tie.spec
     Inv-loop

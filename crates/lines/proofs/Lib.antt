@@ -1,3 +1,5 @@
 pub mod Columns
+pub mod Writing
 pub mod Reading
 pub mod Shape
+pub mod Examples

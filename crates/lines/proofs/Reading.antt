@@ -7,7 +7,7 @@ use mathlib.Core.Logic.{_⊎_, inl, inr}
 use mathlib.Core.List.{List, [], _∷_, _++_, append-assoc}
 use native.Mathlib.Omega.{arith}
 use native.Mathlib.Nat.{add-zero}
-use lib.ListN.{length, take, drop, set, replicate, length-set, length-append, length-take}
+use lib.ListN.{length, take, drop, set, length-set, length-append, length-take}
 use lib.Seq.{take-at, drop-at}
 use lib.Dec.{eqb}
 use borrow.Author.Tests.{ne-eqb}
@@ -101,22 +101,6 @@ line-at l at kind key price a b c =
 pub line-same : (l : List ℕ) (at : ℕ) (line new : List ℕ) (r : Bool) → r ≡ eqs (take (at + 28 - at) (drop at l)) line → line ≡ new → r ≡ eqs (part l at 28) new
 unfolding part
 line-same l at line new r a b = let e : at + 28 - at ≡ 28 = omega arith in a ∙ ap (λ (n : ℕ). eqs (take n (drop at l)) line) e ∙ ap (eqs (take 28 (drop at l))) b
-
--- the line of three numbers, put into 28 line feeds one after the other
-pub line-written : (kind key price : ℕ) (l1 l2 l3 : List ℕ) → l1 ≡ splice (replicate 28 lineFeed) 0 (columns 2 kind) → l2 ≡ splice l1 2 (columns 13 key) →
-    l3 ≡ splice l2 15 (columns 12 price) → l3 ≡ lineBytes kind key price
-unfolding lineBytes splice
-line-written kind key price l1 l2 l3 a b c =
-    let feeds : List ℕ = replicate 28 lineFeed in
-    let k = length-columns 2 kind in
-    let e = length-columns 13 key in
-    let p = length-columns 12 price in
-    let two : length (columns 2 kind ++ columns 13 key) ≡ 15 = simp length-append (omega arith) in
-    let three : length ((columns 2 kind ++ columns 13 key) ++ columns 12 price) ≡ 27 = simp length-append (omega arith) in
-    let l2-is : l2 ≡ splice feeds 0 (columns 2 kind ++ columns 13 key) = b ∙ splice-next feeds 0 (columns 2 kind) (columns 13 key) l1 2 a (omega arith) (omega arith) in
-    let l3-is : l3 ≡ splice feeds 0 ((columns 2 kind ++ columns 13 key) ++ columns 12 price) =
-    c ∙ splice-next feeds 0 (columns 2 kind ++ columns 13 key) (columns 12 price) l2 15 l2-is (omega arith) (omega arith) in
-    l3-is ∙ rw three (simp append-assoc)
 
 -- ---- the bytes of an edit
 

@@ -1,4 +1,4 @@
-// Lines and columns of the sheet: a line of the form is read, a number is printed in columns, an edit is written for an edit list.
+// Lines and columns of the sheet: a line of the form is read, its edit written for an edit list, and a line of the listing printed.
 ghost use mathlib.Core.Path.{_≡_};
 ghost use mathlib.Core.List.{_∷_};
 ghost use Prim.Native.Nat.{_+_, _-_, _≤_, _<_};
@@ -8,6 +8,7 @@ ghost use Rattle.codec.specs.Lists.{part, splice, pick, eqs};
 ghost use Rattle.codec.specs.Numbers.{bytesOf};
 ghost use Rattle.lines.specs.Columns.{space, naught, digit, front, columns, value};
 ghost use Rattle.lines.specs.Form.{lineBytes, meaning, lineIn, lineEdit};
+ghost use Rattle.lines.specs.Listing.{rowBytes, totalBytes, numberBytes};
 
 // What a line says.
 pub enum Line {
@@ -89,10 +90,11 @@ fn is_line(src: &[u8], at: usize, kind: u64, key: u64, price: u64) -> bool
     requires { ⌜ at + 28 ≤ length (now src) ⌝ }
     ensures { λ r. ⌜ r ≡ eqs (part (now (src .entry)) at 28) (lineBytes kind key price) ⌝ }
 {
-    let mut line = [b'\n'; 28];
+    let mut line = [0u8; 28];
     put_columns(&mut line, 0, 2, kind);
     put_columns(&mut line, 2, 13, key);
     put_columns(&mut line, 15, 12, price);
+    line[27] = b'\n';
     let end = at + 28;
     codec::same(&src[at..end], &line)
 }
@@ -169,4 +171,36 @@ pub fn put_edit(list: &mut [u8], at: usize, kind: u8, key: u64, price: u64) -> u
     put_head(list, at, kind, 8, key);
     codec::put_long(list, at + 10, price);
     at + 18
+}
+
+// Writes the listing's row of a record.
+pub fn put_row(dst: &mut [u8], page: usize, slot: usize, key: u64, n: usize)
+    requires { ⌜ length (now dst) ≡ 26 ⌝ }
+    ensures { λ _. ⌜ now (dst .exit) ≡ rowBytes page slot key n ⌝ }
+{
+    put_columns(dst, 0, 4, page as u64);
+    put_columns(dst, 4, 4, slot as u64);
+    put_columns(dst, 8, 13, key);
+    put_columns(dst, 21, 4, n as u64);
+    dst[25] = b'\n';
+}
+
+// Writes the listing's last line.
+pub fn put_totals(dst: &mut [u8], records: u64, accepted: u64, refused: u64)
+    requires { ⌜ length (now dst) ≡ 25 ⌝ }
+    ensures { λ _. ⌜ now (dst .exit) ≡ totalBytes records accepted refused ⌝ }
+{
+    put_columns(dst, 0, 8, records);
+    put_columns(dst, 8, 8, accepted);
+    put_columns(dst, 16, 8, refused);
+    dst[24] = b'\n';
+}
+
+// Writes the number of a bad line.
+pub fn put_line_number(dst: &mut [u8], n: u64)
+    requires { ⌜ length (now dst) ≡ 9 ⌝ }
+    ensures { λ _. ⌜ now (dst .exit) ≡ numberBytes n ⌝ }
+{
+    put_columns(dst, 0, 8, n);
+    dst[8] = b'\n';
 }

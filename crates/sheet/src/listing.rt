@@ -13,13 +13,10 @@ struct Place {
     slot: usize,
 }
 
-// "page 4 columns, slot from 0 4, key 13, value length 4"
+// A record's row.
 fn print_row(place: Place, key: u64, length: usize) {
-    let mut row = [b'\n'; 26];
-    lines::put_columns(&mut row, 0, 4, place.page as u64);
-    lines::put_columns(&mut row, 4, 4, place.slot as u64);
-    lines::put_columns(&mut row, 8, 13, key);
-    lines::put_columns(&mut row, 21, 4, length as u64);
+    let mut row = [0u8; 26];
+    lines::put_row(&mut row, place.page, place.slot, key, length);
     io::write_all(1, &row);
 }
 
@@ -58,19 +55,17 @@ fn print_rows(image: &[u8]) -> u64 {
     }
 }
 
-// "last line records, accepted and refused transactions, 8 each"
+// The rows, and the last line: records, accepted and refused transactions.
 pub fn print(image: &[u8], accepted: u64, refused: u64) {
     let rows = print_rows(image);
-    let mut last = [b'\n'; 25];
-    lines::put_columns(&mut last, 0, 8, rows);
-    lines::put_columns(&mut last, 8, 8, accepted);
-    lines::put_columns(&mut last, 16, 8, refused);
+    let mut last = [0u8; 25];
+    lines::put_totals(&mut last, rows, accepted, refused);
     io::write_all(1, &last);
 }
 
 // "prints that line's number in 8 columns after the heading, and nothing more"
 pub fn print_line_number(line: u64) {
-    let mut last = [b'\n'; 9];
-    lines::put_columns(&mut last, 0, 8, line);
+    let mut last = [0u8; 9];
+    lines::put_line_number(&mut last, line);
     io::write_all(1, &last);
 }

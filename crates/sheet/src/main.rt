@@ -1,5 +1,6 @@
 // The sheet program: reads the form from standard input, runs each commit as a transaction on 8 fresh pages, and writes the listing, or the
-// number of the first bad line. What a line says and how a number is printed are proved in the crate lines; what is written here is tested.
+// number of the first bad line. What the lines do to the store, and the bytes of each line written, are proved; that the lines of the listing
+// come in their order is tested, since no contract can speak of what is written.
 mod form;
 mod listing;
 

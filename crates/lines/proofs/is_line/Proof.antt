@@ -1,6 +1,9 @@
 -- `is_line`: the line of these numbers is made and compared.
 -- Assumes nothing.
-use Rattle.lines.proofs.Reading.{line-written, line-same}
+use Prim.Native.Nat.{ℕ}
+use lib.ListN.{length-replicate}
+use Rattle.lines.proofs.Writing.{line-written}
+use Rattle.lines.proofs.Reading.{line-same}
 use borrow.Author.Needs.{needs}
 use Rattle.lines.proofs.is_line.Statement.{statement}
 use Rattle.lines.proofs.is_line.Tie as tie
@@ -23,6 +26,9 @@ slice-aggregate-put-columns-3 c = search needs
 put-columns-requires-3 : tie.Need-put-columns-requires-3
 put-columns-requires-3 c κs = search needs
 
+array-write-line : tie.Need-array-write-line
+array-write-line c = search needs
+
 add-end : tie.Need-add-end
 add-end c = search needs
 
@@ -44,7 +50,8 @@ same-requires c κs = search needs
 returns : tie.Need-returns
 returns c =
     let a = c .before .before .before .before .before .before .before .before .before .before .before .before .before .args in
-    line-same (a .src .now) (a .at) _ _ _ (c .same .ensures) (line-written (a .kind) (a .key) (a .price) _ _ _ (c .before .before .before .before .before .before .before .before .before .before .put-columns .ensures) (c .before .before .before .before .before .before .before .put-columns2 .ensures) (c .before .before .before .before .put-columns3 .ensures))
+    line-same (a .src .now) (a .at) _ _ _ (c .same .ensures)
+    (line-written _ (a .kind) (a .key) (a .price) _ _ _ (length-replicate {A = ℕ} 28 0) (c .before .before .before .before .before .before .before .before .before .before .put-columns .ensures) (c .before .before .before .before .before .before .before .put-columns2 .ensures) (c .before .before .before .before .put-columns3 .ensures))
 
 pub is-line-spec : {M : Type 1} → statement M
 is-line-spec =
@@ -56,6 +63,7 @@ is-line-spec =
     put-columns-requires-2
     slice-aggregate-put-columns-3
     put-columns-requires-3
+    array-write-line
     add-end
     sub-same
     part-same-start

@@ -14,7 +14,7 @@ use lib.Dec.{eqb}
 use borrow.Author.Tests.{eqb-true}
 use Rattle.codec.specs.Lists.{part, splice, pick}
 use Rattle.codec.proofs.Lists.{splice-sets, sets-append, sets-comm, part-cons, length-part}
-use Rattle.lines.specs.Columns.{space, naught, digit, front, columns, value, valueFrom}
+use Rattle.lines.specs.Columns.{space, digitZero, digit, front, columns, value, valueFrom}
 
 pub length-front : (w n : ℕ) → length (front w n) ≡ w
 unfolding front
@@ -31,12 +31,12 @@ length-columns (suc w) n = simp length-append (omega (arith, length-front w (n /
 pub value-append : (n : ℕ) (x y : List ℕ) → valueFrom n (x ++ y) ≡ valueFrom (valueFrom n x) y
 unfolding valueFrom
 value-append n [] y = refl
-value-append n (c ∷ x) y = value-append (10 * n + (c - naught)) x y
+value-append n (c ∷ x) y = value-append (10 * n + (c - digitZero)) x y
 
 -- one column more on the right
-value-snoc : (x : List ℕ) (c n : ℕ) → value x ≡ n → value (x ++ (c ∷ [])) ≡ 10 * n + (c - naught)
+value-snoc : (x : List ℕ) (c n : ℕ) → value x ≡ n → value (x ++ (c ∷ [])) ≡ 10 * n + (c - digitZero)
 unfolding valueFrom
-value-snoc x c n e = value-append 0 x (c ∷ []) ∙ ap (λ (m : ℕ). 10 * m + (c - naught)) e
+value-snoc x c n e = value-append 0 x (c ∷ []) ∙ ap (λ (m : ℕ). 10 * m + (c - digitZero)) e
 
 value-front : (w n : ℕ) → n < 10 ^ w → value (front w n) ≡ n
 unfolding front valueFrom
@@ -110,7 +110,7 @@ columns-none l o i n e h = ap (λ (m : ℕ). splice l o (columns m n)) e ∙ spl
 
 -- ---- columns read from the left
 
-pub value-next : (l : List ℕ) (o w i n d : ℕ) → i < w → o + w ≤ length l → d ≡ getD l (o + i) 0 - naught →
+pub value-next : (l : List ℕ) (o w i n d : ℕ) → i < w → o + w ≤ length l → d ≡ getD l (o + i) 0 - digitZero →
     valueFrom n (drop i (part l o w)) ≡ valueFrom (10 * n + d) (drop (i + 1) (part l o w))
 unfolding valueFrom
 value-next l o w i n d h k e = rw (part-cons l o w i h k, e)

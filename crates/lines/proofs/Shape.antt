@@ -12,11 +12,11 @@ use lib.ListN.{length, replicate, length-append, length-replicate, replicate-app
 use lib.Dec.{eqb}
 use borrow.Author.Tests.{ne-eqb, eqb-true, eqb-false}
 use Rattle.codec.specs.Lists.{pick, All}
-use Rattle.lines.specs.Columns.{space, naught, digit, front, columns, value, valueFrom}
+use Rattle.lines.specs.Columns.{space, digitZero, digit, front, columns, value, valueFrom}
 use Rattle.lines.proofs.Columns.{value-append, columns-small}
 
 abbrev pub Digit : ℕ → Type 0
-Digit c = (naught ≤ c) × (c < naught + 10)
+Digit c = (digitZero ≤ c) × (c < digitZero + 10)
 
 pub record Justified (cs : List ℕ) : Type 0 where
   pub spaces : ℕ
@@ -24,7 +24,7 @@ pub record Justified (cs : List ℕ) : Type 0 where
   pub rest : List ℕ
   pub is : cs ≡ replicate spaces space ++ (first ∷ rest)
   pub digits : All Digit (first ∷ rest)
-  pub no-zero : (first ≡ naught → ⊥) ⊎ (rest ≡ [])
+  pub no-zero : (first ≡ digitZero → ⊥) ⊎ (rest ≡ [])
 
 -- ---- of nothing, only spaces are left
 
@@ -50,7 +50,7 @@ record Leading (cs : List ℕ) : Type 0 where
   pub rest : List ℕ
   pub is : cs ≡ replicate spaces space ++ (first ∷ rest)
   pub digits : All Digit (first ∷ rest)
-  pub nonzero : first ≡ naught → ⊥
+  pub nonzero : first ≡ digitZero → ⊥
 
 All-snoc : (l : List ℕ) (c : ℕ) → All Digit l → Digit c → All Digit (l ++ (c ∷ []))
 All-snoc [] c h d = (d, tt)
@@ -135,11 +135,11 @@ unfolding front valueFrom
 front-digits w m [] h d = rw add-zero (sym (append-nil (front w m)))
 front-digits w m (c ∷ ds) h d =
     let e : w + suc (length ds) ≡ suc w + length ds = omega arith in
-    let f : (10 * m + (c - naught)) / 10 ≡ m = omega (arith, d .0 .0, d .0 .1) in
-    let g : digit (10 * m + (c - naught)) ≡ c = omega (arith, d .0 .0, d .0 .1) in
-    let z : eqb (10 * m + (c - naught)) 0 ≡ false = ne-eqb (10 * m + (c - naught)) 0 (λ q. omega arith) in
-    ap (λ (k : ℕ). front k (valueFrom (10 * m + (c - naught)) ds)) e
-    ∙ front-digits (suc w) (10 * m + (c - naught)) ds (omega arith) (d .1)
+    let f : (10 * m + (c - digitZero)) / 10 ≡ m = omega (arith, d .0 .0, d .0 .1) in
+    let g : digit (10 * m + (c - digitZero)) ≡ c = omega (arith, d .0 .0, d .0 .1) in
+    let z : eqb (10 * m + (c - digitZero)) 0 ≡ false = ne-eqb (10 * m + (c - digitZero)) 0 (λ q. omega arith) in
+    ap (λ (k : ℕ). front k (valueFrom (10 * m + (c - digitZero)) ds)) e
+    ∙ front-digits (suc w) (10 * m + (c - digitZero)) ds (omega arith) (d .1)
     ∙ rw (z, f, g) (append-assoc (front w m) (c ∷ []) ds)
 
 -- of a number that is not 0, the last column is as the others
@@ -149,26 +149,26 @@ columns-front zero n h = refl
 columns-front (suc w) n h = rw (ne-eqb n 0 (λ e. omega arith))
 
 -- a digit behind k spaces
-one-digit : (k c : ℕ) → Digit c → columns (suc k) (c - naught) ≡ replicate k space ++ (c ∷ [])
+one-digit : (k c : ℕ) → Digit c → columns (suc k) (c - digitZero) ≡ replicate k space ++ (c ∷ [])
 unfolding columns
 one-digit k c d =
-    let f : (c - naught) / 10 ≡ 0 = omega (arith, d .0, d .1) in
-    let g : digit (c - naught) ≡ c = omega (arith, d .0, d .1) in
+    let f : (c - digitZero) / 10 ≡ 0 = omega (arith, d .0, d .1) in
+    let g : digit (c - digitZero) ≡ c = omega (arith, d .0, d .1) in
     rw (f, g) (behind k 0 c refl)
 
 value-from : (m : ℕ) (ds : List ℕ) → m ≤ valueFrom m ds
 unfolding valueFrom
 value-from m [] = omega arith
-value-from m (c ∷ ds) = omega (arith, value-from (10 * m + (c - naught)) ds)
+value-from m (c ∷ ds) = omega (arith, value-from (10 * m + (c - digitZero)) ds)
 
-shape-columns : (k d : ℕ) (ds : List ℕ) → All Digit (d ∷ ds) → (d ≡ naught → ⊥) ⊎ (ds ≡ []) →
-    columns (suc k + length ds) (valueFrom (d - naught) ds) ≡ replicate k space ++ (d ∷ ds)
+shape-columns : (k d : ℕ) (ds : List ℕ) → All Digit (d ∷ ds) → (d ≡ digitZero → ⊥) ⊎ (ds ≡ []) →
+    columns (suc k + length ds) (valueFrom (d - digitZero) ds) ≡ replicate k space ++ (d ∷ ds)
 unfolding valueFrom
 shape-columns k d ds a (inl h) =
-    let m : 1 ≤ d - naught = omega (arith, a .0 .0, h) in
-    columns-front (suc k + length ds) (valueFrom (d - naught) ds) (omega (arith, value-from (d - naught) ds))
-    ∙ front-digits (suc k) (d - naught) ds m (a .1)
-    ∙ ap (λ (l : List ℕ). l ++ ds) (sym (columns-front (suc k) (d - naught) m) ∙ one-digit k d (a .0))
+    let m : 1 ≤ d - digitZero = omega (arith, a .0 .0, h) in
+    columns-front (suc k + length ds) (valueFrom (d - digitZero) ds) (omega (arith, value-from (d - digitZero) ds))
+    ∙ front-digits (suc k) (d - digitZero) ds m (a .1)
+    ∙ ap (λ (l : List ℕ). l ++ ds) (sym (columns-front (suc k) (d - digitZero) m) ∙ one-digit k d (a .0))
     ∙ append-assoc (replicate k space) (d ∷ []) ds
 shape-columns k d ds a (inr h) = rw (h, add-zero) (one-digit k d (a .0))
 
@@ -178,9 +178,9 @@ unfolding valueFrom
 justified-columns cs j =
     let cs′ : List ℕ = replicate (j .spaces) space ++ (j .first ∷ j .rest) in
     let long : length cs′ ≡ suc (j .spaces) + length (j .rest) = simp (length-append, length-replicate) (omega arith) in
-    let digit-first : 10 * 0 + (j .first - naught) ≡ j .first - naught = omega arith in
-    let reads : value cs′ ≡ valueFrom (j .first - naught) (j .rest) =
+    let digit-first : 10 * 0 + (j .first - digitZero) ≡ j .first - digitZero = omega arith in
+    let reads : value cs′ ≡ valueFrom (j .first - digitZero) (j .rest) =
     value-append 0 (replicate (j .spaces) space) (j .first ∷ j .rest)
-    ∙ ap (λ (m : ℕ). valueFrom (10 * m + (j .first - naught)) (j .rest)) (value-spaces (j .spaces))
+    ∙ ap (λ (m : ℕ). valueFrom (10 * m + (j .first - digitZero)) (j .rest)) (value-spaces (j .spaces))
     ∙ ap (λ (m : ℕ). valueFrom m (j .rest)) digit-first in
     rw (j .is) (rw (long, reads) (shape-columns (j .spaces) (j .first) (j .rest) (j .digits) (j .no-zero)))

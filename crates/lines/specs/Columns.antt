@@ -9,12 +9,12 @@ use Rattle.codec.specs.Lists.{pick}
 abbrev pub space : ℕ
 space = 32
 
-abbrev pub naught : ℕ
-naught = 48
+abbrev pub digitZero : ℕ
+digitZero = 48
 
 -- the last digit of a number
 abbrev pub digit : ℕ → ℕ
-digit n = naught + n % 10
+digit n = digitZero + n % 10
 
 -- what is left of a number before its last digit, in w columns: spaces where nothing is left
 unfoldable pub front : ℕ → ℕ → List ℕ
@@ -29,7 +29,7 @@ columns (suc w) n = front w (n / 10) ++ (digit n ∷ [])
 -- the number that the digits of columns hold, after the number n; a space counts as 0. Whether they are a number in columns is not asked here.
 unfoldable pub valueFrom : ℕ → List ℕ → ℕ
 valueFrom n [] = n
-valueFrom n (c ∷ cs) = valueFrom (10 * n + (c - naught)) cs
+valueFrom n (c ∷ cs) = valueFrom (10 * n + (c - digitZero)) cs
 
 abbrev pub value : List ℕ → ℕ
 value cs = valueFrom 0 cs

@@ -6,7 +6,7 @@ ghost use lib.Dec.{eqb};
 ghost use lib.ListN.{length, drop};
 ghost use Rattle.codec.specs.Lists.{part, splice, pick, eqs};
 ghost use Rattle.codec.specs.Numbers.{bytesOf};
-ghost use Rattle.lines.specs.Columns.{space, naught, digit, front, columns, value};
+ghost use Rattle.lines.specs.Columns.{space, digitZero, digit, front, columns, value};
 ghost use Rattle.lines.specs.Form.{lineBytes, meaning, lineIn, lineEdit};
 ghost use Rattle.lines.specs.Listing.{rowBytes, totalBytes, numberBytes};
 
@@ -63,7 +63,7 @@ pub fn put_columns(dst: &mut [u8], at: usize, w: usize, n: u64)
 
 // What a column counts.
 fn worth(c: u8) -> u64
-    ensures { λ r. ⌜ (r ≡ c - naught) × (r < 208) ⌝ }
+    ensures { λ r. ⌜ (r ≡ c - digitZero) × (r < 208) ⌝ }
 {
     if c < 48 {
         return 0;

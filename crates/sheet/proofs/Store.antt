@@ -1,0 +1,84 @@
+-- The store that the listing shows: sound after any lines; an accepted commit makes exactly the edits that waited, a refused one none.
+-- Assumes nothing.
+use Prim.Native.Nat.{ℕ, zero, suc, _+_}
+use mathlib.Core.Path.{_≡_, refl, sym, ap, _∙_}
+use mathlib.Core.Bool.{Bool, true, false}
+use mathlib.Core.List.{List, [], _∷_, _++_}
+use lib.ListN.{drop, replicate}
+use lib.Dec.{ltb}
+use borrow.Author.Tests.{le-leb}
+use Rattle.codec.specs.Lists.{pick}
+use Rattle.image.specs.Image.{sound}
+use Rattle.image.specs.Table.{table}
+use Rattle.image.specs.Fresh.{fresh}
+use Rattle.image.specs.PageZero.{logMost}
+use Rattle.image.proofs.Fresh.{fresh-sound}
+use Rattle.edit.specs.EditList.{editsOf, editList}
+use Rattle.edit.specs.Ledger.{applyEdits}
+use Rattle.journal.specs.Tape.{takenFor, roomInLog}
+use Rattle.journal.specs.declared.Commit.{Commit}
+use Rattle.journal.proofs.Taken.{taken-sound}
+use Rattle.tree.specs.Whole.{editedImage}
+use Rattle.transaction.specs.Calls.{Result, acceptedWith}
+use Rattle.transaction.specs.declared.Transacted.{Transacted}
+use Rattle.transaction.specs.declared.Transacted.the-variants as answers
+use Rattle.transaction.proofs.Answers.{call-accepted}
+use Rattle.lines.specs.Form.{lineIn, lineEdit}
+use Rattle.lines.specs.declared.Line.{Line}
+use Rattle.lines.specs.declared.Line.the-variants as says
+use Rattle.sheet.specs.Steps.{State, Outcome, opened, tried, isAccepted, commits, waits, follow, stepsFrom, steps}
+
+-- ---- a commit
+
+module _ (a list : List ℕ) (h : sound a ≡ true) where
+  -- the image after an accepted transaction is sound, and its table is the ledger's
+  pub tried-makes : (x : Commit) → tried a list .answer ≡ answers.Accepted x →
+      (sound (tried a list .work) ≡ true) × (table (tried a list .work) ≡ applyEdits (editsOf (editList list)) (table a))
+  unfolding tried acceptedWith roomInLog
+  tried-makes x e =
+      let A = call-accepted a (replicate 8192 0) (replicate 16384 0) list x e in
+      let w = editedImage a (A .state) in
+      let work : tried a list .work ≡ takenFor a w .work = ap (λ (r : Result). r .work) (A .result) in
+      let s = taken-sound a w h (A .done .edited) (le-leb _ logMost (A .few)) in
+      (ap sound work ∙ s .0, ap table work ∙ s .1 ∙ A .done .holds ∙ ap (λ l. applyEdits (editsOf l) (table a)) (sym (A .done .reads)))
+
+module _ (s : State) (h : sound (s .image) ≡ true) where
+  pub commits-accepted-table : (x : Commit) → tried (s .image) (s .list) .answer ≡ answers.Accepted x →
+      table (commits s .image) ≡ applyEdits (editsOf (editList (s .list))) (table (s .image))
+  unfolding commits isAccepted
+  commits-accepted-table x e = rw e (tried-makes (s .image) (s .list) h x e .1)
+
+  pub commits-sound : sound (commits s .image) ≡ true
+  unfolding commits isAccepted
+  commits-sound = go (tried (s .image) (s .list) .answer) refl
+    where
+      go : (t : Transacted) → tried (s .image) (s .list) .answer ≡ t → sound (pick (isAccepted t) (tried (s .image) (s .list) .work) (s .image)) ≡ true
+      go (answers.Accepted x) e = tried-makes (s .image) (s .list) h x e .0
+      go (answers.Refused r) e = h
+
+-- ---- all lines
+
+waits-sound : (kind key price : ℕ) (s : State) → sound (s .image) ≡ true → sound (waits kind key price s .image) ≡ true
+unfolding waits
+waits-sound kind key price s h = go (ltb 16 (s .edits))
+  where
+    go : (t : Bool) → sound (pick t s (record { image = s .image; list = s .list ++ lineEdit kind key price; edits = s .edits + 1; accepted = s .accepted; refused = s .refused }) .image) ≡ true
+    go true = h
+    go false = h
+
+steps-from-sound : (n done : ℕ) (t : List ℕ) (s : State) → sound (s .image) ≡ true → sound (stepsFrom n done t s .image) ≡ true
+unfolding stepsFrom follow
+steps-from-sound zero done [] s h = h
+steps-from-sound zero done (b ∷ t) s h = h
+steps-from-sound (suc n) done [] s h = h
+steps-from-sound (suc n) done (b ∷ t) s h = go (lineIn (b ∷ t)) (stepsFrom n (done + 1) (drop 28 (b ∷ t))) (λ u k. steps-from-sound n (done + 1) (drop 28 (b ∷ t)) u k)
+  where
+    go : (l : Line) (rest : State → Outcome) → ((u : State) → sound (u .image) ≡ true → sound (rest u .image) ≡ true) → sound (follow l (done + 1) s rest .image) ≡ true
+    go says.Commit rest k = k (commits s) (commits-sound s h)
+    go (says.Edit kind key price) rest k = k (waits kind key price s) (waits-sound kind key price s h)
+    go says.Bad rest k = h
+
+-- for every form, the store at its end is sound
+pub steps-sound : (input : List ℕ) → sound (steps input (fresh 8) .image) ≡ true
+unfolding steps
+steps-sound input = steps-from-sound 2000 0 input (opened (fresh 8)) (fresh-sound 8 refl)

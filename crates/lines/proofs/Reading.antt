@@ -1,24 +1,18 @@
--- The laws of a line of the form, and of the bytes of its edit.
+-- The laws of a line of the form: what is printed for one reads back, and the tests that the code makes of one.
 -- Assumes nothing.
-use Prim.Native.Nat.{ℕ, suc, _+_, _-_, _^_, _≤_, _<_}
-use mathlib.Core.Path.{_≡_, refl, sym, ap, _∙_}
+use Prim.Native.Nat.{ℕ, _+_, _-_, _^_, _≤_, _<_}
+use mathlib.Core.Path.{_≡_, refl, ap, _∙_}
 use mathlib.Core.Bool.{Bool, true, false}
-use mathlib.Core.Logic.{_⊎_, inl, inr}
 use mathlib.Core.List.{List, [], _∷_, _++_, append-assoc}
 use native.Mathlib.Omega.{arith}
 use native.Mathlib.Nat.{add-zero}
-use lib.ListN.{length, take, drop, set, length-set, length-append, length-take}
+use lib.ListN.{length, take, drop, length-append, length-take}
 use lib.Seq.{take-at, drop-at}
-use lib.Dec.{eqb}
-use borrow.Author.Tests.{ne-eqb}
-use Rattle.codec.specs.Lists.{part, splice, pick, eqs}
-use Rattle.codec.specs.Numbers.{bytesOf}
-use Rattle.codec.proofs.Numbers.{length-bytesOf}
+use Rattle.codec.specs.Lists.{part, pick, eqs}
 use Rattle.codec.proofs.Tests.{eqs-same, eqs-differ, eqs-true}
-use Rattle.codec.proofs.Lists.{part-drop, splice-next, splice-sets}
-use Rattle.edit.specs.EditList.{insert, update, delete, editOf, editBytes}
+use Rattle.codec.proofs.Lists.{part-drop}
 use Rattle.lines.specs.Columns.{columns, value}
-use Rattle.lines.specs.Form.{lineFeed, lineBytes, meaning, lineIn, lineEdit}
+use Rattle.lines.specs.Form.{lineFeed, lineBytes, meaning, lineIn}
 use Rattle.lines.specs.declared.Line.the-variants.{Bad}
 use Rattle.lines.proofs.Columns.{length-columns, value-columns}
 
@@ -101,49 +95,3 @@ line-at l at kind key price a b c =
 pub line-same : (l : List ℕ) (at : ℕ) (line new : List ℕ) (r : Bool) → r ≡ eqs (take (at + 28 - at) (drop at l)) line → line ≡ new → r ≡ eqs (part l at 28) new
 unfolding part
 line-same l at line new r a b = let e : at + 28 - at ≡ 28 = omega arith in a ∙ ap (λ (n : ℕ). eqs (take n (drop at l)) line) e ∙ ap (eqs (take 28 (drop at l))) b
-
--- ---- the bytes of an edit
-
-pub head-written : (l : List ℕ) (at kind n key : ℕ) (l′ : List ℕ) → at + 10 ≤ length l →
-    l′ ≡ splice (set (set l at kind) (at + 1) n) (at + 2) (bytesOf 8 key) → l′ ≡ splice l at (kind ∷ n ∷ bytesOf 8 key)
-head-written l at kind n key l′ h e =
-    let ten : length (bytesOf 8 key) ≡ 8 = length-bytesOf 8 key in
-    let two : at + 2 ≡ suc (suc at) = omega arith in
-    let one : at + 1 ≡ suc at = omega arith in
-    let fits : at + 2 + length (bytesOf 8 key) ≤ length (set (set l at kind) (at + 1) n) = simp length-set (omega arith) in
-    e ∙ splice-sets (set (set l at kind) (at + 1) n) (at + 2) (bytesOf 8 key) fits
-    ∙ rw (two, one) (sym (splice-sets l at (kind ∷ n ∷ bytesOf 8 key) (omega arith)))
-
-pub edit-changes : (kind key price : ℕ) → (kind ≡ 1) ⊎ (kind ≡ 2) → lineEdit kind key price ≡ (kind ∷ 8 ∷ bytesOf 8 key) ++ bytesOf 8 price
-unfolding lineEdit editOf editBytes
-edit-changes kind key price (inl e) = rw (e, length-bytesOf 8 price)
-edit-changes kind key price (inr e) = rw (e, length-bytesOf 8 price)
-
-pub edit-deletes : (kind key price : ℕ) → (kind ≡ 1 → ⊥) → (kind ≡ 2 → ⊥) → lineEdit kind key price ≡ 3 ∷ 0 ∷ bytesOf 8 key
-unfolding lineEdit editOf editBytes
-edit-deletes kind key price a b = rw (ne-eqb kind 1 a, ne-eqb kind 2 b)
-
--- the head of an insert or an update, and its value behind it
-pub edit-written : (l : List ℕ) (at kind key price : ℕ) (l1 l2 : List ℕ) → at + 18 ≤ length l → (kind ≡ 1) ⊎ (kind ≡ 2) →
-    l1 ≡ splice l at (kind ∷ 8 ∷ bytesOf 8 key) → l2 ≡ splice l1 (at + 10) (bytesOf 8 price) → l2 ≡ splice l at (lineEdit kind key price)
-edit-written l at kind key price l1 l2 h k a b =
-    let m = length-bytesOf 8 key in
-    let n = length-bytesOf 8 price in
-    b ∙ splice-next l at (kind ∷ 8 ∷ bytesOf 8 key) (bytesOf 8 price) l1 (at + 10) a (omega arith) (omega arith) ∙ ap (splice l at) (sym (edit-changes kind key price k))
-
-pub length-changes : (kind key price : ℕ) → (kind ≡ 1) ⊎ (kind ≡ 2) → length (lineEdit kind key price) ≡ 18
-length-changes kind key price k =
-    ap length (edit-changes kind key price k) ∙ simp length-append (omega (arith, length-bytesOf 8 key, length-bytesOf 8 price))
-
-pub length-deletes : (kind key price : ℕ) → (kind ≡ 1 → ⊥) → (kind ≡ 2 → ⊥) → length (lineEdit kind key price) ≡ 10
-length-deletes kind key price a b = ap length (edit-deletes kind key price a b) ∙ omega (arith, length-bytesOf 8 key)
-
--- an edit of a line takes at most 18 bytes of an edit list
-pub length-edit : (kind key price : ℕ) → length (lineEdit kind key price) ≤ 18
-unfolding lineEdit editOf editBytes
-length-edit kind key price = go (eqb kind 1) (eqb kind 2)
-  where
-    go : (a b : Bool) → length (editBytes (pick a (insert key (bytesOf 8 price)) (pick b (update key (bytesOf 8 price)) (delete key)))) ≤ 18
-    go true b = simp length-append (omega (arith, length-bytesOf 8 key, length-bytesOf 8 price))
-    go false true = simp length-append (omega (arith, length-bytesOf 8 key, length-bytesOf 8 price))
-    go false false = omega (arith, length-bytesOf 8 key)

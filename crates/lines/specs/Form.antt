@@ -1,6 +1,6 @@
 -- A line of the form: its bytes, what it says, and the bytes of its edit (document 01, 'The sheet program').
 -- Assumes nothing.
-use Prim.Native.Nat.{ℕ}
+use Prim.Native.Nat.{ℕ, _+_}
 use mathlib.Core.Bool.{_&&_}
 use mathlib.Core.List.{List, [], _∷_, _++_}
 use lib.Dec.{eqb, ltb}
@@ -22,7 +22,7 @@ abbrev pub priceColumns : ℕ
 priceColumns = 12
 
 abbrev pub lineSize : ℕ
-lineSize = 28
+lineSize = kindColumns + keyColumns + priceColumns + 1
 
 abbrev pub lineFeed : ℕ
 lineFeed = 10
@@ -42,9 +42,9 @@ meaning kind key price =
 -- the line at the front of t: it is of this form if it is the line of the numbers that its columns hold
 unfoldable pub lineIn : List ℕ → Line
 lineIn t =
-    let kind = value (part t 0 2) in
-    let key = value (part t 2 13) in
-    let price = value (part t 15 12) in
+    let kind = value (part t 0 kindColumns) in
+    let key = value (part t kindColumns keyColumns) in
+    let price = value (part t (kindColumns + keyColumns) priceColumns) in
     pick (eqs (part t 0 lineSize) (lineBytes kind key price)) (meaning kind key price) Bad
 
 -- its edit in an edit list: "the value is the price in 8 bytes"

@@ -15,7 +15,7 @@ use Rattle.device.specs.declared.Refusal.{Refusal}
 use Rattle.transaction.specs.declared.Transacted.{Transacted}
 use Rattle.transaction.specs.declared.Transacted.the-variants as answers
 use Rattle.lines.specs.Form.{lineIn, lineEdit}
-use Rattle.lines.proofs.Reading.{length-edit}
+use Rattle.lines.proofs.Editing.{length-edit}
 use Rattle.lines.specs.declared.Line.{Line}
 use Rattle.lines.specs.declared.Line.the-variants as says
 use Rattle.sheet.specs.declared.form.Counts.{Counts}

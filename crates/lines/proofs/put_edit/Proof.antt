@@ -5,7 +5,7 @@ use mathlib.Core.Path.{_≡_, sym, ap, _∙_}
 use mathlib.Core.Logic.{_⊎_, inl, inr, ⊎-elim}
 use borrow.Author.Tests.{eqb-true, eqb-false, not-true, not-false}
 use Rattle.codec.specs.Lists.{splice}
-use Rattle.lines.proofs.Reading.{edit-deletes, edit-written, length-changes, length-deletes}
+use Rattle.lines.proofs.Editing.{edit-deletes, edit-written, length-changes, length-deletes}
 use borrow.Author.Needs.{needs}
 use Rattle.lines.proofs.put_edit.Statement.{statement}
 use Rattle.lines.proofs.put_edit.Tie as tie

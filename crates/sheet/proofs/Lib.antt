@@ -1,3 +1,5 @@
 pub mod Taking
-pub mod Rising
 pub mod Store
+pub mod Visiting
+pub mod Counting
+pub mod Printing

@@ -4,15 +4,17 @@ use Prim.Native.Nat.{ℕ, zero, suc, _+_}
 use mathlib.Core.Path.{_≡_, refl, sym, ap, _∙_}
 use mathlib.Core.Bool.{Bool, true, false}
 use mathlib.Core.List.{List, [], _∷_, _++_}
-use lib.ListN.{drop, replicate}
+use lib.ListN.{length, drop, replicate}
 use lib.Dec.{ltb}
 use borrow.Author.Tests.{le-leb}
 use Rattle.codec.specs.Lists.{pick}
+use Rattle.device.specs.Calls.{isImageSize}
 use Rattle.image.specs.Image.{sound}
 use Rattle.image.specs.Table.{table}
 use Rattle.image.specs.Fresh.{fresh}
-use Rattle.image.specs.PageZero.{logMost}
-use Rattle.image.proofs.Fresh.{fresh-sound}
+use Rattle.image.specs.PageZero.{logMost, pageCount}
+use Rattle.image.specs.Calls.{Formatted, formatCall}
+use Rattle.image.proofs.Fresh.{format-accepted, format-sound}
 use Rattle.edit.specs.EditList.{editsOf, editList}
 use Rattle.edit.specs.Ledger.{applyEdits}
 use Rattle.journal.specs.Tape.{takenFor, roomInLog}
@@ -79,6 +81,12 @@ steps-from-sound (suc n) done (b ∷ t) s h = go (lineIn (b ∷ t)) (stepsFrom n
     go says.Bad rest k = h
 
 -- for every form, the store at its end is sound
-pub steps-sound : (input : List ℕ) → sound (steps input (fresh 8) .image) ≡ true
+pub steps-sound : (input image : List ℕ) → sound image ≡ true → sound (steps input image .image) ≡ true
 unfolding steps
-steps-sound input = steps-from-sound 2000 0 input (opened (fresh 8)) (fresh-sound 8 refl)
+steps-sound input image h = steps-from-sound 2000 0 input (opened image) h
+
+-- also as the program runs it, from a formatted image
+pub program-sound : (zeros input formatted last : List ℕ) → isImageSize (length zeros) ≡ true → formatted ≡ formatCall zeros .image → last ≡ steps input formatted .image → sound last ≡ true
+program-sound zeros input formatted last h e f =
+    let fresh-is : formatted ≡ fresh (pageCount zeros) = e ∙ ap (λ (r : Formatted). r .image) (format-accepted zeros h) in
+    ap sound f ∙ steps-sound input formatted (ap sound fresh-is ∙ format-sound zeros h .1)

@@ -2,8 +2,8 @@
 //! recoveries, all held to the ledger. And each line of 'Shortcuts that break a
 //! curve', which the same test must catch.
 //!
-//! With the feature `transaction` the tapes and the cuts are the proved
-//! library's, else the reference's.
+//! The tapes, the recoveries and the cuts are the proved library's; the
+//! shortcuts are the reference's.
 
 use cases::lists::any_list;
 use cases::random::Random;
@@ -28,7 +28,6 @@ const LATE: (usize, usize) = (32, 16);
 const OF_RECOVERY: (usize, usize) = (16, 4);
 
 /// The calls under test, with the numbers of their answers.
-#[cfg(feature = "transaction")]
 mod calls {
     use reference::numbers::of_transaction;
     use reference::transaction::{transaction_with, Fault};
@@ -56,39 +55,6 @@ mod calls {
     }
 
     pub use proved::cut;
-}
-
-#[cfg(not(feature = "transaction"))]
-mod calls {
-    use reference::numbers::{of_recovery, of_transaction};
-    use reference::transaction::{transaction_with, Fault};
-    use reference::{device, recovery};
-
-    pub fn transaction(
-        fault: Fault,
-        image: &mut [u8],
-        work: &mut [u8],
-        tape: &mut [u8],
-        list: &mut [u8],
-    ) -> (u8, [u64; 5]) {
-        of_transaction(&transaction_with(fault, image, work, tape, list))
-    }
-
-    pub fn recover(image: &mut [u8], work: &mut [u8], tape: &mut [u8]) -> (u8, [u64; 2]) {
-        let (number, answer) = of_recovery(&recovery::recover(image, work, tape));
-        (number, answer.unwrap_or_default())
-    }
-
-    pub fn cut(
-        image: &mut [u8],
-        work: &mut [u8],
-        tape: &mut [u8],
-        c: usize,
-        choices: &mut [u8],
-    ) -> u8 {
-        let answer = device::cut(image, work, tape, c, choices);
-        answer.map_or_else(|refusal| refusal.number, |()| 0)
-    }
 }
 
 /// How often each thing happened.

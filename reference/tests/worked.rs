@@ -1,6 +1,5 @@
-//! Document 01, 'Worked on paper': every row about the store, on the
-//! reference; with the feature `transaction` also on the proved library. Each
-//! test starts with its row.
+//! Document 01, 'Worked on paper': every row about the store, on the reference
+//! and on the proved library. Each test starts with its row.
 
 use cases::images::even;
 use cases::logs::waiting;
@@ -39,7 +38,6 @@ fn buffers(image: &[u8]) -> (Vec<u8>, Vec<u8>) {
 }
 
 /// The same transaction by the proved library gives the same.
-#[cfg(feature = "transaction")]
 fn also_proved(image: &[u8], list: &[u8], answer: &Result<Accepted, Refusal>, left: [&[u8]; 2]) {
     let (mut work, mut tape) = buffers(image);
     let mut five = [7; 5];
@@ -50,7 +48,6 @@ fn also_proved(image: &[u8], list: &[u8], answer: &Result<Accepted, Refusal>, le
 }
 
 /// The same recovery by the proved library gives the same.
-#[cfg(feature = "transaction")]
 fn also_proved_recovery(image: &[u8], answer: &Result<Recovered, Refusal>, left: [&[u8]; 2]) {
     let (mut work, mut tape) = buffers(image);
     let mut two = [7; 2];
@@ -66,8 +63,7 @@ fn also_proved_recovery(image: &[u8], answer: &Result<Recovered, Refusal>, left:
 fn send(image: &mut Vec<u8>, edits: &[Edit]) -> Result<(Accepted, Vec<Command>), Refusal> {
     let (mut work, mut tape) = buffers(image);
     let answer = transaction(image, &mut work, &mut tape, &list(edits));
-    #[cfg(feature = "transaction")]
-    also_proved(image, &list(edits), &answer, [&work, &tape]);
+        also_proved(image, &list(edits), &answer, [&work, &tape]);
     let answer = answer?;
     assert!(tape[answer.bytes..].iter().all(|&byte| byte == 0xdd));
     tape.truncate(answer.bytes);
@@ -85,8 +81,7 @@ fn send(image: &mut Vec<u8>, edits: &[Edit]) -> Result<(Accepted, Vec<Command>),
 fn send_recovery(image: &[u8]) -> Result<Recovered, Refusal> {
     let (mut work, mut tape) = buffers(image);
     let answer = recover(image, &mut work, &mut tape);
-    #[cfg(feature = "transaction")]
-    also_proved_recovery(image, &answer, [&work, &tape]);
+        also_proved_recovery(image, &answer, [&work, &tape]);
     answer
 }
 

@@ -164,5 +164,9 @@ module _ (p : List ℕ) (bytes : Bytes p) (a end : ℕ) (less : a < end) (even :
   word-from e i h k =
       word-blank p bytes (a - a % 8) (a % 8) (8 - a % 8) (omega arith) (rw whole e) i (omega arith) (omega arith)
 
+  -- the same where a is a multiple of 8
+  pub word-aligned : a % 8 ≡ 0 → number (part p a 8) ≡ number (part p (a - a % 8) 8) / 2 ^ (8 * (a % 8))
+  word-aligned m = let e : a - a % 8 ≡ a = omega arith in rw (e, m) (omega arith)
+
   pub from-word : Blank p a end → number (part p (a - a % 8) 8) / 2 ^ (8 * (a % 8)) ≡ 0
   from-word b = rw whole at (blank-word p bytes (a - a % 8) (a % 8) (8 - a % 8) (omega arith) (λ i h k. b i (omega arith) (omega arith)))

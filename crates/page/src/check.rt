@@ -75,18 +75,21 @@ impl Marks {
     }
 }
 
-// Whether the bytes from `at` on, up to `end`, are zero: a word at a time, whose bytes below `at` are shifted out. The words are joined and
-// tested once at the end.
+// Whether the bytes from `at` on, up to `end`, are zero: a word at a time, the bytes of the first that are below `at` shifted out. The
+// words are joined and tested once at the end.
 fn blank(page: &[u8], at: usize, end: usize) -> bool
     requires { ⌜ (at ≤ end) × (end ≤ length (now page)) × (end % 8 ≡ 0) ⌝ }
     ensures { λ r. ⌜ r ≡ eqs (part (now (page .entry)) at (end - at)) (replicate (end - at) 0) ⌝ }
 {
-    let mut joined = 0u64;
-    let mut a = at;
+    if end <= at {
+        return true;
+    }
+    let k = at % 8;
+    let mut joined = codec::long_at(page, at - k) >> (8 * k);
+    let mut a = at - k + 8;
     while a < end {
-        let k = a % 8;
-        joined = joined | (codec::long_at(page, a - k) >> (8 * k));
-        a = a - k + 8;
+        joined = joined | codec::long_at(page, a);
+        a += 8;
     }
     joined == 0
 }

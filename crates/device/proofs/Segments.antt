@@ -2,7 +2,7 @@
 -- Assumes nothing.
 use Prim.Native.Nat.{ℕ, zero, suc, _+_, _≤_, _<_}
 use mathlib.Core.Path.{_≡_, refl, sym, ap, _∙_}
-use mathlib.Core.Bool.{Bool, true, false, _||_, true≢false}
+use mathlib.Core.Bool.{Bool, true, false, _||_}
 use mathlib.Core.List.{List, [], _∷_, _++_, append-nil}
 use mathlib.Core.Logic.{_⊎_, inl, inr}
 use native.Mathlib.Omega.{arith}
@@ -13,26 +13,17 @@ use borrow.Author.Tests.{leb-true, leb-false, ltb-true, ltb-false, le-leb, lt-le
 use Rattle.codec.specs.Lists.{pick}
 use Rattle.codec.proofs.Tests.{first, second}
 use Rattle.codec.proofs.Lists.{sets-apart, sets-both}
+use Rattle.codec.proofs.Agree.{or-left, or-right}
 use Rattle.device.specs.Tape.{Op, store, flush, malformed}
 use Rattle.device.specs.Cut.{apply, after, lineOf, flushed, less, consIf, kept, cutImage, hits, touches, Closed, Sealed}
 use Rattle.device.proofs.Cuts.{length-after, kept-durable}
 
--- ---- two tests of which neither holds
-
-neither-first : (a b : Bool) → (a || b) ≡ false → a ≡ false
-neither-first true b e = e
-neither-first false b e = refl
-
-neither-second : (a b : Bool) → (a || b) ≡ false → b ≡ false
-neither-second true b e = absurd (true≢false e)
-neither-second false b e = e
-
 -- ---- bytes that no store touches
 
-hits-in : (p : ℕ) (vs : List ℕ) (i : ℕ) → hits (store p vs) i ≡ true → (p ≤ i) × (i < p + length vs)
-hits-in p vs i e = (leb-true p i (first (leb p i) (ltb i (p + length vs)) e), ltb-true i (p + length vs) (second (leb p i) (ltb i (p + length vs)) e))
+pub in-hits : (p : ℕ) (vs : List ℕ) (i : ℕ) → hits (store p vs) i ≡ true → (p ≤ i) × (i < p + length vs)
+in-hits p vs i e = (leb-true p i (first (leb p i) (ltb i (p + length vs)) e), ltb-true i (p + length vs) (second (leb p i) (ltb i (p + length vs)) e))
 
-hits-out : (p : ℕ) (vs : List ℕ) (i : ℕ) → hits (store p vs) i ≡ false → (i < p) ⊎ (p + length vs ≤ i)
+pub hits-out : (p : ℕ) (vs : List ℕ) (i : ℕ) → hits (store p vs) i ≡ false → (i < p) ⊎ (p + length vs ≤ i)
 hits-out p vs i e = go (leb p i) refl
   where
     go : (b : Bool) → leb p i ≡ b → (i < p) ⊎ (p + length vs ≤ i)
@@ -67,14 +58,14 @@ apply-other image malformed i e = refl
 pub run-other : (image : List ℕ) (cs : List Op) (i : ℕ) → touches cs i ≡ false → getD (after image cs) i 0 ≡ getD image i 0
 unfolding after touches
 run-other image [] i e = refl
-run-other image (o ∷ cs) i e = run-other (apply image o) cs i (neither-second (hits o i) (touches cs i) e) ∙ apply-other image o i (neither-first (hits o i) (touches cs i) e)
+run-other image (o ∷ cs) i e = run-other (apply image o) cs i (or-right (hits o i) (touches cs i) e) ∙ apply-other image o i (or-left (hits o i) (touches cs i) e)
 
 -- equally long images that agree at a byte, unless it is stored, agree there afterwards
 apply-both : (a b : List ℕ) (o : Op) (i : ℕ) → length a ≡ length b → (hits o i ≡ false → getD a i 0 ≡ getD b i 0) → getD (apply a o) i 0 ≡ getD (apply b o) i 0
 apply-both a b (store p vs) i e h = go (hits (store p vs) i) refl
   where
     go : (t : Bool) → hits (store p vs) i ≡ t → getD (sets a p vs) i 0 ≡ getD (sets b p vs) i 0
-    go true q = let r = hits-in p vs i q in sets-both a b p vs i e (r .0) (r .1)
+    go true q = let r = in-hits p vs i q in sets-both a b p vs i e (r .0) (r .1)
     go false q = apply-other a (store p vs) i q ∙ h q ∙ sym (apply-other b (store p vs) i q)
 apply-both a b (flush l) i e h = h refl
 apply-both a b malformed i e h = h refl
@@ -102,8 +93,8 @@ touches-kept f [] i e = refl
 touches-kept f (store p vs ∷ cs) i e =
     let g = pick (flushed (lineOf p) cs) f (less f (lineOf p)) in
     touches-if (flushed (lineOf p) cs || ltb 0 (f (lineOf p))) (store p vs) (kept g cs) i
-    (neither-first (hits (store p vs) i) (touches cs i) e)
-    (touches-kept g cs i (neither-second (hits (store p vs) i) (touches cs i) e))
+    (or-left (hits (store p vs) i) (touches cs i) e)
+    (touches-kept g cs i (or-right (hits (store p vs) i) (touches cs i) e))
 touches-kept f (flush l ∷ cs) i e = touches-kept f cs i e
 touches-kept f (malformed ∷ cs) i e = touches-kept f cs i e
 
@@ -111,7 +102,7 @@ touches-take : (c : ℕ) (cs : List Op) (i : ℕ) → touches cs i ≡ false →
 unfolding touches
 touches-take zero cs i e = refl
 touches-take (suc c) [] i e = refl
-touches-take (suc c) (o ∷ cs) i e = rw (neither-first (hits o i) (touches cs i) e, touches-take c cs i (neither-second (hits o i) (touches cs i) e))
+touches-take (suc c) (o ∷ cs) i e = rw (or-left (hits o i) (touches cs i) e, touches-take c cs i (or-right (hits o i) (touches cs i) e))
 
 -- an untouched byte survives every cut
 pub cut-untouched : (image : List ℕ) (f : ℕ → ℕ) (c : ℕ) (cs : List Op) (i : ℕ) → touches cs i ≡ false → getD (cutImage image f c cs) i 0 ≡ getD image i 0

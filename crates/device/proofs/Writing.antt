@@ -3,41 +3,28 @@
 -- Assumes nothing.
 use Prim.Native.Nat.{ℕ, zero, suc, _+_, _-_, _≤_, _<_}
 use mathlib.Core.Path.{_≡_, refl, sym, ap, _∙_}
-use mathlib.Core.Logic.{_⊎_, inl, inr}
-use mathlib.Core.Bool.{Bool, true, false, or-true, or-false, true≢false}
+use mathlib.Core.Logic.{_⊎_}
+use mathlib.Core.Bool.{Bool, true, false, or-true, or-false}
 use mathlib.Core.List.{List, [], _∷_, _++_}
 use native.Mathlib.Omega.{arith}
-use native.Mathlib.Decide.{decLe, decLt}
+use native.Mathlib.Decide.{decLe}
 use lib.ListN.{length, getD, take, length-append, length-take}
 use lib.Seq.{sets, length-sets, ext-getD, take-take, take-all, take-length}
-use lib.Dec.{leb, ltb}
-use borrow.Author.Tests.{eq-eqb, leb-true, le-leb, ltb-true, lt-ltb}
+use borrow.Author.Tests.{eq-eqb, le-leb, lt-ltb}
 use Rattle.codec.specs.Lists.{part, All}
-use Rattle.codec.proofs.Tests.{both, first, second}
+use Rattle.codec.proofs.Tests.{both, first}
 use Rattle.codec.proofs.Lists.{sets-apart, getD-part}
 use Rattle.codec.proofs.Agree.{or-left, or-right, neither, part-agree, part-sets}
 use Rattle.device.specs.Tape.{Op, store, flush, malformed}
 use Rattle.device.specs.Cut.{after, lineOf, flushed, cutImage, hits, touches, Closed, Sealed, To}
 use Rattle.device.proofs.Cuts.{length-after, after-append}
 use Rattle.device.proofs.Lines.{first-part}
-use Rattle.device.proofs.Segments.{out-hits, touches-append, sealed-closed, sealed-more, cut-early, cut-all}
+use Rattle.device.proofs.Segments.{out-hits, touches-append, sealed-closed, sealed-more, cut-early, cut-all, in-hits, hits-out}
 
 -- ---- which bytes a store writes
 
 hits-in : (p : ℕ) (vs : List ℕ) (i : ℕ) → p ≤ i → i < p + length vs → hits (store p vs) i ≡ true
 hits-in p vs i low high = both (le-leb p i low) (lt-ltb i (p + length vs) high)
-
--- where a byte lies that a store writes, and one that it does not
-in-hits : (p : ℕ) (vs : List ℕ) (i : ℕ) → hits (store p vs) i ≡ true → (p ≤ i) × (i < p + length vs)
-in-hits p vs i e = (leb-true p i (first (leb p i) (ltb i (p + length vs)) e), ltb-true i (p + length vs) (second (leb p i) (ltb i (p + length vs)) e))
-
-hits-out : (p : ℕ) (vs : List ℕ) (i : ℕ) → hits (store p vs) i ≡ false → (i < p) ⊎ (p + length vs ≤ i)
-hits-out p vs i e = go (decLt i p) (decLt i (p + length vs))
-  where
-    go : Dec (i < p) → Dec (i < p + length vs) → (i < p) ⊎ (p + length vs ≤ i)
-    go (yes h) k = inl h
-    go (no h) (yes k) = absurd (true≢false (sym (hits-in p vs i (omega arith) k) ∙ e))
-    go (no h) (no k) = inr (omega arith)
 
 module _ (p : ℕ) (vs : List ℕ) (cs : List Op) where
   pub after-store : (img : List ℕ) → after img (store p vs ∷ cs) ≡ after (sets img p vs) cs

@@ -18,7 +18,7 @@ use Rattle.page.specs.Operations.{pageOf}
 use Rattle.page.specs.Search.{searched}
 use Rattle.page.specs.declared.Search.{Search}
 use Rattle.page.specs.declared.Search.the-variants.{At, Missing}
-use Rattle.page.proofs.Facts.{pageOk-true}
+use Rattle.page.proofs.Facts.{pageOk-true, records-ok}
 use Rattle.image.specs.PageZero.{pageCount, isPage, rootOf}
 use Rattle.image.specs.Image.{childOf, children, nextSep, sound}
 use Rattle.image.specs.Facts.{Rising, Index, Leaves}
@@ -27,7 +27,7 @@ use Rattle.image.specs.Route.{lastFrom, route}
 use Rattle.image.specs.declared.Next.the-variants.{Last}
 use Rattle.image.proofs.Rising.{From, rising-from, rising-below, rise-rising}
 use Rattle.image.proofs.Zero.{Size, size-true, ready-facts}
-use Rattle.image.proofs.Soundness.{records-ok, sound-facts, sound-tree}
+use Rattle.image.proofs.Soundness.{sound-facts, sound-tree}
 use Rattle.image.proofs.Order.{table-rising}
 use Rattle.image.proofs.Routing.{orElse, aboveFirst, above-none, routedPage, tree-routed, found-routed, next-routed}
 use Rattle.image.proofs.Values.{page-fits}

@@ -12,7 +12,8 @@ use Rattle.codec.specs.Numbers.{number, bytesOf}
 use Rattle.codec.proofs.Tests.{eqs-true, eqs-same, eqs-differ}
 use Rattle.codec.proofs.Lists.{length-part}
 use Rattle.codec.proofs.Numbers.{length-bytesOf, number-bytesOf}
-use Rattle.page.proofs.CheckBytes.{Bytes, part-add, same-rest, bytes-part}
+use Rattle.codec.proofs.Agree.{part-add}
+use Rattle.page.proofs.CheckBytes.{Bytes, same-rest, bytes-part}
 use Rattle.image.specs.PageZero.{pageCount, isPage, rootOf, logMost, markBytes, noMark, wordsPast, pageZero}
 use Rattle.image.specs.declared.PageZero.{PageZero}
 use Rattle.image.specs.declared.PageZero.the-variants.{Wrong, Waiting, Ready}

@@ -9,13 +9,13 @@ use native.Mathlib.Omega.{arith}
 use lib.ListN.{length}
 use lib.Dec.{leb, ltb, eqb}
 use borrow.Author.Tests.{leb-true, le-leb, ltb-true, lt-ltb}
-use Rattle.codec.specs.Lists.{All}
 use Rattle.codec.proofs.Tests.{both, first, second, everything, all-every, allB-true, true-allB, All-map}
+use Rattle.codec.proofs.Agree.{either}
 use Rattle.device.specs.Calls.{isImageSize}
-use Rattle.page.specs.Layout.{leafKind, indexKind, topKey, Rec, readHead}
-use Rattle.page.specs.Page.{Entry, recs, entries, records, laidOut, pageOk, RecOk, Held}
+use Rattle.page.specs.Layout.{leafKind, indexKind, topKey, Rec}
+use Rattle.page.specs.Page.{records, pageOk, RecOk}
 use Rattle.page.specs.Operations.{pageOf}
-use Rattle.page.proofs.Facts.{pageOk-true, ok-is, recs-entries}
+use Rattle.page.proofs.Facts.{pageOk-true, records-ok}
 use Rattle.image.specs.PageZero.{pageCount, isPage, rootOf, pageZero}
 use Rattle.image.specs.Image.{childOf, children, indexOk, nextSep, leafOk, leavesOk, treeOk, soundFrom, sound}
 use Rattle.image.specs.Facts.{Rising, Index, Leaf, Leaves, Sound}
@@ -25,13 +25,6 @@ use Rattle.image.proofs.Rising.{From, Below, rising-from, rising-below,
 use Rattle.image.proofs.Zero.{ready-facts}
 
 -- ---- the records of a page
-
-recs-ok : (p : List ℕ) (start : ℕ) (es : List Entry) → All (Held p start) es → All RecOk (recs es)
-recs-ok p start [] h = tt
-recs-ok p start (e ∷ es) h = (h .0 .ok, recs-ok p start es (h .1))
-
-pub records-ok : (p : List ℕ) → laidOut p ≡ true → All RecOk (records p)
-records-ok p ok = rw (recs-entries p) at (recs-ok p (readHead p .start) (entries p) (ok-is p ok .body .held))
 
 from-zero : (l : List Rec) → From 0 l
 from-zero [] = tt
@@ -75,10 +68,6 @@ module _ (img : List ℕ) (root : ℕ) where
   index-rising k = page-rising indexKind root (pageOf img root) (k .page)
 
 -- ---- a leaf
-
-either : (a b : Bool) → (a || b) ≡ true → (a ≡ true) ⊎ (b ≡ true)
-either true b h = inl refl
-either false b h = inr h
 
 module _ (only : Bool) (lo hi own : ℕ) (p : List ℕ) where
   pub leaf-facts : lo ≤ hi → leafOk only lo hi own p ≡ true → Leaf only lo hi own p

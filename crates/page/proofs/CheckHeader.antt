@@ -15,11 +15,12 @@ use Rattle.codec.specs.Numbers.{number, bytesOf}
 use Rattle.codec.proofs.Lists.{length-part}
 use Rattle.codec.proofs.Numbers.{length-bytesOf, number-two}
 use Rattle.codec.proofs.Tests.{everything, all-every, eqs-true, eqs-same, not-true}
+use Rattle.codec.proofs.Agree.{part-add}
 use Rattle.page.specs.Layout.{pageSize, lineSize, slotCount, padded, slotBytes, slotsIn, headerBytes, readHead}
 use Rattle.page.specs.Page.{headOk, HeadOk}
 use Rattle.page.proofs.Facts.{headOk-true, true-headOk}
 use Rattle.page.proofs.Headers.{length-slotsIn}
-use Rattle.page.proofs.CheckBytes.{Bytes, part-add, five-same, same-rest, same-test, bytes-part}
+use Rattle.page.proofs.CheckBytes.{Bytes, five-same, same-rest, same-test, bytes-part}
 
 -- ---- slots
 

@@ -2,7 +2,7 @@
 -- Assumes nothing.
 use Prim.Native.Nat.{ℕ, _≤_}
 use mathlib.Core.Path.{_≡_, refl, sym, ap, _∙_}
-use mathlib.Core.Bool.{Bool, true, false, _||_, or-true}
+use mathlib.Core.Bool.{true, false, or-true}
 use mathlib.Core.List.{List, [], _∷_, _++_, map}
 use mathlib.Core.Logic.{_⊎_, inl, inr}
 use native.Mathlib.Omega.{arith}
@@ -11,6 +11,7 @@ use lib.Dec.{leb}
 use borrow.Author.Tests.{eqb-true, eq-eqb, leb-true, le-leb, ltb-true, lt-ltb}
 use Rattle.codec.specs.Lists.{allB, All}
 use Rattle.codec.proofs.Tests.{both, first, second, everything, all-every, eqs-true, eqs-same, allB-true, true-allB, not-true}
+use Rattle.codec.proofs.Agree.{either}
 use Rattle.page.specs.Layout.{lineSize, leafKind, indexKind, Rec, recordAt, Head, headerBytes, readHead}
 use Rattle.page.specs.Page.{
   Entry,
@@ -90,10 +91,6 @@ module _ (p : List ℕ) (start : ℕ) (e : Entry) where
   not-held h = not-true (heldB p start e) (λ t. h (held-true t))
 
 -- ---- records apart
-
-either : (a b : Bool) → (a || b) ≡ true → (a ≡ true) ⊎ (b ≡ true)
-either true b h = inl refl
-either false b h = inr h
 
 pub off-true : (e f : Entry) → offB e f ≡ true → Off e f
 unfolding offB

@@ -10,9 +10,9 @@ use lib.ListN.{length, getD, take, drop, length-map, drop-of-length-le}
 use lib.Seq.{sets, take-at}
 use lib.Bits.{bitOr, bitXor, or-zero-r, xor-self, xor-add-and, and-le-l, and-le-r}
 use lib.Dec.{eqb}
-use borrow.Author.Tests.{eq-eqb, ne-eqb, eqb-true, eqb-false}
+use borrow.Author.Tests.{ne-eqb, eqb-true, eqb-false}
 use Rattle.codec.specs.Lists.{pick, part, splice, eqs, All}
-use Rattle.codec.proofs.Tests.{eqs-same, eqs-differ}
+use Rattle.codec.proofs.Tests.{eqs-same, eqs-differ, eqs-append}
 use Rattle.codec.proofs.Lists.{length-part, part-drop, drop-splice, splice-sets, sets-append}
 use Rattle.page.specs.Layout.{pageSize, lineSize}
 use Rattle.page.proofs.CheckBits.{or-none}
@@ -27,11 +27,6 @@ use Rattle.tape_write.specs.Calls.{Marks}
 use Rattle.tape_write.proofs.StageTape.{first-length, first-cons}
 
 -- ---- parts compared word by word
-
-eqs-past : (x u v : List ℕ) → eqs (x ++ u) (x ++ v) ≡ eqs u v
-unfolding eqs
-eqs-past [] u v = refl
-eqs-past (c ∷ x) u v = rw (eq-eqb c c refl) (eqs-past x u v)
 
 eqs-apart : (x y u v : List ℕ) → length x ≡ length y → (x ≡ y → ⊥) → eqs (x ++ u) (y ++ v) ≡ false
 eqs-apart x y u v e other = eqs-differ (x ++ u) (y ++ v) (λ q. other (sym (take-at x u (length y) e) ∙ ap (take (length y)) q ∙ take-at y v (length y) refl))
@@ -57,7 +52,7 @@ module _ (a b : List ℕ) (at n i : ℕ) where
 
     pub compare-same : part a (at + 8 * i) 8 ≡ part b (at + 8 * i) 8 → eqs (wordsOf a i) (wordsOf b i) ≡ eqs (wordsOf a (i + 1)) (wordsOf b (i + 1))
     compare-same e =
-        ap₂ eqs (first a ∙ ap (λ (x : List ℕ). x ++ wordsOf a (i + 1)) e) (first b) ∙ eqs-past (part b (at + 8 * i) 8) (wordsOf a (i + 1)) (wordsOf b (i + 1))
+        ap₂ eqs (first a ∙ ap (λ (x : List ℕ). x ++ wordsOf a (i + 1)) e) (first b) ∙ eqs-append (part b (at + 8 * i) 8) (wordsOf a (i + 1)) (wordsOf b (i + 1))
 
     pub compare-other : at + 8 * i + 8 ≤ length a → at + 8 * i + 8 ≤ length b → (part a (at + 8 * i) 8 ≡ part b (at + 8 * i) 8 → ⊥) → eqs (wordsOf a i) (wordsOf b i) ≡ false
     compare-other fa fb other =

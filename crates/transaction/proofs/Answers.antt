@@ -110,7 +110,7 @@ module _ (a work tape bytes : List ℕ) where
       check size same answers.Accepted e = list (record { size = size; same = same; checked = e }) (editList bytes) refl
 
   -- the cases exclude each other: each is the call's answer where it holds
-  begun-call : Begun a work → transactionCall a work tape bytes ≡ listOf a work tape (editList bytes)
+  pub begun-call : Begun a work → transactionCall a work tape bytes ≡ listOf a work tape (editList bytes)
   unfolding transactionCall checkedOf
   begun-call B = rw (B .size, eq-eqb (length work) (length a) (B .same), B .checked)
 

@@ -7,7 +7,6 @@ use mathlib.Core.List.{List}
 use native.Mathlib.Omega.{arith}
 use lib.ListN.{length}
 use lib.Dec.{leb}
-use borrow.Author.Tests.{eq-eqb, ne-eqb}
 use Rattle.device.specs.Tape.{tapeBytes}
 use Rattle.device.specs.Calls.{imageSize, workSize, logFull, tapeShort, refusal, isImageSize}
 use Rattle.device.specs.declared.Refusal.{Refusal}
@@ -20,11 +19,12 @@ use Rattle.journal.specs.Tape.{roomInLog, takenFor}
 use Rattle.tree.specs.State.{State}
 use Rattle.tree.specs.Whole.{finished, stopped, editsOn, editedImage}
 use Rattle.tape_write.specs.Calls.{commitCall}
-use Rattle.transaction.specs.Calls.{Result, refusedWith, acceptedWith, committed, outcomeOf, listOf, checkedOf, transactionCall}
+use Rattle.transaction.specs.Calls.{Result, refusedWith, acceptedWith, committed, outcomeOf, listOf, transactionCall}
 use Rattle.edit.specs.declared.Judged.the-variants as judges
 use Rattle.tape_write.specs.declared.Written.{Written}
 use Rattle.tape_write.specs.declared.Written.the-variants as writes
 use Rattle.transaction.specs.declared.Transacted.the-variants.{Accepted, Refused}
+use Rattle.transaction.proofs.Answers.{Answers, bad-size, bad-work, bad-image, begun-call, answers-call}
 
 -- ---- the tape
 
@@ -93,20 +93,24 @@ module _ (a work tape : List ℕ) where
   listed-shows l e x h = subst (λ (v : Listed). Shows x (listOf a work tape v)) (sym e) h
 
   module _ (bytes : List ℕ) where
+    -- a refusal of the call that leaves work and tape
+    call-refused : (k : ℕ) → Answers a work tape bytes (refusedWith k 0 work tape) → (r : Refusal) → r ≡ refusal k →
+        Shows (record { answer = Refused r; work = work; tape = tape }) (transactionCall a work tape bytes)
+    unfolding refusedWith
+    call-refused k h r q =
+        let y = transactionCall a work tape bytes in
+        refused-shows k work tape y (shows (refusedWith k 0 work tape) y (sym (answers-call a work tape bytes (refusedWith k 0 work tape) h))) r q work refl
+
     pub size-shows : isImageSize (length a) ≡ false → (r : Refusal) → r ≡ refusal imageSize → Shows (record { answer = Refused r; work = work; tape = tape }) (transactionCall a work tape bytes)
-    unfolding transactionCall refusedWith
-    size-shows e r q = rw e (ap Refused q, (refl, refl))
+    size-shows e = call-refused imageSize (bad-size e)
 
     pub work-shows : isImageSize (length a) ≡ true → (length work ≡ length a → ⊥) → (r : Refusal) → r ≡ refusal workSize →
         Shows (record { answer = Refused r; work = work; tape = tape }) (transactionCall a work tape bytes)
-    unfolding transactionCall refusedWith
-    work-shows e ne r q = rw (e, ne-eqb (length work) (length a) ne) (ap Refused q, (refl, refl))
+    work-shows e ne = call-refused workSize (bad-work e ne)
 
     module _ (size : isImageSize (length a) ≡ true) (same : length work ≡ length a) where
       pub unsound-shows : (r : Refusal) → checkCall a ≡ answers.Refused r → Shows (record { answer = Refused r; work = work; tape = tape }) (transactionCall a work tape bytes)
-      unfolding transactionCall checkedOf
-      unsound-shows r e = rw (size, eq-eqb (length work) (length a) same, e) (refl, (refl, refl))
+      unsound-shows r e = shows _ _ (sym (answers-call a work tape bytes _ (bad-image size same r e)))
 
       pub checked-shows : checkCall a ≡ answers.Accepted → (x : Result) → Shows x (listOf a work tape (editList bytes)) → Shows x (transactionCall a work tape bytes)
-      unfolding transactionCall checkedOf
-      checked-shows e x h = rw (size, eq-eqb (length work) (length a) same, e) h
+      checked-shows e x h = subst (Shows x) (sym (begun-call a work tape bytes (record { size = size; same = same; checked = e }))) h

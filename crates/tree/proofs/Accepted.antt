@@ -16,6 +16,7 @@ use Rattle.codec.specs.Numbers.{bytesOf}
 use Rattle.codec.proofs.Lists.{length-part}
 use Rattle.codec.proofs.Numbers.{length-bytesOf}
 use Rattle.codec.proofs.Tests.{first, second}
+use Rattle.codec.proofs.Agree.{part-add}
 use Rattle.page.specs.Layout.{pageSize, lineSize, readHead}
 use Rattle.page.specs.Page.{Entry, end, entries, laidOut, Held}
 use Rattle.page.specs.Operations.{pageOf}
@@ -38,7 +39,7 @@ use Rattle.journal.specs.Edited.{Edited}
 use Rattle.tree.specs.State.{State, begin}
 use Rattle.tree.specs.Whole.{finished, editsOn, editedImage}
 use Rattle.tree.specs.Grounds.{tableOf}
-use Rattle.tree.proofs.General.{part-two, byte-part}
+use Rattle.tree.proofs.General.{byte-part}
 use Rattle.tree.proofs.Counts.{count, inside, hit-self, inside-most, inside-range, inside-page, count-among, among-count}
 use Rattle.tree.proofs.Pages.{Old}
 use Rattle.tree.proofs.Tree.{good-tree, reached-laid}
@@ -121,7 +122,7 @@ module _ (a : List ℕ) (h : sound a ≡ true) (es : List Edit) (st : State) (R 
       let front : length (part a 8 8) ≡ 8 = length-part a 8 8 (omega (arith, size-true (length a) (S .size) .low)) in
       let past : part a 16 48 ≡ rest =
       sym (drop-at (part a 8 8) (part a 16 48) 8 front)
-      ∙ ap (drop 8) (sym (part-two a 8 8 48) ∙ old-line .past)
+      ∙ ap (drop 8) (sym (part-add a 8 8 48) ∙ old-line .past)
       ∙ drop-at (bytesOf 8 (rootOf a)) rest 8 (length-bytesOf 8 (rootOf a)) in
       record {
         reads = root-is;
@@ -129,7 +130,7 @@ module _ (a : List ℕ) (h : sound a ≡ true) (es : List Edit) (st : State) (R 
         mark = edited-mark a n st ended ∙ old-line .mark;
         past =
             rw same-length
-            (part-two w 8 8 48
+            (part-add w 8 8 48
             ∙ ap₂ (λ (x y : List ℕ). x ++ y) (edited-word a n st ended)
             (edited-past a n st ended 16 48 (omega arith) (omega arith) ∙ past));
       }

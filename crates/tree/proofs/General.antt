@@ -4,8 +4,7 @@ use Prim.Native.Nat.{ℕ, suc, _+_, _-_, _≤_, _<_}
 use mathlib.Core.Path.{_≡_, refl, sym, ap, _∙_}
 use mathlib.Core.List.{List, [], _∷_, _++_}
 use native.Mathlib.Omega.{arith}
-use lib.ListN.{length, getD, take, drop}
-use lib.Seq.{take-add, drop-drop}
+use lib.ListN.{length, getD}
 use Rattle.codec.specs.Lists.{part, insertAt, removeAt}
 use Rattle.codec.proofs.Lists.{getD-part}
 
@@ -23,11 +22,6 @@ module _ {A : Type 0} where
   removeAt-seam (x ∷ pre) y post = ap (λ (l : List A). x ∷ l) (removeAt-seam pre y post)
 
 -- ---- parts
-
--- a part in two
-pub part-two : (l : List ℕ) (o m n : ℕ) → part l o (m + n) ≡ part l o m ++ part l (o + m) n
-unfolding part
-part-two l o m n = take-add m n (drop o l) ∙ ap (λ (x : List ℕ). take m (drop o l) ++ take n x) (drop-drop m o l)
 
 -- a byte of parts that are equal
 pub byte-part : (x y : List ℕ) (o n i : ℕ) → part x o n ≡ part y o n → o ≤ i → i < o + n → getD x i 0 ≡ getD y i 0

@@ -14,7 +14,7 @@ use Rattle.codec.proofs.Tests.{first, second, All-map, All-remove}
 use Rattle.page.specs.Layout.{pageSize, lineSize, slotCount, leafKind, indexKind, Rec, size, readHead}
 use Rattle.page.specs.Page.{records, formOk, RecOk, PageOk}
 use Rattle.page.specs.Operations.{made, delete, pageOf, putPage}
-use Rattle.page.proofs.Facts.{pageOk-true, leaf-form}
+use Rattle.page.proofs.Facts.{pageOk-true, leaf-form, records-ok}
 use Rattle.page.proofs.Listed.{few-listed}
 use Rattle.page.proofs.Sizes.{page-sizes}
 use Rattle.page.proofs.Made.{All-made}
@@ -22,7 +22,6 @@ use Rattle.image.specs.Image.{childOf, children, reached, nextSep}
 use Rattle.image.specs.Facts.{Rising, Leaf}
 use Rattle.image.specs.Table.{leafRecords}
 use Rattle.image.proofs.Rising.{From}
-use Rattle.image.proofs.Soundness.{records-ok}
 use Rattle.image.proofs.Order.{startOf}
 use Rattle.edit.proofs.General.{neither, not-both, by-test, by-tests}
 use Rattle.tree.specs.State.{State, withPage}

@@ -5,7 +5,7 @@ use Prim.Native.Nat.{ℕ, _+_, _-_, _≤_, _<_}
 use mathlib.Core.Path.{_≡_, refl, sym, ap, _∙_, subst}
 use mathlib.Core.Logic.{_⊎_, inl, inr}
 use mathlib.Core.Bool.{Bool, true, false}
-use mathlib.Core.List.{List, [], _∷_}
+use mathlib.Core.List.{List}
 use native.Mathlib.Omega.{arith}
 use lib.ListN.{length, drop}
 use lib.Seq.{drop-drop}
@@ -17,7 +17,7 @@ use Rattle.page.specs.Operations.{seal, written, insertHead, updateHead, delete
 use Rattle.page.proofs.Records.{length-recordBytes, size-least}
 use Rattle.page.proofs.Facts.{ok-is, pageOk-true}
 use Rattle.page.proofs.Writes.{drop-seal}
-use Rattle.page.proofs.Operations.{insert-page, update-page, delete-page, fill-page}
+use Rattle.page.proofs.Operations.{insert-page, update-page, delete-page, fill-page, fill-kind, fill-own, fill-start}
 use Rattle.tree.specs.Edits.{inPlace}
 
 -- ---- what a page shows
@@ -154,21 +154,6 @@ module _ (p : List ℕ) (laid : laidOut p ≡ true) (i : ℕ) where
       }
 
 -- ---- a new page
-
-fill-kind : (h : Head) (rs : List Rec) → fillHead h rs .kind ≡ h .kind
-unfolding fillHead insertHead
-fill-kind h [] = refl
-fill-kind h (r ∷ rs) = fill-kind (insertHead h (length (h .slots)) (size r)) rs
-
-fill-own : (h : Head) (rs : List Rec) → fillHead h rs .own ≡ h .own
-unfolding fillHead insertHead
-fill-own h [] = refl
-fill-own h (r ∷ rs) = fill-own (insertHead h (length (h .slots)) (size r)) rs
-
-fill-start : (h : Head) (rs : List Rec) → fillHead h rs .start ≡ h .start - sizes rs
-unfolding fillHead insertHead sizes
-fill-start h [] = omega arith
-fill-start h (r ∷ rs) = fill-start (insertHead h (length (h .slots)) (size r)) rs ∙ omega arith
 
 pub fill-shows : (p : List ℕ) (kind own : ℕ) (rs : List Rec) → length p ≡ pageSize → kind < 256 → own < 65536 → All RecOk rs → lineSize + sizes rs ≤ pageSize → length rs ≤ slotCount →
     Shows (fill p kind own rs) kind own (pageSize - sizes rs) rs

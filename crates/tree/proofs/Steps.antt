@@ -14,7 +14,7 @@ use Rattle.page.specs.Layout.{pageSize, lineSize, slotCount, indexKind, Rec, si
 use Rattle.page.specs.Page.{records, RecOk}
 use Rattle.page.specs.Operations.{made, sizes, fill, pageOf}
 use Rattle.page.proofs.Made.{All-made}
-use Rattle.image.proofs.Soundness.{records-ok}
+use Rattle.page.proofs.Facts.{records-ok}
 use Rattle.edit.proofs.General.{by-tests}
 use Rattle.tree.specs.State.{State, Step, done, refused, withPage, withRoot, takePage, taken, filled}
 use Rattle.tree.specs.Edits.{isFull, inPlace, indexed}

@@ -1,8 +1,8 @@
 -- A leaf's records with a change made, copied to one new page: what the copy asks for, and that with the index's record it is `copied`.
 -- Assumes nothing.
-use Prim.Native.Nat.{ℕ, zero, suc, _+_, _*_, _≤_, _<_}
-use mathlib.Core.Path.{_≡_, refl, sym, ap, _∙_}
-use mathlib.Core.Bool.{Bool, true, false}
+use Prim.Native.Nat.{ℕ, suc, _+_, _*_, _≤_}
+use mathlib.Core.Path.{_≡_, sym, ap, _∙_}
+use mathlib.Core.Bool.{true, false}
 use mathlib.Core.List.{List, [], _∷_}
 use native.Mathlib.Omega.{arith}
 use lib.ListN.{length}
@@ -13,8 +13,8 @@ use Rattle.page.specs.Page.{records, laidOut, RecOk}
 use Rattle.page.specs.Operations.{made, between, fill, pageOf, putPage}
 use Rattle.page.proofs.Made.{All-made, length-made, between-all}
 use Rattle.page_edit.specs.Filling.{CanFill}
+use Rattle.page.proofs.Facts.{records-ok}
 use Rattle.image.specs.PageZero.{pageCount}
-use Rattle.image.proofs.Soundness.{records-ok}
 use Rattle.tree.specs.State.{State, done, refused, filled}
 use Rattle.tree.specs.Edits.{indexRec, indexed, keptSep, copied}
 use Rattle.tree.proofs.Counts.{count, hit-self}

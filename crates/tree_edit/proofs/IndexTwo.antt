@@ -10,12 +10,12 @@ use native.Mathlib.Numerals.{add-one}
 use lib.ListN.{length, getD}
 use borrow.Author.Tests.{le-ltb}
 use Rattle.codec.specs.Lists.{pick}
-use Rattle.page.specs.Layout.{pageSize, indexKind, Rec, recOf, size, readHead}
+use Rattle.page.specs.Layout.{indexKind, Rec, recOf, size, readHead}
 use Rattle.page.specs.Page.{records}
 use Rattle.page.specs.Operations.{made, pageOf}
 use Rattle.page.proofs.Made.{All-made, length-made}
+use Rattle.page.proofs.Facts.{records-ok}
 use Rattle.image.specs.PageZero.{pageCount}
-use Rattle.image.proofs.Soundness.{records-ok}
 use Rattle.tree.specs.State.{State, Step, done, refused, withPage, withRoot, takePage, taken, filled}
 use Rattle.tree.specs.Edits.{isFull, inPlace, indexRec, indexed, firstKey}
 use Rattle.tree.proofs.Sizes.{IsEntry, index-entry, index-ok}

@@ -1,22 +1,21 @@
 -- Where the index, a leaf and a free page of a sound tree stand, and the index once new pages are filled.
 -- Assumes nothing.
 use Prim.Native.Nat.{ℕ, zero, suc, _+_, _*_, _≤_, _<_}
-use mathlib.Core.Path.{_≡_, refl, sym, ap, _∙_, subst}
-use mathlib.Core.Bool.{Bool, true, false}
+use mathlib.Core.Path.{_≡_, sym, ap, _∙_, subst}
+use mathlib.Core.Bool.{true, false}
 use mathlib.Core.List.{List, [], _∷_, _++_}
 use native.Mathlib.Omega.{arith}
 use lib.ListN.{length, getD, take, drop}
 use lib.Seq.{split-at}
-use Rattle.page.specs.Layout.{pageSize, slotCount, leafKind, indexKind, topKey, Rec, recOf, readHead}
-use Rattle.page.specs.Page.{records, laidOut, keysRise, RecOk, PageOk}
+use Rattle.page.specs.Layout.{pageSize, leafKind, indexKind, topKey, Rec, recOf, readHead}
+use Rattle.page.specs.Page.{records, laidOut, RecOk, PageOk}
 use Rattle.page.specs.Operations.{made, pageOf}
-use Rattle.page.proofs.Facts.{pageOk-true}
+use Rattle.page.proofs.Facts.{pageOk-true, records-ok}
 use Rattle.page.proofs.Listed.{few-listed}
 use Rattle.page.proofs.Made.{length-made}
 use Rattle.image.specs.PageZero.{pageCount}
 use Rattle.image.specs.Image.{children, childOf}
 use Rattle.image.specs.Route.{route}
-use Rattle.image.proofs.Soundness.{records-ok}
 use Rattle.image.proofs.Routing.{routed}
 use Rattle.image.proofs.CodePages.{All-at, child-two}
 use Rattle.tree.specs.State.{State}

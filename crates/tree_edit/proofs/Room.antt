@@ -1,9 +1,9 @@
 -- Whether a page has room for a record: what `isFull` says, and what an edit in place and a copy then ask for.
 -- Assumes nothing.
-use Prim.Native.Nat.{ℕ, zero, suc, _+_, _-_, _*_, _≤_, _<_}
-use mathlib.Core.Path.{_≡_, refl, sym, ap, _∙_, subst}
-use mathlib.Core.Bool.{Bool, true, false, _&&_, _||_, true≢false}
-use mathlib.Core.List.{List, [], _∷_}
+use Prim.Native.Nat.{ℕ, suc, _+_, _-_, _*_, _≤_, _<_}
+use mathlib.Core.Path.{_≡_, sym, ap, _∙_}
+use mathlib.Core.Bool.{Bool, true, false, _&&_}
+use mathlib.Core.List.{List}
 use native.Mathlib.Omega.{arith}
 use lib.ListN.{length}
 use lib.Dec.{ltb, leb}
@@ -12,7 +12,7 @@ use Rattle.codec.specs.Lists.{part, splice, pick}
 use Rattle.codec.specs.Numbers.{number}
 use Rattle.codec.proofs.Lists.{length-part, splice-sets, sets-over}
 use Rattle.page.specs.Layout.{pageSize, lineSize, slotCount, Rec, size, readHead}
-use Rattle.page.specs.Page.{records, laidOut, RecOk}
+use Rattle.page.specs.Page.{records}
 use Rattle.page.specs.Operations.{insert, update, pageOf, CanInsert, CanUpdate}
 use Rattle.page.proofs.Records.{size-least}
 use Rattle.page.proofs.Made.{length-made}
@@ -20,6 +20,7 @@ use Rattle.tree.specs.Edits.{isFull, inPlace}
 use Rattle.tree_edit.specs.Steps.{recBy, madeBy}
 use Rattle.tree_edit.specs.Asked.{CanPut}
 use Rattle.tree_edit.specs.declared.Change.{Change}
+use Rattle.edit.proofs.General.{neither}
 
 -- ---- the test, by the content start that is read
 
@@ -38,10 +39,6 @@ module _ (ins : Bool) (s : ℕ) (p : List ℕ) (start : ℕ) (e : start ≡ numb
     full-not z = rw (← e, le-ltb (start - lineSize) s h, z)
 
 -- ---- a page that is not full
-
-neither : (a b : Bool) → (a || b) ≡ false → (a ≡ false) × (b ≡ false)
-neither true b h = absurd (true≢false h)
-neither false b h = (refl, h)
 
 module _ (ins : Bool) (s : ℕ) (p : List ℕ) (not : isFull ins s p ≡ false) where
   pub not-full-room : 1 ≤ s → lineSize + s ≤ readHead p .start

@@ -6,18 +6,16 @@ use mathlib.Core.Bool.{Bool, true, false}
 use mathlib.Core.List.{List, [], _∷_}
 use native.Mathlib.Omega.{arith}
 use lib.ListN.{length, getD, drop, drop-of-length-le}
-use lib.Dec.{ltb, leb}
 use borrow.Author.Tests.{lt-ltb, le-ltb, le-leb, lt-leb}
 use Rattle.codec.specs.Lists.{part, pick}
 use Rattle.codec.specs.Numbers.{number}
-use Rattle.page.specs.Layout.{pageSize, lineSize, slotCount, valueMost, Rec, recOf, up8, size, readHead}
+use Rattle.page.specs.Layout.{pageSize, lineSize, slotCount, valueMost, Rec, recOf, up8, size}
 use Rattle.page.specs.Page.{records, laidOut, RecOk}
 use Rattle.page.specs.Operations.{sizes}
-use Rattle.page.proofs.Facts.{ok-is}
+use Rattle.page.proofs.Facts.{ok-is, records-ok}
 use Rattle.page.proofs.Sizes.{page-sizes}
 use Rattle.page.proofs.Listed.{few-listed}
 use Rattle.page.proofs.Made.{length-made, oldSlot, made-less, made-new-next, made-old-next}
-use Rattle.image.proofs.Soundness.{records-ok}
 use Rattle.image.proofs.CodePages.{All-at, drop-next, slot, value-in, length-here}
 use Rattle.tree.specs.Edits.{splitFrom, splitPoint}
 use Rattle.tree.proofs.Sizes.{sizeMost, size-most, sizes-made, made-most}

@@ -2,7 +2,7 @@
 -- Assumes nothing.
 use Prim.Native.Nat.{ℕ, _≤_}
 use mathlib.Core.Path.{_≡_, refl, sym, ap, _∙_}
-use mathlib.Core.Bool.{Bool, true, false}
+use mathlib.Core.Bool.{true}
 use mathlib.Core.List.{List, [], _∷_}
 use native.Mathlib.Omega.{arith}
 use lib.ListN.{length, take}
@@ -11,7 +11,6 @@ use Rattle.codec.specs.Lists.{part, splice}
 use Rattle.codec.proofs.Lists.{part-splice-same}
 use Rattle.device.specs.Tape.{decode, tapeBytes}
 use Rattle.device.specs.Cut.{after}
-use Rattle.page.specs.Layout.{Rec}
 use Rattle.image.specs.Image.{sound}
 use Rattle.image.specs.Table.{table}
 use Rattle.edit.specs.Ledger.{Ledger, applyEdits, fed}
@@ -21,14 +20,14 @@ use Rattle.journal.specs.Tape.{Taken, commitOf, roomInLog, takenFor}
 use Rattle.journal.specs.Edited.{Edited}
 use Rattle.journal.proofs.Taken.{taken-run, taken-sound}
 use Rattle.journal.proofs.Fitting.{taken-decode}
-use Rattle.transaction.specs.Calls.{Result, acceptedWith}
+use Rattle.transaction.specs.Calls.{Result, acceptedWith, isAccepted}
 use Rattle.transaction.proofs.Answers.{Acceptance, call-accepted}
 use Rattle.tree.specs.Whole.{editedImage}
 use Rattle.journal.specs.declared.Commit.{Commit}
 use Rattle.transaction.specs.declared.Transacted.{Transacted}
 use Rattle.transaction.specs.declared.Transacted.the-variants.{Accepted, Refused}
 use Rattle.edit.specs.EditList.{editsOf}
-use Rattle.durability.specs.Demand.{Call, onImage, commandsOn, leftBy, imageAfter, played, isAccepted, Feed, feedOf, feeds, ledgerAfter}
+use Rattle.durability.specs.Demand.{Call, onImage, commandsOn, leftBy, imageAfter, played, Feed, feedOf, feeds, ledgerAfter}
 
 -- the bytes written at the front of a tape are read back
 pub front-back : (tape bytes : List ℕ) → length bytes ≤ length tape → take (length bytes) (splice tape 0 bytes) ≡ bytes

@@ -4,7 +4,7 @@
 use Prim.Native.Nat.{ℕ, suc, _*_, _≤_, _<_}
 use mathlib.Core.Path.{_≡_}
 use mathlib.Core.Logic.{_⊎_}
-use mathlib.Core.Bool.{Bool, true, false}
+use mathlib.Core.Bool.{Bool, true}
 use mathlib.Core.List.{List, [], _∷_, _++_}
 use lib.ListN.{length, take, drop}
 use lib.Dec.{eqb}
@@ -61,17 +61,13 @@ played a (k ∷ ks) = played (imageAfter a k) ks
 
 -- ---- the ledger beside it
 
-unfoldable pub isAccepted : Transacted → Bool
-isAccepted (transacted.Accepted c) = true
-isAccepted (transacted.Refused r) = false
-
 -- "It is fed each transaction's edit list and whether it was accepted"
 pub record Feed : Type 0 where
   pub accepted : Bool
   pub edits : List Edit
 
 abbrev pub feedOf : List ℕ → Call → Feed
-feedOf a k = record { accepted = isAccepted (onImage a k .answer); edits = editsOf (editList (k .edits)) }
+feedOf a k = record { accepted = transaction.isAccepted (onImage a k .answer); edits = editsOf (editList (k .edits)) }
 
 unfoldable pub feeds : List ℕ → List Call → List Feed
 feeds a [] = []

@@ -21,14 +21,14 @@ use Rattle.journal.specs.Tape.{takenFor, roomInLog}
 use Rattle.journal.specs.declared.Commit.{Commit}
 use Rattle.journal.proofs.Taken.{taken-sound}
 use Rattle.tree.specs.Whole.{editedImage}
-use Rattle.transaction.specs.Calls.{Result, acceptedWith}
+use Rattle.transaction.specs.Calls.{Result, acceptedWith, isAccepted}
 use Rattle.transaction.specs.declared.Transacted.{Transacted}
 use Rattle.transaction.specs.declared.Transacted.the-variants as answers
 use Rattle.transaction.proofs.Answers.{call-accepted}
 use Rattle.lines.specs.Form.{lineIn, lineEdit}
 use Rattle.lines.specs.declared.Line.{Line}
 use Rattle.lines.specs.declared.Line.the-variants as says
-use Rattle.sheet.specs.Steps.{State, Outcome, opened, tried, isAccepted, commits, waits, follow, stepsFrom, steps}
+use Rattle.sheet.specs.Steps.{State, Outcome, opened, tried, commits, waits, follow, stepsFrom, steps}
 
 -- ---- a commit
 

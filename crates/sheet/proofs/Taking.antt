@@ -12,6 +12,7 @@ use borrow.Author.Tests.{lt-ltb, le-ltb}
 use Rattle.codec.specs.Lists.{pick, splice}
 use Rattle.journal.specs.declared.Commit.{Commit}
 use Rattle.device.specs.declared.Refusal.{Refusal}
+use Rattle.transaction.specs.Calls.{isAccepted}
 use Rattle.transaction.specs.declared.Transacted.{Transacted}
 use Rattle.transaction.specs.declared.Transacted.the-variants as answers
 use Rattle.lines.specs.Form.{lineIn, lineEdit}
@@ -19,8 +20,7 @@ use Rattle.lines.proofs.Editing.{length-edit}
 use Rattle.lines.specs.declared.Line.{Line}
 use Rattle.lines.specs.declared.Line.the-variants as says
 use Rattle.sheet.specs.declared.form.Counts.{Counts}
-use Rattle.sheet.specs.declared.form.End.the-variants as ends
-use Rattle.sheet.specs.Steps.{State, Outcome, tried, isAccepted, commits, waits, endedAt, endedWhole, follow, stepsFrom, stateOf, Room}
+use Rattle.sheet.specs.Steps.{State, Outcome, tried, commits, waits, endedAt, endedWhole, follow, stepsFrom, stateOf, Room}
 
 -- ---- a transaction
 

@@ -2,14 +2,11 @@
 -- Assumes nothing.
 use Prim.Native.Nat.{ℕ, zero, suc, _+_, _*_, _≤_}
 use mathlib.Core.Path.{_≡_}
-use mathlib.Core.Bool.{Bool, true, false}
 use mathlib.Core.List.{List, [], _∷_, _++_}
 use lib.ListN.{length, take, drop, replicate}
 use lib.Dec.{ltb}
 use Rattle.codec.specs.Lists.{pick}
-use Rattle.transaction.specs.Calls.{Result, transactionCall}
-use Rattle.transaction.specs.declared.Transacted.{Transacted}
-use Rattle.transaction.specs.declared.Transacted.the-variants.{Accepted, Refused}
+use Rattle.transaction.specs.Calls.{Result, isAccepted, transactionCall}
 use Rattle.lines.specs.Form.{lineIn, lineEdit}
 use Rattle.lines.specs.declared.Line.{Line}
 use Rattle.lines.specs.declared.Line.the-variants.{Commit, Edit, Bad}
@@ -31,10 +28,6 @@ opened image = record { image = image; list = []; edits = 0; accepted = 0; refus
 -- the transaction, with the buffers that it is lent: "lends 16,384 tape bytes"
 unfoldable pub tried : List ℕ → List ℕ → Result
 tried image list = transactionCall image (replicate 8192 0) (replicate 16384 0) list
-
-unfoldable pub isAccepted : Transacted → Bool
-isAccepted (Accepted c) = true
-isAccepted (Refused r) = false
 
 -- a commit: on acceptance the image after the tape, which work holds; nothing waits afterwards
 unfoldable pub commits : State → State

@@ -6,7 +6,8 @@ ghost use Prim.Native.Nat.{ℕ, _≤_};
 ghost use mathlib.Core.List.{List};
 ghost use lib.ListN.{length};
 ghost use Rattle.codec.specs.Lists.{pick};
-ghost use Rattle.sheet.specs.Steps.{tried, isAccepted, commits, waits, steps, stateOf, Room};
+ghost use Rattle.transaction.specs.Calls.{isAccepted};
+ghost use Rattle.sheet.specs.Steps.{tried, commits, waits, steps, stateOf, Room};
 
 // The edits that wait and the bytes that they take in the edit list; the transactions accepted and refused so far.
 pub struct Counts {

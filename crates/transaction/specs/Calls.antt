@@ -2,23 +2,26 @@
 -- Assumes nothing.
 use Prim.Native.Nat.{ℕ}
 use mathlib.Core.Bool.{Bool, true, false}
-use mathlib.Core.List.{List, [], _∷_}
+use mathlib.Core.List.{List}
 use lib.ListN.{length}
 use lib.Dec.{eqb, leb}
 use Rattle.codec.specs.Lists.{splice, pick}
 use Rattle.device.specs.Tape.{tapeBytes}
 use Rattle.device.specs.Calls.{imageSize, workSize, logFull, tapeShort, isImageSize}
-use Rattle.device.specs.declared.Refusal.{Refusal}
 use Rattle.device.specs.declared.Answer.{Answer}
 use Rattle.device.specs.declared.Answer.the-variants as answers
 use Rattle.image.specs.Calls.{checkCall}
-use Rattle.edit.specs.EditList.{Edit, Listed, listed, faulty, editList}
+use Rattle.edit.specs.EditList.{Listed, listed, faulty, editList}
 use Rattle.journal.specs.Changes.{changedPages}
 use Rattle.journal.specs.Tape.{Taken, commitOf, roomInLog, takenFor}
 use Rattle.tree.specs.Whole.{Outcome, finished, stopped, editsOn, editedImage}
-use Rattle.journal.specs.declared.Commit.{Commit}
 use Rattle.transaction.specs.declared.Transacted.{Transacted}
 use Rattle.transaction.specs.declared.Transacted.the-variants.{Accepted, Refused}
+
+-- whether the answer is an acceptance
+unfoldable pub isAccepted : Transacted → Bool
+isAccepted (Accepted c) = true
+isAccepted (Refused r) = false
 
 -- the answer, and the two buffers that the call is lent
 pub record Result : Type 0 where

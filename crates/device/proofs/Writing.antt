@@ -12,11 +12,11 @@ use lib.ListN.{length, getD, take, length-append, length-take}
 use lib.Seq.{sets, length-sets, ext-getD, take-take, take-all, take-length}
 use borrow.Author.Tests.{eq-eqb, le-leb, lt-ltb}
 use Rattle.codec.specs.Lists.{part, All}
-use Rattle.codec.proofs.Tests.{both, first}
+use Rattle.codec.proofs.Tests.{both}
 use Rattle.codec.proofs.Lists.{sets-apart, getD-part}
 use Rattle.codec.proofs.Agree.{or-left, or-right, neither, part-agree, part-sets}
 use Rattle.device.specs.Tape.{Op, store, flush, malformed}
-use Rattle.device.specs.Cut.{after, lineOf, flushed, cutImage, hits, touches, Closed, Sealed, To}
+use Rattle.device.specs.Cut.{after, lineOf, flushed, cutImage, hits, touches, Closed, Sealed, To, IsFlush, FlushedBy, Flushing, Writes}
 use Rattle.device.proofs.Cuts.{length-after, after-append}
 use Rattle.device.proofs.Lines.{first-part}
 use Rattle.device.proofs.Segments.{out-hits, touches-append, sealed-closed, sealed-more, cut-early, cut-all, in-hits, hits-out}
@@ -75,28 +75,11 @@ touches-right xs ys i h = or-right (touches xs i) (touches ys i) (sym (touches-a
 
 -- ---- stores, then the flushes of their lines
 
--- a flush
-abbrev pub IsFlush : Op → Type 0
-IsFlush (store p vs) = ⊥
-IsFlush (flush l) = Unit {0}
-IsFlush malformed = ⊥
-
--- if it is a store, ys flush its line
-abbrev pub FlushedBy : List Op → Op → Type 0
-FlushedBy ys (store p vs) = flushed (lineOf p) ys ≡ true
-FlushedBy ys (flush l) = Unit {0}
-FlushedBy ys malformed = Unit {0}
-
 sealed-past : (o : Op) (xs ys : List Op) → FlushedBy ys o → Sealed xs ys → Sealed (o ∷ xs) ys
 unfolding Sealed
 sealed-past (store p vs) xs ys h s = (h, s)
 sealed-past (flush l) xs ys h s = s
 sealed-past malformed xs ys h s = s
-
--- ys are flushes, and flush all that xs store
-pub record Flushing (xs ys : List Op) : Type 0 where
-  pub flushes : All IsFlush ys
-  pub covers : Sealed xs ys
 
 pub flushing-none : Flushing [] []
 unfolding Sealed
@@ -151,11 +134,6 @@ module _ (xs ys : List Op) (f : Flushing xs ys) where
   flushing-after img = after-append img xs ys ∙ flushes-after (after img xs) ys (f .flushes)
 
 -- ---- stores of what stands in an image w
-
-abbrev pub Writes : List ℕ → Op → Type 0
-Writes w (store p vs) = (p + length vs ≤ length w) × (part w p (length vs) ≡ vs)
-Writes w (flush l) = Unit {0}
-Writes w malformed = Unit {0}
 
 -- a byte stored from w is w's
 stored-at : (w a : List ℕ) (p : ℕ) (vs : List ℕ) (i : ℕ) → length a ≡ length w → Writes w (store p vs) → p ≤ i → i < p + length vs → getD (sets a p vs) i 0 ≡ getD w i 0

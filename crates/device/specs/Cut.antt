@@ -1,13 +1,13 @@
 -- The image after commands, and the image that a cut leaves (document 01, "The device").
 -- Assumes nothing.
-use Prim.Native.Nat.{ℕ, _+_, _-_, _/_}
+use Prim.Native.Nat.{ℕ, _+_, _-_, _/_, _≤_}
 use mathlib.Core.Path.{_≡_}
 use mathlib.Core.Bool.{Bool, true, false, _&&_, _||_}
 use mathlib.Core.List.{List, [], _∷_}
 use lib.ListN.{length, take}
 use lib.Seq.{sets}
 use lib.Dec.{ltb, leb, eqb}
-use Rattle.codec.specs.Lists.{pick}
+use Rattle.codec.specs.Lists.{pick, part, All}
 use Rattle.device.specs.Tape.{Op, store, flush, malformed}
 
 -- ---- the image after all stores
@@ -116,3 +116,25 @@ abbrev pub To : ℕ → Op → Type 0
 To l (store p vs) = lineOf p ≡ l
 To l (flush m) = ⊥
 To l malformed = ⊥
+
+-- a flush
+abbrev pub IsFlush : Op → Type 0
+IsFlush (store p vs) = ⊥
+IsFlush (flush l) = Unit {0}
+IsFlush malformed = ⊥
+
+-- if it is a store, ys flush its line
+abbrev pub FlushedBy : List Op → Op → Type 0
+FlushedBy ys (store p vs) = flushed (lineOf p) ys ≡ true
+FlushedBy ys (flush l) = Unit {0}
+FlushedBy ys malformed = Unit {0}
+
+-- ys are flushes, and flush all that xs store
+pub record Flushing (xs ys : List Op) : Type 0 where
+  pub flushes : All IsFlush ys
+  pub covers : Sealed xs ys
+
+abbrev pub Writes : List ℕ → Op → Type 0
+Writes w (store p vs) = (p + length vs ≤ length w) × (part w p (length vs) ≡ vs)
+Writes w (flush l) = Unit {0}
+Writes w malformed = Unit {0}

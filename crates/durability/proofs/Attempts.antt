@@ -11,8 +11,8 @@ use Rattle.device.specs.Cut.{after, cutImage}
 use Rattle.page.specs.Layout.{Rec}
 use Rattle.image.specs.Image.{sound}
 use Rattle.image.specs.Table.{table}
-use Rattle.journal.proofs.Standing.{replay}
-use Rattle.journal.proofs.Replay.{tapeOf, Holds, holds-size, recovery-run, recovery-cut}
+use Rattle.journal.specs.Holds.{replay, tapeOf, Holds}
+use Rattle.journal.proofs.Replay.{holds-size, recovery-run, recovery-cut}
 use Rattle.journal.proofs.Fitting.{recovery-decode}
 use Rattle.recovery.specs.Calls.{Result, acceptedWith, recoverCall}
 use Rattle.recovery.specs.declared.Redone.{Redone}

@@ -23,14 +23,14 @@ use Rattle.image.specs.Live.{liveIn, live}
 use Rattle.image.proofs.General.{All-left}
 use Rattle.journal.specs.Changes.{headerLine, changedPages}
 use Rattle.journal.specs.Tape.{roomInLog, takenFor}
-use Rattle.journal.specs.Commit.{commitStore, commitLine}
+use Rattle.journal.specs.Commit.{commitStore, commitLine, Names}
 use Rattle.journal.specs.Edited.{Edited}
 use Rattle.journal.specs.declared.CommitPlace.{CommitPlace}
 use Rattle.journal.specs.declared.CommitPlace.the-variants.{Header, Root, Log}
-use Rattle.journal.proofs.Replay.{tapeOf}
+use Rattle.journal.specs.Holds.{tapeOf}
 use Rattle.journal.proofs.Changed.{InBoth}
 use Rattle.journal.proofs.Edits.{changed}
-use Rattle.journal.proofs.Taken.{Names, planned}
+use Rattle.journal.proofs.Taken.{planned}
 use Rattle.journal.proofs.Fitting.{taken-fits}
 use Rattle.durability.specs.Demand.{placeOffset, storeAt, commitAt}
 

@@ -16,9 +16,9 @@ use Rattle.image.specs.Image.{sound}
 use Rattle.image.specs.Table.{table}
 use Rattle.edit.specs.Ledger.{Ledger, opened, applyEdits}
 use Rattle.journal.specs.Tape.{commitOf}
-use Rattle.journal.proofs.Replay.{Holds}
 use Rattle.journal.proofs.Taken.{txn-before, txn-between, txn-after}
 use Rattle.journal.specs.declared.Commit.{Commit}
+use Rattle.journal.specs.Holds.{Holds}
 use Rattle.transaction.specs.declared.Transacted.the-variants as transacted
 use Rattle.durability.specs.Demand.{Call, onImage, played, Feed, feedOf, feeds, ledgerAfter, tableAt, Attempt, attemptedAll, placeOffset, commitAt, Issued, Flushed, before, commands, failed, last, history, ledger, accepted, Survives, Demand3}
 use Rattle.durability.proofs.Counts.{table-last, table-next}

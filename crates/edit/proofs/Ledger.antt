@@ -15,7 +15,7 @@ use Rattle.page.specs.Layout.{Rec, recOf}
 use Rattle.image.specs.Facts.{Rising}
 use Rattle.image.specs.Table.{find}
 use Rattle.image.proofs.Rising.{From, Below, rising-lo}
-use Rattle.edit.specs.EditList.{Edit, insert, update, delete}
+use Rattle.edit.specs.EditList.{Edit, insert, update, delete, keyOf}
 use Rattle.edit.specs.Ledger.{add, replace, without, applyEdit, applyEdits}
 use Rattle.edit.proofs.General.{by-test}
 
@@ -180,14 +180,8 @@ without-append k (r ∷ a) b = go (eqb (r .key) k) (without-append k a b)
     go true e = e
     go false e = ap (λ (l : List Rec). r ∷ l) e
 
--- the edit's key
-abbrev pub editKey : Edit → ℕ
-editKey (insert k v) = k
-editKey (update k v) = k
-editKey (delete k) = k
-
 -- the keys of a are below the edit's, those of c above
-pub apply-middle : (e : Edit) (a b c : List Rec) → Below a (editKey e) → From (suc (editKey e)) c → applyEdit e (a ++ (b ++ c)) ≡ a ++ (applyEdit e b ++ c)
+pub apply-middle : (e : Edit) (a b c : List Rec) → Below a (keyOf e) → From (suc (keyOf e)) c → applyEdit e (a ++ (b ++ c)) ≡ a ++ (applyEdit e b ++ c)
 unfolding applyEdit
 apply-middle (insert k v) a b c low high = add-skip k v a (b ++ c) low ∙ ap (λ (l : List Rec). a ++ l) (add-stop k v b c high)
 apply-middle (update k v) a b c low high =

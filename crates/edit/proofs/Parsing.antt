@@ -12,17 +12,8 @@ use lib.Dec.{eqb}
 use borrow.Author.Tests.{eqb-true, eqb-false, eq-eqb}
 use Rattle.codec.specs.Lists.{pick, All}
 use Rattle.edit.specs.EditList.{Edit, editsMost, headSize, editBytes, lengthIn, editIn, faultIn, Listed, listed, faulty, joined, editsIn, editList}
-use Rattle.edit.proofs.Reading.{Bytes, bytes-drop, editValue, Proper, faultless, edit-proper, edit-bytes, edit-encoded, encoded-reads}
-
--- the bytes t begin with the edits es, none with a fault, and `rest` is what follows them
-abbrev pub Reads : List ℕ → List Edit → List ℕ → Type 0
-Reads t [] rest = t ≡ rest
-Reads t (e ∷ es) rest = (faultIn t ≡ 0) × (editIn t ≡ e) × Reads (drop (headSize + lengthIn t) t) es rest
-
--- the encodings of edits, end to end
-abbrev pub listBytes : List Edit → List ℕ
-listBytes [] = []
-listBytes (e ∷ es) = editBytes e ++ listBytes es
+use Rattle.edit.specs.Reads.{Bytes, editValue, Proper, Reads, listBytes, Whole, FirstFault}
+use Rattle.edit.proofs.Reading.{bytes-drop, faultless, edit-proper, edit-bytes, edit-encoded, encoded-reads}
 
 -- ---- what is read
 
@@ -85,12 +76,6 @@ all-read (suc n) i [] (e ∷ es) r h = absurd (omega (arith, r .0))
 all-read (suc n) i (b ∷ t) (e ∷ es) r h =
     rw (eq-eqb (faultIn (b ∷ t)) 0 (r .0), all-read n (suc i) (drop (headSize + lengthIn (b ∷ t)) (b ∷ t)) es (r .2) (omega arith), r .1)
 
--- "An edit list has 1 to 16 edits"
-pub record Whole (bytes : List ℕ) (es : List Edit) : Type 0 where
-  pub some : 1 ≤ length es
-  pub few : length es ≤ editsMost
-  pub reads : Reads bytes es []
-
 pub list-whole : (bytes : List ℕ) (es : List Edit) → editList bytes ≡ listed es → Whole bytes es
 unfolding editList
 list-whole [] es q = let z : _≡_ {A = ℕ} 0 1 = cc in absurd (omega arith)
@@ -121,16 +106,6 @@ pub list-encoded : (bytes : List ℕ) (es : List Edit) → editList bytes ≡ li
 list-encoded bytes es q h = reads-encoded bytes es [] (list-whole bytes es q .reads) h ∙ append-nil (listBytes es)
 
 -- ---- refused
-
--- "first faulty edit": the edits before edit j have no fault, and its bytes are why the list is refused with k: a fault of their own, or
--- that they are there at all, past n edits. The first edit of t is edit i
-pub record FirstFault (n i : ℕ) (t : List ℕ) (k j : ℕ) : Type 0 where
-  pub before : List Edit
-  pub rest : List ℕ
-  pub reads : Reads t before rest
-  pub number : j ≡ i + length before
-  pub some : 1 ≤ length rest
-  pub why : ((length before < n) × (faultIn rest ≡ k) × (k ≡ 0 → ⊥)) ⊎ ((length before ≡ n) × (k ≡ 5))
 
 first-fault : (n i : ℕ) (t : List ℕ) (k j : ℕ) → editsIn n i t ≡ faulty k j → FirstFault n i t k j
 unfolding editsIn joined

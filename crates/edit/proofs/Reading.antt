@@ -9,7 +9,7 @@ use lib.ListN.{length, take, drop, take-append-drop, length-append}
 use lib.Seq.{drop-cons, take-at, drop-at}
 use lib.Dec.{eqb, ltb, leb}
 use borrow.Author.Tests.{ltb-false, le-ltb, leb-true, le-leb, eqb-true, eqb-false, eq-eqb}
-use Rattle.codec.specs.Lists.{part, pick, All}
+use Rattle.codec.specs.Lists.{part, pick}
 use Rattle.codec.specs.Numbers.{number, bytesOf}
 use Rattle.codec.proofs.Lists.{length-part, part-rest}
 use Rattle.codec.proofs.Numbers.{length-bytesOf, number-bytesOf, bytesOf-number}
@@ -18,12 +18,8 @@ use Rattle.page.specs.Layout.{topKey, valueMost}
 use Rattle.image.specs.Calls.{keyOk}
 use Rattle.image.proofs.General.{All-left}
 use Rattle.edit.specs.EditList.{Edit, insert, update, delete, headSize, editBytes, kindIn, lengthIn, keyIn, editOf, editIn, faultIn}
+use Rattle.edit.specs.Reads.{Bytes, editValue, Proper, Faultless}
 use Rattle.edit.proofs.General.{neither, not-both, by-test, all-right}
-use Rattle.edit.proofs.Ledger.{editKey}
-
--- bytes
-abbrev pub Bytes : List ℕ → Type 0
-Bytes l = All (λ (b : ℕ). b < 256) l
 
 pub bytes-take : (n : ℕ) (l : List ℕ) → Bytes l → Bytes (take n l)
 bytes-take n l h = All-left (λ (b : ℕ). b < 256) (take n l) (drop n l) (rw (take-append-drop n l) h)
@@ -37,18 +33,6 @@ bytes-part l o n h = bytes-take n (drop o l) (bytes-drop o l h)
 
 -- ---- proper edits
 
--- the value that an edit brings
-abbrev pub editValue : Edit → List ℕ
-editValue (insert k v) = v
-editValue (update k v) = v
-editValue (delete k) = []
-
--- "Keys are 1 to 999,999,999,999; values 0 to 200 bytes."
-pub record Proper (e : Edit) : Type 0 where
-  pub low : 1 ≤ editKey e
-  pub high : editKey e ≤ topKey
-  pub short : length (editValue e) ≤ valueMost
-
 pub keyOk-true : (k : ℕ) → keyOk k ≡ true → (1 ≤ k) × (k ≤ topKey)
 unfolding keyOk
 keyOk-true k h = (leb-true 1 k (first (leb 1 k) (leb k topKey) h), leb-true k topKey (second (leb 1 k) (leb k topKey) h))
@@ -58,15 +42,6 @@ unfolding keyOk
 true-keyOk k h g = both (le-leb 1 k h) (le-leb k topKey g)
 
 -- ---- an edit without fault
-
--- what `faultIn` asks of the edit at the front of t
-pub record Faultless (t : List ℕ) : Type 0 where
-  pub kind-low : 1 ≤ kindIn t
-  pub kind-high : kindIn t ≤ 3
-  pub delete-bare : kindIn t ≡ 3 → lengthIn t ≡ 0
-  pub short : lengthIn t ≤ valueMost
-  pub whole : headSize + lengthIn t ≤ length t
-  pub key : keyOk (keyIn t) ≡ true
 
 -- a test that chooses a fault is false
 passed : (b : Bool) (k x : ℕ) → pick b (suc k) x ≡ 0 → (b ≡ false) × (x ≡ 0)

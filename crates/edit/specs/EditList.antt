@@ -17,6 +17,11 @@ pub data Edit : Type 0 where
   update : ℕ → List ℕ → Edit
   delete : ℕ → Edit
 
+abbrev pub keyOf : Edit → ℕ
+keyOf (insert k v) = k
+keyOf (update k v) = k
+keyOf (delete k) = k
+
 -- "An edit list has 1 to 16 edits"
 abbrev pub editsMost : ℕ
 editsMost = 16

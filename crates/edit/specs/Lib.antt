@@ -1,3 +1,4 @@
 pub mod EditList
 pub mod Ledger
 pub mod Judged
+pub mod Reads

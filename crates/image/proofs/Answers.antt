@@ -1,8 +1,8 @@
 -- What the reading calls answer: check accepts exactly the sound images; lookup, its companion and next key tell exactly what the table of an accepted image holds.
 -- Assumes nothing.
-use Prim.Native.Nat.{ℕ, suc, _+_, _≤_, _<_}
+use Prim.Native.Nat.{ℕ, suc, _≤_, _<_}
 use mathlib.Core.Path.{_≡_, refl, ap, _∙_}
-use mathlib.Core.Logic.{_⊎_, inl, inr}
+use mathlib.Core.Logic.{inl, inr}
 use mathlib.Core.Bool.{Bool, true, false, _&&_, false≢true}
 use mathlib.Core.List.{List, []}
 use mathlib.Core.Option.{none, some}
@@ -27,9 +27,10 @@ use Rattle.image.specs.declared.Lookup.{Lookup}
 use Rattle.image.specs.declared.Lookup.the-variants as lookups
 use Rattle.image.specs.declared.Next.{Next}
 use Rattle.image.specs.declared.Next.the-variants as nexts
+use Rattle.image.specs.Says.{Member, Smallest, AtMost, LookupSays, NextSays}
 use Rattle.image.proofs.Rising.{rising-from, rising-below}
 use Rattle.image.proofs.Order.{table-rising}
-use Rattle.image.proofs.Exact.{lookup-found, lookup-missing, lookup-answers, found-lookup, missing-lookup, Member, member-all, find-member, Smallest, AtMost, above-smallest, above-most, above-answers, smallest-above, most-above}
+use Rattle.image.proofs.Exact.{lookup-found, lookup-missing, lookup-answers, found-lookup, missing-lookup, member-all, find-member, above-smallest, above-most, above-answers, smallest-above, most-above}
 
 -- ---- check
 
@@ -58,13 +59,6 @@ sound-check img h = go (isImageSize (length img)) (pageZero img) h
     go false z e = absurd (false≢true e)
 
 -- ---- lookup
-
--- what a lookup's answer says of the image and its table
-abbrev pub LookupSays : List ℕ → ℕ → Lookup → Type 0
-LookupSays img k (lookups.Found o n) =
-    (checkCall img ≡ Accepted) × (keyOk k ≡ true) × (find k (table img) ≡ some (part img o n)) × (length (part img o n) ≡ n) × (o + n ≤ length img)
-LookupSays img k lookups.Missing = (checkCall img ≡ Accepted) × (keyOk k ≡ true) × (find k (table img) ≡ none)
-LookupSays img k (lookups.Refused r) = (checkCall img ≡ Refused r) ⊎ ((checkCall img ≡ Accepted) × (keyOk k ≡ false) × (r ≡ refusal 6))
 
 pub lookup-says : (img : List ℕ) (k : ℕ) → LookupSays img k (lookupCall img k)
 unfolding lookupCall lookupFrom
@@ -133,12 +127,6 @@ module _ (img : List ℕ) (c : checkCall img ≡ Accepted) (k : ℕ) where
 
   pub last-next : AtMost k (table img) → nextCall img k ≡ nexts.Last
   last-next m = next-call ∙ most-above k 1 (table img) (suc topKey) (table-rising img (check-sound img c)) m
-
--- what a next key's answer says of the image and its table
-abbrev pub NextSays : List ℕ → ℕ → Next → Type 0
-NextSays img k (nexts.Key j) = (checkCall img ≡ Accepted) × Smallest k j (table img)
-NextSays img k nexts.Last = (checkCall img ≡ Accepted) × AtMost k (table img)
-NextSays img k (nexts.Refused r) = checkCall img ≡ Refused r
 
 pub next-says : (img : List ℕ) (k : ℕ) → NextSays img k (nextCall img k)
 unfolding nextCall nextFrom

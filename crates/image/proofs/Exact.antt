@@ -3,7 +3,7 @@
 -- Assumes nothing.
 use Prim.Native.Nat.{ℕ, suc, _+_, _≤_, _<_}
 use mathlib.Core.Path.{_≡_, refl, sym, ap, _∙_, subst}
-use mathlib.Core.Logic.{_⊎_, inl, inr}
+use mathlib.Core.Logic.{inl, inr}
 use mathlib.Core.Bool.{Bool, true, false}
 use mathlib.Core.List.{List, [], _∷_}
 use mathlib.Core.Option.{Option, none, some, Option·some-injective}
@@ -22,6 +22,7 @@ use Rattle.image.specs.declared.Lookup.{Lookup}
 use Rattle.image.specs.declared.Lookup.the-variants as lookups
 use Rattle.image.specs.declared.Next.{Next}
 use Rattle.image.specs.declared.Next.the-variants as nexts
+use Rattle.image.specs.Says.{Member, Smallest, AtMost}
 use Rattle.image.proofs.Rising.{rising-from}
 use Rattle.image.proofs.Order.{recs-listing}
 use Rattle.image.proofs.Routing.{above-skip, above-first}
@@ -84,10 +85,6 @@ module _ (img : List ℕ) (s : sound img ≡ true) (k : ℕ) where
 
 -- ---- find and the table's records
 
-abbrev pub Member : Rec → List Rec → Type 0
-Member r [] = ⊥
-Member r (x ∷ l) = (r ≡ x) ⊎ Member r l
-
 -- what holds of each record holds of a member
 pub member-all : (P : Rec → Type 0) (r : Rec) (l : List Rec) → All P l → Member r l → P r
 member-all P r [] h m = absurd m
@@ -136,16 +133,6 @@ member-none k l h = go (find k l) refl
     go (some v) e = absurd (h v (find-member k v l e))
 
 -- ---- the smallest key above k
-
-pub record Smallest (k j : ℕ) (l : List Rec) : Type 0 where
-  pub rec : Rec
-  pub member : Member rec l
-  pub is : rec .key ≡ j
-  pub over : k < j
-  pub least : (r : Rec) → Member r l → k < r .key → j ≤ r .key
-
-abbrev pub AtMost : ℕ → List Rec → Type 0
-AtMost k l = (r : Rec) → Member r l → r .key ≤ k
 
 abbrev TellsNext : ℕ → List Rec → Next → Type 0
 TellsNext k l (nexts.Key j) = Smallest k j l

@@ -6,3 +6,4 @@ pub mod Route
 pub mod Live
 pub mod Fresh
 pub mod Calls
+pub mod Says

@@ -15,7 +15,7 @@ use Rattle.codec.proofs.Lists.{sets-apart, length-splice}
 use Rattle.codec.proofs.Numbers.{length-bytesOf}
 use Rattle.codec.proofs.Agree.{part-sets, part-agree}
 use Rattle.device.specs.Tape.{Op, store, flush}
-use Rattle.device.specs.Cut.{after, touches}
+use Rattle.device.specs.Cut.{after, touches, Writes}
 use Rattle.device.proofs.Cuts.{length-after, after-append}
 use Rattle.device.proofs.Segments.{run-other, closed-append}
 use Rattle.page.specs.Layout.{pageSize, lineSize}
@@ -33,10 +33,11 @@ use Rattle.journal.specs.Recovery.{linesFrom, logged, loggedOk, recovery
 use Rattle.journal.specs.Tape.{newHeaders, joinLines, byLog}
 use Rattle.journal.specs.Edited.{Edited}
 use Rattle.journal.specs.Commit.{commitStore, commitLine}
-use Rattle.device.proofs.Writing.{Writes, writes-at, writes-after, writes-move, flushes-write, touches-both, touches-left, touches-right, untouched-first, untouched-rest}
+use Rattle.journal.specs.Holds.{replay, Waits, tapeOf, Holds}
+use Rattle.device.proofs.Writing.{writes-at, writes-after, writes-move, flushes-write, touches-both, touches-left, touches-right, untouched-first, untouched-rest}
 use Rattle.journal.proofs.Headers.{Lines, lines-agree, header-flushing, logged-inside, headers-outside}
-use Rattle.journal.proofs.Standing.{replay, Waits, page-small, line-root, line-other, length-noMark, length-mark}
-use Rattle.journal.proofs.Replay.{tapeOf, Holds, waits-replayable, waits-run}
+use Rattle.journal.proofs.Standing.{page-small, line-root, line-other, length-noMark, length-mark}
+use Rattle.journal.proofs.Replay.{waits-replayable, waits-run}
 use Rattle.journal.proofs.StageA.{stageA-closed, stageA-outside, stageA-writes, stageA-dead}
 use Rattle.journal.proofs.Log.{log-closed, log-touches, log-after, log-read, log-writes, length-join}
 use Rattle.journal.proofs.Plan.{PlanTo}

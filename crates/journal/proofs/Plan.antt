@@ -11,7 +11,7 @@ use lib.ListN.{length, getD}
 use lib.Seq.{sets, getD-append-add}
 use Rattle.codec.specs.Lists.{All}
 use Rattle.device.specs.Tape.{Op, store, flush, malformed}
-use Rattle.device.specs.Cut.{after, lineOf, cutImage, touches, Closed, To}
+use Rattle.device.specs.Cut.{after, lineOf, cutImage, touches, Closed, To, Flushing}
 use Rattle.device.proofs.Cuts.{length-after, after-append, length-cut, one-store}
 use Rattle.device.proofs.Segments.{run-other, cut-untouched, cut-early, cut-late, closed-append}
 use Rattle.page.specs.Layout.{Rec}
@@ -21,9 +21,9 @@ use Rattle.image.specs.Live.{live}
 use Rattle.journal.specs.Changes.{changedPages}
 use Rattle.journal.specs.Tape.{Taken}
 use Rattle.journal.specs.Commit.{commitStore, commitLine}
-use Rattle.device.proofs.Writing.{Flushing, to-flushing, flushing-closed, flushing-after, after-store, after-none}
-use Rattle.journal.proofs.Standing.{replay}
-use Rattle.journal.proofs.Replay.{tapeOf, Holds, holds-dead, recovery-run, recovery-cut, recovery-closed}
+use Rattle.journal.specs.Holds.{replay, tapeOf, Holds}
+use Rattle.device.proofs.Writing.{to-flushing, flushing-closed, flushing-after, after-store, after-none}
+use Rattle.journal.proofs.Replay.{holds-dead, recovery-run, recovery-cut, recovery-closed}
 
 -- the transaction x on the image a commits by the store o to line l, and its table is then t
 pub record Plan (a : List ℕ) (x : Taken) (t : List Rec) (o : Op) (l : ℕ) : Type 0 where

@@ -32,19 +32,10 @@ use Rattle.image.proofs.Soundness.{sound-facts}
 use Rattle.image.proofs.Frame.{frame}
 use Rattle.journal.specs.Log.{headerStores, headerFlushes, ending, replayTape}
 use Rattle.journal.specs.Recovery.{logged, replayFrom, recoveryTape, replayable}
+use Rattle.journal.specs.Holds.{replay, Waits, tapeOf, Holds}
 use Rattle.device.proofs.Writing.{flushing-closed, flushing-touches, flushing-after, to-flushing, cut-line, after-none, after-store, closed-none, sets-stands}
 use Rattle.journal.proofs.Headers.{header-flushing}
-use Rattle.journal.proofs.Standing.{replay, Waits, Standing, settle, settle-sets, waits-long, logged-outside, replay-after, length-replay, standing-waits, standing-replay}
-
--- recovery's tape
-abbrev pub tapeOf : List ℕ → List Op
-tapeOf img = recoveryTape img (pageZero img)
-
--- a recovery of the image gives a sound store with the table t
-pub record Holds (t : List Rec) (img : List ℕ) : Type 0 where
-  pub isReplayable : replayable img (pageZero img) ≡ true
-  pub isSound : sound (replay img) ≡ true
-  pub isTable : table (replay img) ≡ t
+use Rattle.journal.proofs.Standing.{Standing, settle, settle-sets, waits-long, logged-outside, replay-after, length-replay, standing-waits, standing-replay}
 
 -- ---- an image with mark 0
 

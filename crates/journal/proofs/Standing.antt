@@ -18,18 +18,14 @@ use Rattle.device.specs.Cut.{after, touches}
 use Rattle.device.proofs.Cuts.{length-after, after-append}
 use Rattle.device.proofs.Segments.{run-over}
 use Rattle.page.specs.Layout.{pageSize}
-use Rattle.image.specs.PageZero.{pageCount, isPage, rootOf, markBytes, noMark, wordsPast, pageZero}
-use Rattle.image.specs.declared.PageZero.the-variants.{Waiting}
+use Rattle.image.specs.PageZero.{pageCount, isPage, rootOf, markBytes, noMark, wordsPast}
 use Rattle.image.proofs.General.{part-part, part-front, part-past}
 use Rattle.image.proofs.Zero.{Size, isPage-true, Line, Marked, waiting-facts, facts-waiting}
 use Rattle.journal.specs.Log.{headerStores}
-use Rattle.journal.specs.Recovery.{logged, loggedOk, withHeaders, replayed, replayFrom}
+use Rattle.journal.specs.Recovery.{logged, withHeaders, replayed, replayFrom}
+use Rattle.journal.specs.Holds.{replay, Waits}
 use Rattle.device.proofs.Writing.{after-store, after-none, touches-left, touches-right, untouched-first}
 use Rattle.journal.proofs.Headers.{Lines, Inside, logged-inside, lines-from, lines-agree, headers-outside, headers-after}
-
--- the replayed image
-abbrev pub replay : List ℕ → List ℕ
-replay img = replayFrom img (pageZero img)
 
 -- ---- line 0 by its words
 
@@ -72,11 +68,6 @@ module _ (a b m : List ℕ) (root : ℕ) (l : Line a m root) (same : length b �
       }
 
 -- ---- an image that waits
-
--- the mark of a waits, with k logged headers and the root `root`
-pub record Waits (a : List ℕ) (k root : ℕ) : Type 0 where
-  pub zero : pageZero a ≡ Waiting k root
-  pub ok : loggedOk (pageCount a) (logged k a) ≡ true
 
 -- the root word's store and the mark's clearing
 abbrev pub settle : ℕ → List Op

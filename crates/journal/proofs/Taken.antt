@@ -16,19 +16,11 @@ use Rattle.image.specs.Table.{table}
 use Rattle.journal.specs.Changes.{stageA, changedPages, sameRoot}
 use Rattle.journal.specs.Tape.{Taken, newHeaders, byHeader, byRoot, byLog, choose, roomInLog, takenFor}
 use Rattle.journal.specs.Edited.{Edited}
-use Rattle.journal.specs.Commit.{commitStore, commitLine}
-use Rattle.journal.specs.declared.CommitPlace.{CommitPlace}
-use Rattle.journal.specs.declared.CommitPlace.the-variants.{Header, Root, Log}
-use Rattle.journal.proofs.Replay.{Holds}
+use Rattle.journal.specs.Commit.{commitStore, commitLine, Names}
+use Rattle.journal.specs.Holds.{Holds}
 use Rattle.journal.proofs.Plan.{PlanTo, plan-closed, plan-commit, plan-run, plan-sound, plan-before, plan-between, plan-after}
 use Rattle.journal.proofs.OnePlace.{root-plan, header-plan}
 use Rattle.journal.proofs.ByLog.{log-plan}
-
--- what changed, by the commit place
-abbrev pub Names : List ℕ → List ℕ → CommitPlace → Type 0
-Names a w (Header p) = (changedPages a w ≡ p ∷ []) × (sameRoot a w ≡ true)
-Names a w Root = changedPages a w ≡ []
-Names a w Log = (1 ≤ length (changedPages a w)) × (length (changedPages a w) ≤ logMost)
 
 -- x is a plan, and its commit place is the right one
 pub record Planned (a w : List ℕ) (x : Taken) : Type 0 where

@@ -4,3 +4,4 @@ pub mod Tape
 pub mod Recovery
 pub mod Edited
 pub mod Commit
+pub mod Holds

@@ -12,19 +12,8 @@ use lib.ListN.{length, replicate, length-append, length-replicate, replicate-app
 use lib.Dec.{eqb}
 use borrow.Author.Tests.{ne-eqb, eqb-true, eqb-false}
 use Rattle.codec.specs.Lists.{pick, All}
-use Rattle.lines.specs.Columns.{space, digitZero, digit, front, columns, value, valueFrom}
+use Rattle.lines.specs.Columns.{space, digitZero, digit, front, columns, value, valueFrom, Digit, Justified}
 use Rattle.lines.proofs.Columns.{value-append, columns-small}
-
-abbrev pub Digit : ℕ → Type 0
-Digit c = (digitZero ≤ c) × (c < digitZero + 10)
-
-pub record Justified (cs : List ℕ) : Type 0 where
-  pub spaces : ℕ
-  pub first : ℕ
-  pub rest : List ℕ
-  pub is : cs ≡ replicate spaces space ++ (first ∷ rest)
-  pub digits : All Digit (first ∷ rest)
-  pub no-zero : (first ≡ digitZero → ⊥) ⊎ (rest ≡ [])
 
 -- ---- of nothing, only spaces are left
 

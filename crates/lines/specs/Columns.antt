@@ -1,9 +1,12 @@
 -- Numbers in columns: "decimal, right-justified, no leading zeros" (document 01, 'The sheet program'), of any width.
 -- Assumes nothing.
-use Prim.Native.Nat.{ℕ, zero, suc, _+_, _*_, _-_, _/_, _%_}
+use Prim.Native.Nat.{ℕ, zero, suc, _+_, _*_, _-_, _/_, _%_, _≤_, _<_}
 use mathlib.Core.List.{List, [], _∷_, _++_}
 use lib.Dec.{eqb}
-use Rattle.codec.specs.Lists.{pick}
+use Rattle.codec.specs.Lists.{pick, All}
+use mathlib.Core.Path.{_≡_}
+use mathlib.Core.Logic.{_⊎_}
+use lib.ListN.{replicate}
 
 -- the bytes of a space and of the digit 0
 abbrev pub space : ℕ
@@ -33,3 +36,14 @@ valueFrom n (c ∷ cs) = valueFrom (10 * n + (c - digitZero)) cs
 
 abbrev pub value : List ℕ → ℕ
 value cs = valueFrom 0 cs
+
+abbrev pub Digit : ℕ → Type 0
+Digit c = (digitZero ≤ c) × (c < digitZero + 10)
+
+pub record Justified (cs : List ℕ) : Type 0 where
+  pub spaces : ℕ
+  pub first : ℕ
+  pub rest : List ℕ
+  pub is : cs ≡ replicate spaces space ++ (first ∷ rest)
+  pub digits : All Digit (first ∷ rest)
+  pub no-zero : (first ≡ digitZero → ⊥) ⊎ (rest ≡ [])

@@ -21,8 +21,9 @@ use Rattle.image.specs.declared.PageZero.the-variants.{Ready}
 use Rattle.image.proofs.Zero.{size-true, facts-ready}
 use Rattle.journal.specs.Log.{headerStores}
 use Rattle.journal.specs.Recovery.{logged, withHeaders, replayed, replayFrom}
+use Rattle.journal.specs.Holds.{Waits}
 use Rattle.journal.proofs.Headers.{headers-after}
-use Rattle.journal.proofs.Standing.{Waits, marked, waits-long, logged-lines, logged-pages, logged-outside, length-replay, length-noMark, line-other, page-small}
+use Rattle.journal.proofs.Standing.{marked, waits-long, logged-lines, logged-pages, logged-outside, length-replay, length-noMark, line-other, page-small}
 use Rattle.tape_write.specs.Calls.{LogWaits}
 
 module _ (a : List ℕ) (k root : ℕ) (size : isImageSize (length a) ≡ true) (w : Waits a k root) where

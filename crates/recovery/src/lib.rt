@@ -19,7 +19,7 @@ ghost use Rattle.image.specs.PageZero.{pageZero};
 ghost use Rattle.image.specs.Image.{treeOk};
 ghost use Rattle.image.specs.declared.PageZero.the-variants.{Waiting, Ready};
 ghost use Rattle.journal.specs.Recovery.{logged, replayed};
-ghost use Rattle.journal.proofs.Standing.{Waits};
+ghost use Rattle.journal.specs.Holds.{Waits};
 ghost use Rattle.recovery.specs.Calls.{recoverCall};
 
 // An accepted recovery: the tape bytes used, and the number of flush commands on the tape.

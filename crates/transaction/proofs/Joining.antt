@@ -16,13 +16,12 @@ use Rattle.image.specs.Image.{reached, sound}
 use Rattle.image.proofs.Zero.{Size, size-true}
 use Rattle.image.proofs.Soundness.{sound-facts}
 use Rattle.edit.specs.EditList.{Edit}
-use Rattle.edit.proofs.Reading.{Proper}
+use Rattle.edit.specs.Reads.{Proper}
 use Rattle.journal.specs.Edited.{Edited}
 use Rattle.tree.specs.State.{State, begin}
 use Rattle.tree.specs.Whole.{finished, stopped, editsFrom, editsOn, editedImage}
-use Rattle.tree.proofs.Counts.{count}
+use Rattle.tree.specs.Good.{count, Good}
 use Rattle.tree.proofs.States.{Leads}
-use Rattle.tree.proofs.Tree.{Good}
 use Rattle.tree.proofs.Runs.{begin-good, edits-run}
 use Rattle.tree.proofs.Accepted.{edits-accepted}
 use Rattle.tree_edit.specs.Steps as steps

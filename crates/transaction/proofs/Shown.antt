@@ -24,7 +24,8 @@ use Rattle.edit.specs.declared.Judged.the-variants as judges
 use Rattle.tape_write.specs.declared.Written.{Written}
 use Rattle.tape_write.specs.declared.Written.the-variants as writes
 use Rattle.transaction.specs.declared.Transacted.the-variants.{Accepted, Refused}
-use Rattle.transaction.proofs.Answers.{Answers, bad-size, bad-work, bad-image, begun-call, answers-call}
+use Rattle.transaction.specs.Answers.{Answers, bad-size, bad-work, bad-image}
+use Rattle.transaction.proofs.Answers.{begun-call, answers-call}
 
 -- ---- the tape
 

@@ -32,15 +32,16 @@ use Rattle.image.proofs.Soundness.{sound-facts, tree-sound}
 use Rattle.image.proofs.Frame.{SamePages, reached-same, table-same, tree-same}
 use Rattle.edit.specs.EditList.{Edit}
 use Rattle.edit.specs.Ledger.{applyEdits}
+use Rattle.edit.specs.Reads.{Proper}
 use Rattle.edit.proofs.General.{not-first, not-second}
-use Rattle.edit.proofs.Reading.{Proper}
 use Rattle.journal.specs.Changes.{wordSize, pageWords, lineWords, freeWord}
 use Rattle.journal.specs.Edited.{Edited}
 use Rattle.tree.specs.State.{State, begin}
 use Rattle.tree.specs.Whole.{finished, editsOn, editedImage}
 use Rattle.tree.specs.Grounds.{tableOf}
+use Rattle.tree.specs.Good.{count, inside}
 use Rattle.tree.proofs.General.{byte-part}
-use Rattle.tree.proofs.Counts.{count, inside, hit-self, inside-most, inside-range, inside-page, count-among, among-count}
+use Rattle.tree.proofs.Counts.{hit-self, inside-most, inside-range, inside-page, count-among, among-count}
 use Rattle.tree.proofs.Pages.{Old}
 use Rattle.tree.proofs.Tree.{good-tree, reached-laid}
 use Rattle.tree.proofs.Runs.{Run, begin-good, begin-table, edits-run}

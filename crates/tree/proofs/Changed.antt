@@ -21,12 +21,13 @@ use Rattle.image.specs.PageZero.{pageCount, rootOf}
 use Rattle.image.specs.Image.{childOf, children, reached, among, sound}
 use Rattle.image.proofs.General.{part-part}
 use Rattle.edit.specs.EditList.{Edit}
+use Rattle.edit.specs.Reads.{Proper}
 use Rattle.edit.proofs.General.{by-test}
-use Rattle.edit.proofs.Reading.{Proper}
 use Rattle.journal.specs.Changes.{headerLine, changedFrom, changedPages, sameRoot}
 use Rattle.tree.specs.State.{State, begin}
 use Rattle.tree.specs.Whole.{finished, editsOn, editedImage}
-use Rattle.tree.proofs.Counts.{hit, count, hit-self, inside-most, inside-range, count-among}
+use Rattle.tree.specs.Good.{hit, count}
+use Rattle.tree.proofs.Counts.{hit-self, inside-most, inside-range, count-among}
 use Rattle.tree.proofs.Pages.{Lower}
 use Rattle.tree.proofs.Moves.{Sunk, Touch}
 use Rattle.tree.proofs.Runs.{Run, begin-good, edits-run, edits-touch}

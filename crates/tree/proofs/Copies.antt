@@ -25,11 +25,12 @@ use Rattle.edit.proofs.General.{by-tests, all-right}
 use Rattle.tree.specs.State.{State, Step, done, filled}
 use Rattle.tree.specs.Edits.{indexRec, indexed, keptSep, splitPoint, firstKey, copied, split, moved}
 use Rattle.tree.specs.Grounds.{entrySize, pagesFor, tooFew}
-use Rattle.tree.proofs.Counts.{hit, count, named, inside, hit-self, inside-most, inside-range}
-use Rattle.tree.proofs.Sizes.{IsEntry, Entries, index-entry, index-child, index-ok, sizeMost}
+use Rattle.tree.specs.Good.{hit, count, named, inside, IsEntry, Entries, Fits, Shows}
+use Rattle.tree.proofs.Counts.{hit-self, inside-most, inside-range}
+use Rattle.tree.proofs.Sizes.{index-entry, index-child, index-ok, sizeMost}
 use Rattle.tree.proofs.Separators.{kept-low, kept-most, low-sep, rising-some, first-key, first-ok, made-seam, inserted-seam, two-entries}
-use Rattle.tree.proofs.Split.{Fits, halves}
-use Rattle.tree.proofs.Pages.{Shows, laid-start, Lower}
+use Rattle.tree.proofs.Split.{halves}
+use Rattle.tree.proofs.Pages.{laid-start, Lower}
 use Rattle.tree.proofs.States.{Leads, leads-trans, leads-take, leads-free}
 use Rattle.tree.proofs.Leaves.{Same, same-where, records-same}
 use Rattle.tree.proofs.Tree.{Here, good-entries, good-shows, seps-after, sep-next, entries-cut}

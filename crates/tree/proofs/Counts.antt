@@ -3,7 +3,7 @@
 use Prim.Native.Nat.{ℕ, zero, suc, _+_, _≤_, _<_}
 use mathlib.Core.Path.{_≡_, refl, sym, ap, _∙_}
 use mathlib.Core.Bool.{Bool, true, false, _||_, not, true≢false}
-use mathlib.Core.List.{List, [], _∷_, _++_, map}
+use mathlib.Core.List.{List, [], _∷_, _++_}
 use native.Mathlib.Omega.{arith}
 use lib.Dec.{eqb}
 use borrow.Author.Tests.{not-true, eqb-true, eqb-false, eq-eqb, ne-eqb}
@@ -11,25 +11,10 @@ use Rattle.codec.specs.Lists.{pick, All}
 use Rattle.codec.proofs.Tests.{first, second}
 use Rattle.page.specs.Layout.{Rec}
 use Rattle.image.specs.PageZero.{isPage}
-use Rattle.image.specs.Image.{childOf, among, distinct}
+use Rattle.image.specs.Image.{among, distinct}
 use Rattle.image.proofs.Zero.{isPage-true}
 use Rattle.edit.proofs.General.{by-test}
-
--- 1 if p is the page x, else 0
-pub hit : ℕ → ℕ → ℕ
-hit x p = pick (eqb x p) 1 0
-
--- how often x stands in a list, and how often index records name it
-abbrev pub count : ℕ → List ℕ → ℕ
-count x [] = 0
-count x (p ∷ ps) = hit x p + count x ps
-
-abbrev pub named : ℕ → List Rec → ℕ
-named x cs = count x (map childOf cs)
-
--- 1 if x is a page past page 0 of an image with n pages, else 0
-pub inside : ℕ → ℕ → ℕ
-inside n x = pick (isPage n x) 1 0
+use Rattle.tree.specs.Good.{hit, count, named, inside}
 
 -- ---- one page
 

@@ -24,18 +24,18 @@ use Rattle.image.specs.Route.{route}
 use Rattle.image.proofs.Rising.{firstKey}
 use Rattle.image.proofs.Order.{startOf, leafRecords-append}
 use Rattle.image.proofs.Routing.{Routed, routed, before-below, after-above, find-here}
-use Rattle.edit.specs.EditList.{Edit}
+use Rattle.edit.specs.EditList.{Edit, keyOf}
 use Rattle.edit.specs.EditList as edits
 use Rattle.edit.specs.Ledger.{add, replace, without, applyEdit}
-use Rattle.edit.proofs.Ledger.{lacks-find, rising-add, rising-replace, rising-without, editKey, apply-middle}
+use Rattle.edit.specs.Reads.{Proper}
+use Rattle.edit.proofs.Ledger.{lacks-find, rising-add, rising-replace, rising-without, apply-middle}
 use Rattle.edit.proofs.Places.{search-there, search-missing}
-use Rattle.edit.proofs.Reading.{Proper}
 use Rattle.tree.specs.State.{State, Step, done, refused}
-use Rattle.tree.specs.Edits.{put, dropped, editAt, keyOf, edited}
+use Rattle.tree.specs.Edits.{put, dropped, editAt, edited}
 use Rattle.tree.specs.Grounds.{tableOf, isSome, holds, leafOf, room, ground}
-use Rattle.tree.proofs.Counts.{count}
+use Rattle.tree.specs.Good.{count, Good}
 use Rattle.tree.proofs.States.{Leads}
-use Rattle.tree.proofs.Tree.{Good, Here, NoMore, good-seps, leaf-here, held}
+use Rattle.tree.proofs.Tree.{Here, NoMore, good-seps, leaf-here, held}
 use Rattle.tree.proofs.Steps.{Ends}
 use Rattle.tree.proofs.Moves.{Touch, After}
 use Rattle.tree.proofs.InLeaf.{put-ends, dropped-ends}
@@ -58,17 +58,11 @@ groundAt st (edits.insert k v) p there = pick there 8 (room st true (size (recOf
 groundAt st (edits.update k v) p there = pick there (room st false (size (recOf k v)) p (replace k v (records p))) 9
 groundAt st (edits.delete k) p there = pick there 0 9
 
-ground-at : (st : State) (e : Edit) → ground st e ≡ groundAt st e (leafOf st (editKey e)) (holds (editKey e) (tableOf st))
+ground-at : (st : State) (e : Edit) → ground st e ≡ groundAt st e (leafOf st (keyOf e)) (holds (keyOf e) (tableOf st))
 unfolding ground
 ground-at st (edits.insert k v) = refl
 ground-at st (edits.update k v) = refl
 ground-at st (edits.delete k) = refl
-
-key-of : (e : Edit) → keyOf e ≡ editKey e
-unfolding keyOf
-key-of (edits.insert k v) = refl
-key-of (edits.update k v) = refl
-key-of (edits.delete k) = refl
 
 found-some : (o : Option (List ℕ)) → (o ≡ none → ⊥) → isSome o ≡ true
 found-some none h = absurd (h refl)
@@ -92,24 +86,24 @@ module _ (n : ℕ) (F : List ℕ) (H : Here n F) where
   unfolding tableOf leafRecords
   table-here = ap (leafRecords (st .image)) shape ∙ leafRecords-append (st .image) pre (c ∷ post)
 
-  module _ (e : Edit) (P : Proper e) (low : startOf pre 0 (c .key) ≤ editKey e) (high : editKey e < firstKey post (suc (editKey e))) where
+  module _ (e : Edit) (P : Proper e) (low : startOf pre 0 (c .key) ≤ keyOf e) (high : keyOf e < firstKey post (suc (keyOf e))) where
     abbrev only : Bool
     only = eqb (length (children (st .image) (st .root))) 1
 
     seps : Rising 0 (pre ++ c ∷ post) (suc topKey)
     seps = subst (λ (l : List Rec). Rising 0 l (suc topKey)) shape (good-seps n st G)
 
-    holds-here : holds (editKey e) (tableOf st) ≡ isSome (find (editKey e) (records p))
+    holds-here : holds (keyOf e) (tableOf st) ≡ isSome (find (keyOf e) (records p))
     unfolding holds tableOf
     holds-here =
-        ap (λ (l : List Rec). isSome (find (editKey e) (leafRecords (st .image) l))) shape
-        ∙ ap isSome (find-here (st .image) only pre c post seps (held n F H) (editKey e) low high)
+        ap (λ (l : List Rec). isSome (find (keyOf e) (leafRecords (st .image) l))) shape
+        ∙ ap isSome (find-here (st .image) only pre c post seps (held n F H) (keyOf e) low high)
 
-    below-next : editKey e < nextSep post
+    below-next : keyOf e < nextSep post
     unfolding nextSep
     below-next = go post high
       where
-        go : (l : List Rec) → editKey e < firstKey l (suc (editKey e)) → editKey e < nextSep l
+        go : (l : List Rec) → keyOf e < firstKey l (suc (keyOf e)) → keyOf e < nextSep l
         go [] h = omega (arith, P .high)
         go (x ∷ l) h = h
 
@@ -123,8 +117,8 @@ module _ (n : ℕ) (F : List ℕ) (H : Here n F) where
               ∙ sym (
               ap (applyEdit e) table-here
               ∙ apply-middle e (leafRecords (st .image) pre) (records p) (leafRecords (st .image) post)
-              (before-below (st .image) only pre c post seps (held n F H) (editKey e) low high)
-              (after-above (st .image) only pre c post seps (held n F H) (editKey e) low high)
+              (before-below (st .image) only pre c post seps (held n F H) (keyOf e) low high)
+              (after-above (st .image) only pre c post seps (held n F H) (keyOf e) low high)
               );
           leads = A .leads;
           touch = A .touch;
@@ -139,8 +133,8 @@ module _ (n : ℕ) (F : List ℕ) (H : Here n F) where
         ends-map (After n F H (applyEdit e (records p))) (Made n F e st) made-after (room st ins (size r) p (applyEdit e (records p))) s
         (subst (λ (l : List Rec). Ends (After n F H l) (room st ins (size r) p l) s) eq a)
 
-  editAt-ends : (e : Edit) → Proper e → startOf pre 0 (c .key) ≤ editKey e → editKey e < firstKey post (suc (editKey e)) → (s : Search) → searched (editKey e) 0 (records p) ≡ s →
-      Ends (Made n F e st) (groundAt st e p (isSome (find (editKey e) (records p)))) (editAt st (length pre) (c .key) (childOf c) e s)
+  editAt-ends : (e : Edit) → Proper e → startOf pre 0 (c .key) ≤ keyOf e → keyOf e < firstKey post (suc (keyOf e)) → (s : Search) → searched (keyOf e) 0 (records p) ≡ s →
+      Ends (Made n F e st) (groundAt st e p (isSome (find (keyOf e) (records p)))) (editAt st (length pre) (c .key) (childOf c) e s)
   unfolding editAt applyEdit made
   editAt-ends (edits.insert k v) P low high (At j) q = let T = search-there k lo (records p) (nextSep post) up j q in rw (found-some (find k (records p)) (T .found))
   editAt-ends (edits.insert k v) P low high (Missing j) q =
@@ -173,7 +167,7 @@ pub edited-ends : (n : ℕ) (F : List ℕ) (st : State) → Good n st → ((x : 
 unfolding edited leafOf
 edited-ends n F st G sub e P =
     let cs = children (st .image) (st .root) in
-    let k = editKey e in
+    let k = keyOf e in
     let R : Routed k cs noRec = routed k 0 cs (suc topKey) noRec (good-seps n st G) (G .some) in
     let i = route k cs in
     let c = getD cs i noRec in
@@ -184,4 +178,4 @@ edited-ends n F st G sub e P =
     let q = pageOf (st .image) (childOf c) in
     let a = editAt-ends n F H e P (R .low) (R .high) (searched k 0 (records q)) refl in
     let b = subst (λ (j : ℕ). Ends (Made n F e st) (groundAt st e q (isSome (find k (records q)))) (editAt st j (c .key) (childOf c) e (searched k 0 (records q)))) long a in
-    rw (ground-at st e, holds-here n F H e P (R .low) (R .high), key-of e) b
+    rw (ground-at st e, holds-here n F H e P (R .low) (R .high)) b

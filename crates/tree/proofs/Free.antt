@@ -11,8 +11,10 @@ use Rattle.codec.specs.Lists.{pick}
 use Rattle.image.specs.Image.{among}
 use Rattle.image.proofs.Zero.{true-isPage}
 use Rattle.tree.specs.State.{others}
+use Rattle.tree.specs.Good.{hit, count, inside}
+use Rattle.tree.specs.NewPages.{Highest}
 use Rattle.edit.proofs.General.{by-test}
-use Rattle.tree.proofs.Counts.{hit, count, inside, hit-self, hit-other, inside-is, among-none}
+use Rattle.tree.proofs.Counts.{hit-self, hit-other, inside-is, among-none}
 
 -- ---- what they are
 
@@ -54,13 +56,6 @@ others-apart n m rs low h x = go (among x rs) refl (leb x m) refl (leb 1 x) refl
     go false e false p c q = omega (arith, among-none x rs e, others-none m rs x (λ y u v w z. omega (arith, leb-false x m p)))
 
 -- ---- the first of them
-
--- "A new page is the highest-numbered one neither reached before the transaction nor already taken in it"
-pub record Highest (n : ℕ) (rs : List ℕ) (p : ℕ) : Type 0 where
-  pub low : 1 ≤ p
-  pub high : p ≤ n
-  pub free : among p rs ≡ false
-  pub highest : (q : ℕ) → p < q → q ≤ n → among q rs ≡ true
 
 pub others-first : (n : ℕ) (rs : List ℕ) (p : ℕ) (ps : List ℕ) → others n rs ≡ p ∷ ps → Highest n rs p
 unfolding others

@@ -27,10 +27,11 @@ use Rattle.edit.proofs.General.{neither, not-both, by-test, by-tests}
 use Rattle.tree.specs.State.{State, withPage}
 use Rattle.tree.specs.Edits.{isFull, inPlace, put, dropped}
 use Rattle.tree.specs.Grounds.{room}
+use Rattle.tree.specs.Good.{inside, Shows}
 use Rattle.tree.proofs.General.{removeAt-seam}
-use Rattle.tree.proofs.Counts.{inside, hit-self, hit-apart, inside-most}
+use Rattle.tree.proofs.Counts.{hit-self, hit-apart, inside-most}
 use Rattle.tree.proofs.Sizes.{size-most, sizes-made, made-most}
-use Rattle.tree.proofs.Pages.{Shows, laid-length, laid-start, Lower, place-shows, place-lower, place-old, delete-shows, delete-lower, delete-old}
+use Rattle.tree.proofs.Pages.{laid-length, laid-start, Lower, place-shows, place-lower, place-old, delete-shows, delete-lower, delete-old}
 use Rattle.tree.proofs.States.{write-length, write-here, write-other, leads-trans, leads-write}
 use Rattle.tree.proofs.Tree.{Here, leaf-here, Loss, loss-pages, loss-good, loss-table}
 use Rattle.tree.proofs.Steps.{Ends}

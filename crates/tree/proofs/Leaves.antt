@@ -16,7 +16,8 @@ use Rattle.image.specs.Facts.{Leaf, Leaves}
 use Rattle.image.specs.Table.{leafRecords}
 use Rattle.image.proofs.Rising.{rising-le, rising-lo, rising-hi}
 use Rattle.image.proofs.Order.{startOf}
-use Rattle.tree.proofs.Counts.{named, hit-self}
+use Rattle.tree.specs.Good.{named}
+use Rattle.tree.proofs.Counts.{hit-self}
 
 -- the pages that the index records cs name are the same in both images
 abbrev pub Same : List ℕ → List ℕ → List Rec → Type 0

@@ -23,11 +23,11 @@ use Rattle.image.proofs.Order.{startOf}
 use Rattle.edit.proofs.General.{all-right}
 use Rattle.tree.specs.State.{State, withPage}
 use Rattle.tree.specs.Grounds.{tableOf}
-use Rattle.tree.proofs.Counts.{hit, count, named, inside, hit-self, hit-apart, inside-most, named-append}
-use Rattle.tree.proofs.Sizes.{IsEntry, Entries}
-use Rattle.tree.proofs.Pages.{Shows, laid-length, Lower, Old}
+use Rattle.tree.specs.Good.{hit, count, named, inside, IsEntry, Entries, Shows, Good}
+use Rattle.tree.proofs.Counts.{hit-self, hit-apart, inside-most, named-append}
+use Rattle.tree.proofs.Pages.{laid-length, Lower, Old}
 use Rattle.tree.proofs.States.{write-here, write-other, Leads, leads-write}
-use Rattle.tree.proofs.Tree.{Good, Here, good-shows, good-entries, sep-next, NoMore, Swap, swap-pages, swap-good, swap-table}
+use Rattle.tree.proofs.Tree.{Here, good-shows, good-entries, sep-next, NoMore, Swap, swap-pages, swap-good, swap-table}
 
 -- ---- what has changed
 

@@ -19,16 +19,9 @@ use Rattle.page.proofs.Facts.{ok-is, pageOk-true}
 use Rattle.page.proofs.Writes.{drop-seal}
 use Rattle.page.proofs.Operations.{insert-page, update-page, delete-page, fill-page, fill-kind, fill-own, fill-start}
 use Rattle.tree.specs.Edits.{inPlace}
+use Rattle.tree.specs.Good.{Shows}
 
 -- ---- what a page shows
-
--- g is laid out, of kind k and with the number n, the content start s and the records rs
-pub record Shows (g : List ℕ) (k n s : ℕ) (rs : List Rec) : Type 0 where
-  pub laid : laidOut g ≡ true
-  pub kind : readHead g .kind ≡ k
-  pub own : readHead g .own ≡ n
-  pub start : readHead g .start ≡ s
-  pub recs : records g ≡ rs
 
 pub shows-sound : (kind own : ℕ) (g : List ℕ) → pageOk kind own g ≡ true → Shows g kind own (readHead g .start) (records g)
 shows-sound kind own g h =

@@ -19,17 +19,19 @@ use Rattle.image.proofs.Soundness.{sound-facts}
 use Rattle.image.proofs.General.{All-left}
 use Rattle.edit.specs.EditList.{Edit}
 use Rattle.edit.specs.Ledger.{applyEdits}
+use Rattle.edit.specs.Reads.{Proper}
 use Rattle.edit.proofs.General.{all-right}
-use Rattle.edit.proofs.Reading.{Proper}
 use Rattle.tree.specs.State.{State, Step, done, refused, others, begin}
 use Rattle.tree.specs.Edits.{edited}
 use Rattle.tree.specs.Whole.{Outcome, finished, stopped, onward, editsFrom, editsOn}
 use Rattle.tree.specs.Grounds.{tableOf, ground, Grounds}
-use Rattle.tree.proofs.Counts.{hit, count, named, inside, count-append, count-inside, inside-most}
-use Rattle.tree.proofs.Free.{others-once, others-apart, Highest, others-next}
+use Rattle.tree.specs.Good.{hit, count, named, inside, Good}
+use Rattle.tree.specs.NewPages.{NewPages}
+use Rattle.tree.proofs.Counts.{count-append, count-inside, inside-most}
+use Rattle.tree.proofs.Free.{others-once, others-apart, others-next}
 use Rattle.tree.proofs.Pages.{Lower, lower-trans}
 use Rattle.tree.proofs.States.{Leads, leads-refl, leads-trans, leads-free}
-use Rattle.tree.proofs.Tree.{Good, NoMore}
+use Rattle.tree.proofs.Tree.{NoMore}
 use Rattle.tree.proofs.Steps.{Ends}
 use Rattle.tree.proofs.Moves.{Sunk, Touch}
 use Rattle.tree.proofs.Edits.{Made, edited-ends}
@@ -214,17 +216,6 @@ grounds-refuse a h es P k i G some =
     ∙ rw (refuses, number)
 
 -- ---- new pages
-
--- "A new page is the highest-numbered one neither reached before the transaction nor already taken in it": `taken` are those taken from a to
--- st, in this order
-pub record NewPages (a : List ℕ) (st : State) : Type 0 where
-  pub taken : List ℕ
-  pub order : begin a .free ≡ taken ++ st .free
-  -- each is a page past page 0, is taken once, was not reached before, and is not free any more
-  pub once : (x : ℕ) → count x (reached a (rootOf a)) + (count x taken + count x (st .free)) ≤ inside (pageCount a) x
-  pub highest : (ts : List ℕ) (p : ℕ) (us : List ℕ) → taken ≡ ts ++ p ∷ us → Highest (pageCount a - 1) (ts ++ reached a (rootOf a)) p
-  -- every page that st reaches was reached before or is one of them
-  pub only : (x : ℕ) → count x (reached (st .image) (st .root)) ≤ count x (reached a (rootOf a)) + count x taken
 
 pub new-pages : (a : List ℕ) → sound a ≡ true → (es : List Edit) → All Proper es → (st : State) → editsOn a es ≡ finished st → NewPages a st
 unfolding begin reached

@@ -6,7 +6,7 @@ use mathlib.Core.Bool.{Bool, true, false}
 use mathlib.Core.List.{List, [], _∷_, _++_}
 use native.Mathlib.Omega.{arith}
 use lib.ListN.{length, set}
-use Rattle.codec.specs.Lists.{insertAt, All}
+use Rattle.codec.specs.Lists.{insertAt}
 use Rattle.codec.proofs.Numbers.{length-bytesOf, number-bytesOf}
 use Rattle.page.specs.Layout.{topKey, Rec, up8, size}
 use Rattle.page.specs.Page.{RecOk}
@@ -16,6 +16,7 @@ use Rattle.page.proofs.Made.{length-made}
 use Rattle.image.specs.Image.{childOf}
 use Rattle.tree.specs.Edits.{indexRec}
 use Rattle.tree.specs.Grounds.{entrySize}
+use Rattle.tree.specs.Good.{Entries}
 
 -- ---- sizes
 
@@ -61,12 +62,6 @@ made-most true i r l = omega (arith, length-made true i r l)
 made-most false i r l = omega (arith, length-made false i r l)
 
 -- ---- index records: "its value a 2-byte page number"
-
-abbrev pub IsEntry : Rec → Type 0
-IsEntry c = length (c .value) ≡ 2
-
-abbrev pub Entries : List Rec → Type 0
-Entries cs = All IsEntry cs
 
 pub size-entry : (c : Rec) → length (c .value) ≡ 2 → size c ≡ entrySize
 unfolding size up8

@@ -15,6 +15,7 @@ use Rattle.page.specs.Page.{RecOk}
 use Rattle.page.specs.Operations.{sizes}
 use Rattle.edit.proofs.General.{by-test}
 use Rattle.tree.specs.Edits.{splitFrom, splitPoint}
+use Rattle.tree.specs.Good.{Fits}
 use Rattle.tree.proofs.Sizes.{sizeMost, size-most, sizes-append, sizes-least}
 
 -- ---- "m smallest with twice their bytes at least the total", where `seen` bytes stand before the list
@@ -75,12 +76,6 @@ nonempty : (l : List Rec) → 0 < sizes l → 1 ≤ length l
 unfolding sizes
 nonempty [] h = h
 nonempty (r ∷ l) h = omega arith
-
--- a page has room for the records
-pub record Fits (l : List Rec) : Type 0 where
-  pub some : 1 ≤ length l
-  pub few : length l ≤ slotCount
-  pub room : lineSize + sizes l ≤ pageSize
 
 -- what has no room in one page has room in two
 pub halves : (l : List Rec) → All RecOk l → length l ≤ suc slotCount → sizes l ≤ pageSize - lineSize + sizeMost →

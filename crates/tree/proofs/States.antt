@@ -14,7 +14,8 @@ use Rattle.page.specs.Layout.{pageSize}
 use Rattle.page.specs.Operations.{pageOf, putPage}
 use Rattle.page.proofs.Images.{length-pageOf, put-length, put-same, put-other}
 use Rattle.tree.specs.State.{State, withPage, withRoot}
-use Rattle.tree.proofs.Counts.{count, inside, count-append, inside-range}
+use Rattle.tree.specs.Good.{count, inside}
+use Rattle.tree.proofs.Counts.{count-append, inside-range}
 use Rattle.tree.proofs.Pages.{Old, old-refl, old-trans}
 
 -- ---- one page written over

@@ -19,9 +19,10 @@ use Rattle.edit.proofs.General.{by-tests}
 use Rattle.tree.specs.State.{State, Step, done, refused, withPage, withRoot, takePage, taken, filled}
 use Rattle.tree.specs.Edits.{isFull, inPlace, indexed}
 use Rattle.tree.specs.Grounds.{entrySize}
-use Rattle.tree.proofs.Counts.{hit, count, inside, hit-self, hit-apart, inside-most, inside-range}
-use Rattle.tree.proofs.Sizes.{IsEntry, Entries, size-entry, sizes-entries}
-use Rattle.tree.proofs.Pages.{Shows, shows-as, laid-length, laid-start, Lower, lower-trans, place-shows, place-lower, place-old, fill-shows}
+use Rattle.tree.specs.Good.{hit, count, inside, IsEntry, Entries, Shows}
+use Rattle.tree.proofs.Counts.{hit-self, hit-apart, inside-most, inside-range}
+use Rattle.tree.proofs.Sizes.{size-entry, sizes-entries}
+use Rattle.tree.proofs.Pages.{shows-as, laid-length, laid-start, Lower, lower-trans, place-shows, place-lower, place-old, fill-shows}
 use Rattle.tree.proofs.States.{page-length, write-length, write-here, write-other, Leads, leads-trans, leads-take, leads-root, leads-write}
 
 -- ---- refused by g, or g is 0 and the state has P

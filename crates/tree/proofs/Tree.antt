@@ -1,6 +1,6 @@
 -- A state whose tree is sound, and that it stays sound when a leaf is replaced by leaves over the same range of keys, or lost.
 -- Assumes nothing.
-use Prim.Native.Nat.{ℕ, suc, _+_, _*_, _≤_, _<_}
+use Prim.Native.Nat.{ℕ, suc, _+_, _≤_, _<_}
 use mathlib.Core.Path.{_≡_, refl, sym, ap, ap₂, _∙_, subst}
 use mathlib.Core.Logic.{_⊎_, inl, inr}
 use mathlib.Core.Bool.{Bool, true, false}
@@ -10,7 +10,7 @@ use lib.ListN.{length, length-append}
 use lib.Dec.{eqb}
 use borrow.Author.Tests.{eqb-true, ne-eqb}
 use Rattle.codec.proofs.Tests.{All-map}
-use Rattle.page.specs.Layout.{pageSize, indexKind, topKey, Rec, readHead}
+use Rattle.page.specs.Layout.{indexKind, topKey, Rec, readHead}
 use Rattle.page.specs.Page.{records, laidOut, formOk, pageOk}
 use Rattle.page.specs.Operations.{pageOf}
 use Rattle.page.proofs.Facts.{pageOk-true, true-pageOk, index-form, form-index}
@@ -27,19 +27,10 @@ use Rattle.image.proofs.General.{All-append, All-left}
 use Rattle.edit.proofs.General.{all-right}
 use Rattle.tree.specs.State.{State}
 use Rattle.tree.specs.Grounds.{tableOf}
-use Rattle.tree.proofs.Counts.{hit, count, named, inside, hit-self, inside-most, inside-page, named-append, count-among, count-distinct, inside-pages}
-use Rattle.tree.proofs.Sizes.{IsEntry, Entries}
-use Rattle.tree.proofs.Pages.{Shows, shows-sound}
+use Rattle.tree.specs.Good.{hit, count, named, inside, IsEntry, Entries, Shows, Good}
+use Rattle.tree.proofs.Counts.{hit-self, inside-most, inside-page, named-append, count-among, count-distinct, inside-pages}
+use Rattle.tree.proofs.Pages.{shows-sound}
 use Rattle.tree.proofs.Leaves.{Same, same-where, leaves-same, records-same, leaves-front, leaves-drop, leaves-only}
-
--- the state of an image with n pages, at most 64: its index and leaves are sound, and root, leaves and free pages are distinct and in range
-pub record Good (n : ℕ) (st : State) : Type 0 where
-  pub few : n ≤ 64
-  pub size : length (st .image) ≡ pageSize * n
-  pub index : pageOk indexKind (st .root) (pageOf (st .image) (st .root)) ≡ true
-  pub some : 1 ≤ length (children (st .image) (st .root))
-  pub leaves : Leaves (st .image) (eqb (length (children (st .image) (st .root))) 1) 0 (children (st .image) (st .root))
-  pub apart : (x : ℕ) → hit x (st .root) + (named x (children (st .image) (st .root)) + count x (st .free)) ≤ inside n x
 
 entries-of : (own : ℕ) (p : List ℕ) → pageOk indexKind own p ≡ true → Entries (records p)
 entries-of own p h = All-map (λ (r : Rec). formOk indexKind r ≡ true) IsEntry index-form (records p) (pageOk-true indexKind own p h .forms)

@@ -16,7 +16,7 @@ use Rattle.page.specs.declared.Search.{Search}
 use Rattle.page.specs.declared.Search.the-variants.{At, Missing}
 use Rattle.image.specs.Image.{children, childOf}
 use Rattle.image.specs.Route.{route}
-use Rattle.edit.specs.EditList.{Edit}
+use Rattle.edit.specs.EditList.{Edit, keyOf}
 use Rattle.edit.specs.EditList as edits
 use Rattle.tree.specs.State.{State, Step, done, refused, withPage, withRoot, taken, filled}
 
@@ -106,11 +106,6 @@ editAt st i sep q (edits.update k v) (At j) = put st i sep q false j (recOf k v)
 editAt st i sep q (edits.update k v) (Missing j) = refused keyMissing
 editAt st i sep q (edits.delete k) (At j) = dropped st i q j
 editAt st i sep q (edits.delete k) (Missing j) = refused keyMissing
-
-unfoldable pub keyOf : Edit → ℕ
-keyOf (edits.insert k v) = k
-keyOf (edits.update k v) = k
-keyOf (edits.delete k) = k
 
 -- the edit, in the leaf that its key belongs to
 unfoldable pub edited : Edit → State → Step

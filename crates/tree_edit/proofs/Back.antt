@@ -19,8 +19,8 @@ use Rattle.image.specs.PageZero.{pageCount}
 use Rattle.image.specs.Image.{reached, among}
 use Rattle.tree.specs.State.{State}
 use Rattle.tree.specs.Whole.{pagesFrom, putBack, editedImage}
+use Rattle.tree.specs.Good.{Good}
 use Rattle.tree.proofs.Counts.{inside-range}
-use Rattle.tree.proofs.Tree.{Good}
 use Rattle.tree_edit.specs.Steps.{isMarked, Marks}
 use Rattle.tree_edit.specs.Asked.{CanPutBack}
 use Rattle.tree_edit.proofs.Places.{root-inside}

@@ -17,8 +17,8 @@ use Rattle.page.proofs.Facts.{records-ok}
 use Rattle.image.specs.PageZero.{pageCount}
 use Rattle.tree.specs.State.{State, done, refused, filled}
 use Rattle.tree.specs.Edits.{indexRec, indexed, keptSep, copied}
-use Rattle.tree.proofs.Counts.{count, hit-self}
-use Rattle.tree.proofs.Split.{Fits}
+use Rattle.tree.specs.Good.{count, Fits}
+use Rattle.tree.proofs.Counts.{hit-self}
 use Rattle.tree.proofs.Steps.{Filled, filled-facts}
 use Rattle.tree_edit.specs.Steps.{recBy, madeBy}
 use Rattle.tree_edit.specs.Asked.{CanChange, CanIndex}

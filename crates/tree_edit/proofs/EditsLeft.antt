@@ -10,12 +10,13 @@ use lib.Seq.{drop-drop, getD-drop}
 use Rattle.codec.specs.Lists.{part}
 use Rattle.codec.specs.Numbers.{number}
 use Rattle.edit.specs.EditList.{Edit, editsMost, headSize, kindIn, lengthIn, keyIn, editOf, editIn, Listed, listed, editList}
-use Rattle.edit.proofs.Reading.{Proper, Faultless, faultless, edit-proper}
-use Rattle.edit.proofs.Parsing.{Reads, list-whole}
+use Rattle.edit.specs.Reads.{Proper, Faultless, Reads}
+use Rattle.edit.proofs.Reading.{faultless, edit-proper}
+use Rattle.edit.proofs.Parsing.{list-whole}
 use Rattle.tree.specs.State.{State, Step, done, refused}
 use Rattle.tree.specs.Edits.{edited}
 use Rattle.tree.specs.Whole.{Outcome, finished, stopped, onward, editsFrom}
-use Rattle.tree.proofs.Tree.{Good}
+use Rattle.tree.specs.Good.{Good}
 use Rattle.tree.proofs.Edits.{Made, edited-ends}
 use Rattle.tree_edit.specs.Steps.{stateOf}
 use Rattle.tree_edit.specs.declared.Tree.{Tree}

@@ -13,7 +13,8 @@ use Rattle.codec.specs.Lists.{pick}
 use Rattle.image.specs.PageZero.{pageCount, rootOf}
 use Rattle.image.specs.Image.{among, reached}
 use Rattle.tree.specs.State.{State, Step, refused, others, begin, takePage, taken}
-use Rattle.tree.proofs.Counts.{hit, count, hit-self}
+use Rattle.tree.specs.Good.{hit, count}
+use Rattle.tree.proofs.Counts.{hit-self}
 use Rattle.tree_edit.specs.Steps.{isMarked, Marks, unmarked, stateOf}
 
 -- ---- one page looked at

@@ -19,8 +19,9 @@ use Rattle.page_edit.specs.Filling.{CanFill}
 use Rattle.tree.specs.State.{State, done, refused, filled}
 use Rattle.tree.specs.Edits.{isFull, inPlace, indexRec, indexed, keptSep}
 use Rattle.tree.specs.Grounds.{entrySize}
-use Rattle.tree.proofs.Counts.{count, hit-self, inside-range}
-use Rattle.tree.proofs.Sizes.{IsEntry, size-entry, sizes-entries, index-entry, index-ok}
+use Rattle.tree.specs.Good.{count, IsEntry}
+use Rattle.tree.proofs.Counts.{hit-self, inside-range}
+use Rattle.tree.proofs.Sizes.{size-entry, sizes-entries, index-entry, index-ok}
 use Rattle.tree_edit.specs.Steps.{recBy, madeBy}
 use Rattle.tree_edit.specs.Asked.{CanPut, CanIndex}
 use Rattle.tree_edit.specs.declared.Change.{Change}

@@ -18,7 +18,8 @@ use Rattle.page.proofs.Facts.{records-ok}
 use Rattle.image.specs.PageZero.{pageCount}
 use Rattle.tree.specs.State.{State, Step, done, refused, withPage, withRoot, takePage, taken, filled}
 use Rattle.tree.specs.Edits.{isFull, inPlace, indexRec, indexed, firstKey}
-use Rattle.tree.proofs.Sizes.{IsEntry, index-entry, index-ok}
+use Rattle.tree.specs.Good.{IsEntry}
+use Rattle.tree.proofs.Sizes.{index-entry, index-ok}
 use Rattle.tree.proofs.Separators.{first-ok}
 use Rattle.tree.proofs.Steps.{Reindexed, indexed-ends}
 use Rattle.tree_edit.specs.Steps.{indexTwo}

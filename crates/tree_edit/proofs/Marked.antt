@@ -20,9 +20,9 @@ use Rattle.image.specs.Image.{childOf, children, reached, among}
 use Rattle.image.proofs.Zero.{isPage-true}
 use Rattle.image.proofs.CodePages.{All-at, drop-next}
 use Rattle.tree.specs.State.{State}
+use Rattle.tree.specs.Good.{IsEntry, Good}
 use Rattle.tree.proofs.Counts.{inside-pages}
-use Rattle.tree.proofs.Sizes.{IsEntry}
-use Rattle.tree.proofs.Tree.{Good, good-entries}
+use Rattle.tree.proofs.Tree.{good-entries}
 use Rattle.tree_edit.specs.Steps.{isMarked, Marks}
 use Rattle.tree_edit.specs.Asked.{CanMark}
 use Rattle.tree_edit.proofs.Places.{root-fits, root-ok}

@@ -15,7 +15,8 @@ use Rattle.page.specs.Page.{records, RecOk}
 use Rattle.page.specs.Operations.{sizes, pageOf, putPage}
 use Rattle.tree.specs.State.{State, Step, done, withPage}
 use Rattle.tree.specs.Edits.{isFull, inPlace, copied, split, moved, put}
-use Rattle.tree.proofs.Split.{Fits, halves}
+use Rattle.tree.specs.Good.{Fits}
+use Rattle.tree.proofs.Split.{halves}
 use Rattle.tree_edit.specs.Steps.{recBy, madeBy}
 use Rattle.tree_edit.specs.Asked.{CanChange, CanSplit}
 use Rattle.tree_edit.specs.declared.Leaf.{Leaf}

@@ -20,9 +20,9 @@ use Rattle.image.proofs.Routing.{routed}
 use Rattle.image.proofs.CodePages.{All-at, child-two}
 use Rattle.tree.specs.State.{State}
 use Rattle.tree.specs.Edits.{indexRec, keptSep}
-use Rattle.tree.proofs.Counts.{hit, count, inside, hit-self, hit-apart, inside-most, inside-range}
-use Rattle.tree.proofs.Pages.{Shows}
-use Rattle.tree.proofs.Tree.{Good, good-entries, good-seps, good-shows, Here, leaf-here}
+use Rattle.tree.specs.Good.{hit, count, inside, Shows, Good}
+use Rattle.tree.proofs.Counts.{hit-self, hit-apart, inside-most, inside-range}
+use Rattle.tree.proofs.Tree.{good-entries, good-seps, good-shows, Here, leaf-here}
 use Rattle.tree.proofs.Moves.{leaf-apart}
 use Rattle.tree_edit.specs.Steps.{leafAt}
 use Rattle.tree_edit.specs.Asked.{AtLeaf, CanIndex}

@@ -19,12 +19,12 @@ use Rattle.image.specs.Image.{children}
 use Rattle.image.specs.Facts.{Rising}
 use Rattle.image.specs.Route.{route}
 use Rattle.image.proofs.CodeDescent.{laid-rising}
-use Rattle.edit.specs.EditList.{Edit, insert, update, delete, editOf}
-use Rattle.edit.proofs.Reading.{Proper}
+use Rattle.edit.specs.EditList.{Edit, insert, update, delete, keyOf, editOf}
+use Rattle.edit.specs.Reads.{Proper}
 use Rattle.edit.proofs.Places.{search-there, search-missing}
 use Rattle.tree.specs.State.{State, Step, refused}
-use Rattle.tree.specs.Edits.{put, dropped, editAt, keyOf, edited}
-use Rattle.tree.proofs.Tree.{Good}
+use Rattle.tree.specs.Edits.{put, dropped, editAt, edited}
+use Rattle.tree.specs.Good.{Good}
 use Rattle.tree_edit.specs.Steps.{leafAt, recBy}
 use Rattle.tree_edit.specs.Asked.{AtLeaf, CanPut, CanChange}
 use Rattle.tree_edit.specs.declared.Leaf.{Leaf}
@@ -72,28 +72,28 @@ module _ (st : State) (k : ℕ) (leaf : Leaf) (here : leaf ≡ leafAt (st .image
 
   module _ (j : ℕ) (found : s ≡ At j) where
     pub insert-present : (v : List ℕ) → refused 8 ≡ edited (insert k v) st
-    unfolding editAt keyOf
+    unfolding editAt
     insert-present v = said (At j) found (insert k v) refl
 
     pub update-there : (v : List ℕ) → put st (leaf .slot) (leaf .sep) (leaf .page) false j (recOf k v) ≡ edited (update k v) st
-    unfolding editAt keyOf
+    unfolding editAt
     update-there v = said (At j) found (update k v) refl
 
     pub delete-there : dropped st (leaf .slot) (leaf .page) j ≡ edited (delete k) st
-    unfolding editAt keyOf
+    unfolding editAt
     delete-there = said (At j) found (delete k) refl
 
   module _ (j : ℕ) (missing : s ≡ Missing j) where
     pub insert-missing : (v : List ℕ) → put st (leaf .slot) (leaf .sep) (leaf .page) true j (recOf k v) ≡ edited (insert k v) st
-    unfolding editAt keyOf
+    unfolding editAt
     insert-missing v = said (Missing j) missing (insert k v) refl
 
     pub update-missing : (v : List ℕ) → refused 9 ≡ edited (update k v) st
-    unfolding editAt keyOf
+    unfolding editAt
     update-missing v = said (Missing j) missing (update k v) refl
 
     pub delete-missing : refused 9 ≡ edited (delete k) st
-    unfolding editAt keyOf
+    unfolding editAt
     delete-missing = said (Missing j) missing (delete k) refl
 
   -- ---- what the leaf can take

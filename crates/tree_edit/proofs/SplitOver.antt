@@ -22,8 +22,8 @@ use Rattle.image.specs.Image.{children}
 use Rattle.edit.proofs.General.{all-right}
 use Rattle.tree.specs.State.{State, refused, filled}
 use Rattle.tree.specs.Edits.{keptSep, splitPoint, firstKey, split}
-use Rattle.tree.proofs.Counts.{hit, count, hit-self, inside-most}
-use Rattle.tree.proofs.Pages.{Shows}
+use Rattle.tree.specs.Good.{hit, count, Shows}
+use Rattle.tree.proofs.Counts.{hit-self, inside-most}
 use Rattle.tree.proofs.Steps.{Filled}
 use Rattle.tree_edit.specs.Steps.{recBy, madeBy, indexTwo, splitOver}
 use Rattle.tree_edit.specs.Asked.{CanChange, CanSplit, CanIndexTwo}

@@ -13,11 +13,7 @@ use Rattle.image.specs.PageZero.{pageCount}
 use Rattle.image.specs.Image.{children, reached}
 use Rattle.tree.specs.State.{State}
 use Rattle.tree.specs.Edits.{indexRec, splitPoint}
-use Rattle.tree.proofs.Counts.{hit, count, inside}
-use Rattle.tree.proofs.Sizes.{Entries}
-use Rattle.tree.proofs.Split.{Fits}
-use Rattle.tree.proofs.Pages.{Shows}
-use Rattle.tree.proofs.Tree.{Good}
+use Rattle.tree.specs.Good.{hit, count, inside, Entries, Fits, Shows, Good}
 use Rattle.tree_edit.specs.Steps.{isMarked, leafAt, recBy, madeBy}
 use Rattle.tree_edit.specs.declared.Leaf.{Leaf}
 use Rattle.tree_edit.specs.declared.Change.{Change}

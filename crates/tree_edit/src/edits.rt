@@ -20,10 +20,10 @@ ghost use Rattle.image.specs.PageZero.{pageCount};
 ghost use Rattle.image.specs.Image.{children};
 ghost use Rattle.image.specs.Route.{route};
 ghost use Rattle.edit.specs.EditList.{insert, update, delete, editOf, listed, editsOf, editList};
-ghost use Rattle.edit.proofs.Reading.{Proper};
+ghost use Rattle.edit.specs.Reads.{Proper};
 ghost use Rattle.tree.specs.Edits.{edited};
 ghost use Rattle.tree.specs.Whole.{editsFrom};
-ghost use Rattle.tree.proofs.Tree.{Good};
+ghost use Rattle.tree.specs.Good.{Good};
 ghost use Rattle.tree_edit.specs.Steps.{stateOf, outcomeOf, Says, leafAt};
 
 // The leaf that a key belongs to.

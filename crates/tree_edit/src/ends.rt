@@ -13,7 +13,7 @@ ghost use Rattle.page.specs.Layout.{pageSize};
 ghost use Rattle.image.specs.PageZero.{pageCount};
 ghost use Rattle.image.specs.Image.{reached};
 ghost use Rattle.tree.specs.Whole.{pagesFrom, editedImage};
-ghost use Rattle.tree.proofs.Tree.{Good};
+ghost use Rattle.tree.specs.Good.{Good};
 ghost use Rattle.tree_edit.specs.Steps.{isMarked, Marks, stateOf};
 ghost use Rattle.tree_edit.specs.Asked.{CanMark, CanPutBack, Spared};
 

@@ -28,8 +28,8 @@ ghost use Rattle.image.specs.PageZero.{pageCount};
 ghost use Rattle.image.specs.Image.{children};
 ghost use Rattle.tree.specs.State.{done};
 ghost use Rattle.tree.specs.Edits.{indexRec, indexed, keptSep, firstKey, copied, split, moved, put, dropped};
+ghost use Rattle.tree.specs.Good.{Fits};
 ghost use Rattle.tree_edit.specs.Steps.{stateOf, unmarked, Says, indexTwo, splitOver, recBy, madeBy};
-ghost use Rattle.tree.proofs.Split.{Fits};
 ghost use Rattle.tree_edit.specs.Asked.{CanIndex, CanIndexTwo, AtLeaf, CanChange, CanSplit};
 
 // Gives the index the record of a page, inserted as the i-th or in place of it; a full index is copied to a new page.

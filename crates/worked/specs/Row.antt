@@ -13,16 +13,12 @@ use Rattle.image.specs.PageZero.{rootOf}
 use Rattle.image.specs.Image.{reached, among}
 use Rattle.image.specs.Table.{table}
 use Rattle.image.specs.Fresh.{fresh}
-use Rattle.edit.specs.EditList.{Edit, editBytes}
+use Rattle.edit.specs.EditList.{Edit}
+use Rattle.edit.specs.Reads.{listBytes}
 use Rattle.transaction.specs.Calls.{Result, transactionCall}
 use Rattle.journal.specs.declared.Commit.{Commit}
 use Rattle.transaction.specs.declared.Transacted.{Transacted}
 use Rattle.transaction.specs.declared.Transacted.the-variants.{Accepted, Refused}
-
--- the bytes of an edit list
-unfoldable pub listBytes : List Edit → List ℕ
-listBytes [] = []
-listBytes (e ∷ es) = editBytes e ++ listBytes es
 
 -- the tape lent: longer than any of these rows needs
 unfoldable pub lentTape : List ℕ

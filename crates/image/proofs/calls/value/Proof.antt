@@ -7,7 +7,8 @@ use native.Mathlib.Nat.{add-sub-cancel-left}
 use lib.ListN.{length, take, drop}
 use Rattle.codec.specs.Lists.{part}
 use Rattle.image.specs.Calls.{valueAt, valueCall}
-use Rattle.image.proofs.Answers.{LookupSays, lookup-says}
+use Rattle.image.specs.Says.{LookupSays}
+use Rattle.image.proofs.Answers.{lookup-says}
 use borrow.Author.Needs.{needs}
 use Rattle.image.proofs.calls.value.Statement.{statement}
 use Rattle.image.proofs.calls.value.Tie as tie

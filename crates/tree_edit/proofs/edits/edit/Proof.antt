@@ -2,7 +2,7 @@
 -- Assumes nothing.
 use mathlib.Core.Path.{sym, ap, subst}
 use Rattle.edit.specs.EditList.{Edit}
-use Rattle.edit.proofs.Reading.{Proper}
+use Rattle.edit.specs.Reads.{Proper}
 use Rattle.tree.specs.Edits.{edited}
 use Rattle.tree_edit.specs.Steps.{stateOf}
 use Rattle.tree_edit.proofs.Said.{says-same}

@@ -8,7 +8,7 @@ use Rattle.page.specs.Layout.{pageSize}
 use Rattle.image.specs.PageZero.{pageCount}
 use Rattle.edit.specs.EditList.{editsOf, editList}
 use Rattle.tree.specs.Whole.{editsFrom}
-use Rattle.tree.proofs.Tree.{Good}
+use Rattle.tree.specs.Good.{Good}
 use Rattle.tree_edit.specs.Steps.{stateOf}
 use borrow.Author.Needs.{needs}
 use Rattle.tree_edit.proofs.Said.{said-refused, said-done, said-low}

@@ -1,0 +1,32 @@
+-- What an image that a failure leaves holds: what its recovery would give.
+-- Assumes nothing.
+use Prim.Native.Nat.{ℕ, zero}
+use mathlib.Core.Path.{_≡_}
+use mathlib.Core.Bool.{true}
+use mathlib.Core.List.{List, []}
+use Rattle.image.specs.PageZero.{pageCount, pageZero}
+use Rattle.image.specs.declared.PageZero.the-variants.{Waiting}
+use Rattle.journal.specs.Recovery.{logged, loggedOk, replayFrom, recoveryTape, replayable}
+use Rattle.device.specs.Tape.{Op}
+use Rattle.page.specs.Layout.{Rec}
+use Rattle.image.specs.Image.{sound}
+use Rattle.image.specs.Table.{table}
+
+-- the replayed image
+abbrev pub replay : List ℕ → List ℕ
+replay img = replayFrom img (pageZero img)
+
+-- the mark of a waits, with k logged headers and the root `root`
+pub record Waits (a : List ℕ) (k root : ℕ) : Type 0 where
+  pub zero : pageZero a ≡ Waiting k root
+  pub ok : loggedOk (pageCount a) (logged k a) ≡ true
+
+-- recovery's tape
+abbrev pub tapeOf : List ℕ → List Op
+tapeOf img = recoveryTape img (pageZero img)
+
+-- a recovery of the image gives a sound store with the table t
+pub record Holds (t : List Rec) (img : List ℕ) : Type 0 where
+  pub isReplayable : replayable img (pageZero img) ≡ true
+  pub isSound : sound (replay img) ≡ true
+  pub isTable : table (replay img) ≡ t

@@ -19,6 +19,7 @@ use Rattle.device.specs.Tape.{
   store,
   flush,
   malformed,
+  wellFormed,
   kindOf,
   placeOf,
   unit,
@@ -178,3 +179,11 @@ module _ (n : ℕ) (most : n ≤ 65536) where
 
   pub decode-whole : (cs : List Op) → All (Writable n) cs → decode n (tapeBytes cs) ≡ cs
   decode-whole cs h = ap (decode n) (sym (append-nil (tapeBytes cs))) ∙ decode-tape cs [] h ∙ ap (λ (r : List Op). cs ++ r) (decode-nil n) ∙ append-nil cs
+
+-- commands that a tape can hold are well formed
+pub writable-formed : (n : ℕ) (cs : List Op) → All (Writable n) cs → wellFormed cs ≡ true
+unfolding wellFormed
+writable-formed n [] w = refl
+writable-formed n (store p vs ∷ cs) w = writable-formed n cs (w .1)
+writable-formed n (flush l ∷ cs) w = writable-formed n cs (w .1)
+writable-formed n (malformed ∷ cs) w = absurd (w .0)

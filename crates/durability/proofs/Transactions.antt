@@ -29,69 +29,20 @@ use Rattle.transaction.specs.declared.Transacted.the-variants.{Accepted, Refuse
 use Rattle.edit.specs.EditList.{editsOf}
 use Rattle.durability.specs.Demand.{Call, onImage, commandsOn, leftBy, imageAfter, played, Feed, feedOf, feeds, ledgerAfter}
 
--- the bytes written at the front of a tape are read back
-pub front-back : (tape bytes : List ℕ) → length bytes ≤ length tape → take (length bytes) (splice tape 0 bytes) ≡ bytes
-unfolding part
-front-back tape bytes fits = part-splice-same tape 0 bytes (omega arith) (length bytes) refl
-
 -- ---- accepted
 
-module _ (a : List ℕ) (s : sound a ≡ true) (k : Call) (d : Commit) (e : onImage a k .answer ≡ Accepted d) where
-  pub run : Acceptance a (k .work) (k .tape) (k .edits)
-  run = call-accepted a (k .work) (k .tape) (k .edits) d e
-
-  -- its edited image, and the transaction to it
-  abbrev pub target : List ℕ
-  target = editedImage a (run .state)
-
-  abbrev pub taken : Taken
-  taken = takenFor a target
-
-  pub edited : Edited a target
-  edited = run .done .edited
-
-  pub edited-table : table target ≡ applyEdits (run .list) (table a)
-  edited-table = run .done .holds
-
-  pub room : roomInLog (changedPages a target) ≡ true
-  unfolding roomInLog
-  room = le-leb (length (changedPages a target)) logMost (run .few)
-
-  -- the answer, and the tape
-  pub answer-is : d ≡ commitOf taken
-  unfolding acceptedWith
-  answer-is =
-      let r : Accepted d ≡ acceptedWith taken (k .tape) .answer = sym e ∙ ap (λ (x : Result). x .answer) (run .result) in
-      cc
-
-  tape-is : onImage a k .tape ≡ splice (k .tape) 0 (tapeBytes (taken .tape))
-  unfolding acceptedWith
-  tape-is = ap (λ (x : Result). x .tape) (run .result)
-
-  -- the tape's bytes say its commands
-  pub commands-are : commandsOn a (d .bytes) (onImage a k .tape) ≡ taken .tape
-  unfolding commitOf
-  commands-are =
-      ap (λ (t : List ℕ). decode (length a) (take (d .bytes) t)) tape-is
-      ∙ ap (λ (c : Commit). decode (length a) (take (c .bytes) (splice (k .tape) 0 (tapeBytes (taken .tape))))) answer-is
-      ∙ ap (decode (length a)) (front-back (k .tape) (tapeBytes (taken .tape)) (run .fits))
-      ∙ taken-decode a target s edited room
+module _ (a : List ℕ) (k : Call) (d : Commit) (e : onImage a k .answer ≡ Accepted d) where
+  made : Makes a (k .tape) (k .edits) d (onImage a k)
+  made = demand-2 a (k .work) (k .tape) (k .edits) d e
 
   -- what it leaves is the work image
-  pub leaves-work : imageAfter a k ≡ taken .work
+  leaves-work : imageAfter a k ≡ onImage a k .work
   unfolding leftBy
-  leaves-work =
-      ap (λ (r : Transacted). leftBy a r (onImage a k .tape)) e ∙ ap (after a) commands-are ∙ taken-run a target s edited room
+  leaves-work = ap (λ (r : Transacted). leftBy a r (onImage a k .tape)) e ∙ made .leaves
 
-  accepted-sound : sound (imageAfter a k) ≡ true
-  accepted-sound = ap sound leaves-work ∙ taken-sound a target s edited room .0
-
-  accepted-table : table (imageAfter a k) ≡ applyEdits (run .list) (table a)
-  accepted-table = ap table leaves-work ∙ taken-sound a target s edited room .1 ∙ edited-table
-
-  pub accepted-feed : feedOf a k ≡ record { accepted = true; edits = run .list }
+  pub accepted-feed : feedOf a k ≡ record { accepted = true; edits = editsOf (editList (k .edits)) }
   unfolding isAccepted
-  accepted-feed = λ i. record { accepted = ap isAccepted e i; edits = ap editsOf (run .done .reads) i }
+  accepted-feed = λ i. record { accepted = ap isAccepted e i; edits = editsOf (editList (k .edits)) }
 
 -- ---- either way
 
@@ -107,11 +58,11 @@ keeps a s k l q = go (onImage a k .answer) refl
     go : (r : Transacted) → onImage a k .answer ≡ r → Kept a k l
     go (Accepted d) e =
         record {
-          isSound = accepted-sound a s k d e;
+          isSound = ap sound (leaves-work a k d e) ∙ made a k d e .isSound;
           isTable =
-              ap (λ (f : Feed). fed (f .accepted) (f .edits) l .table) (accepted-feed a s k d e)
-              ∙ ap (applyEdits (run a s k d e .list)) q
-              ∙ sym (accepted-table a s k d e);
+              ap (λ (f : Feed). fed (f .accepted) (f .edits) l .table) (accepted-feed a k d e)
+              ∙ ap (applyEdits (editsOf (editList (k .edits)))) q
+              ∙ sym (ap table (leaves-work a k d e) ∙ made a k d e .isTable);
         }
     go (Refused r) e =
         let stays : imageAfter a k ≡ a = ap (λ (x : Transacted). leftBy a x (onImage a k .tape)) e in

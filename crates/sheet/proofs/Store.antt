@@ -1,30 +1,27 @@
 -- The store that the listing shows: sound after any lines; an accepted commit makes exactly the edits that waited, a refused one none.
 -- Assumes nothing.
 use Prim.Native.Nat.{ℕ, zero, suc, _+_}
-use mathlib.Core.Path.{_≡_, refl, sym, ap, _∙_}
+use mathlib.Core.Path.{_≡_, refl, ap, _∙_}
 use mathlib.Core.Bool.{Bool, true, false}
 use mathlib.Core.List.{List, [], _∷_, _++_}
 use lib.ListN.{length, drop, replicate}
 use lib.Dec.{ltb}
-use borrow.Author.Tests.{le-leb}
 use Rattle.codec.specs.Lists.{pick}
 use Rattle.device.specs.Calls.{isImageSize}
 use Rattle.image.specs.Image.{sound}
 use Rattle.image.specs.Table.{table}
 use Rattle.image.specs.Fresh.{fresh}
-use Rattle.image.specs.PageZero.{logMost, pageCount}
+use Rattle.image.specs.PageZero.{pageCount}
 use Rattle.image.specs.Calls.{Formatted, formatCall}
 use Rattle.image.proofs.Fresh.{format-accepted, format-sound}
 use Rattle.edit.specs.EditList.{editsOf, editList}
 use Rattle.edit.specs.Ledger.{applyEdits}
-use Rattle.journal.specs.Tape.{takenFor, roomInLog}
 use Rattle.journal.specs.declared.Commit.{Commit}
-use Rattle.journal.proofs.Taken.{taken-sound}
-use Rattle.tree.specs.Whole.{editedImage}
-use Rattle.transaction.specs.Calls.{Result, acceptedWith, isAccepted}
+use Rattle.transaction.specs.Calls.{isAccepted}
+use Rattle.transaction.specs.Demand2.{Makes}
 use Rattle.transaction.specs.declared.Transacted.{Transacted}
 use Rattle.transaction.specs.declared.Transacted.the-variants as answers
-use Rattle.transaction.proofs.Answers.{call-accepted}
+use Rattle.transaction.proofs.Demand2.{demand-2}
 use Rattle.lines.specs.Form.{lineIn, lineEdit}
 use Rattle.lines.specs.declared.Line.{Line}
 use Rattle.lines.specs.declared.Line.the-variants as says
@@ -32,30 +29,23 @@ use Rattle.sheet.specs.Steps.{State, Outcome, opened, tried, commits, wa
 
 -- ---- a commit
 
-module _ (a list : List ℕ) (h : sound a ≡ true) where
-  -- the image after an accepted transaction is sound, and its table is the ledger's
-  pub tried-makes : (x : Commit) → tried a list .answer ≡ answers.Accepted x →
-      (sound (tried a list .work) ≡ true) × (table (tried a list .work) ≡ applyEdits (editsOf (editList list)) (table a))
-  unfolding tried acceptedWith roomInLog
-  tried-makes x e =
-      let A = call-accepted a (replicate 8192 0) (replicate 16384 0) list x e in
-      let w = editedImage a (A .state) in
-      let work : tried a list .work ≡ takenFor a w .work = ap (λ (r : Result). r .work) (A .result) in
-      let s = taken-sound a w h (A .done .edited) (le-leb _ logMost (A .few)) in
-      (ap sound work ∙ s .0, ap table work ∙ s .1 ∙ A .done .holds ∙ ap (λ l. applyEdits (editsOf l) (table a)) (sym (A .done .reads)))
+-- an accepted commit is an accepted transaction
+pub tried-makes : (a list : List ℕ) (x : Commit) → tried a list .answer ≡ answers.Accepted x → Makes a (replicate 16384 0) list x (tried a list)
+unfolding tried
+tried-makes a list x e = demand-2 a (replicate 8192 0) (replicate 16384 0) list x e
 
 module _ (s : State) (h : sound (s .image) ≡ true) where
   pub commits-accepted-table : (x : Commit) → tried (s .image) (s .list) .answer ≡ answers.Accepted x →
       table (commits s .image) ≡ applyEdits (editsOf (editList (s .list))) (table (s .image))
   unfolding commits isAccepted
-  commits-accepted-table x e = rw e (tried-makes (s .image) (s .list) h x e .1)
+  commits-accepted-table x e = rw e (tried-makes (s .image) (s .list) x e .isTable)
 
   pub commits-sound : sound (commits s .image) ≡ true
   unfolding commits isAccepted
   commits-sound = go (tried (s .image) (s .list) .answer) refl
     where
       go : (t : Transacted) → tried (s .image) (s .list) .answer ≡ t → sound (pick (isAccepted t) (tried (s .image) (s .list) .work) (s .image)) ≡ true
-      go (answers.Accepted x) e = tried-makes (s .image) (s .list) h x e .0
+      go (answers.Accepted x) e = tried-makes (s .image) (s .list) x e .isSound
       go (answers.Refused r) e = h
 
 -- ---- all lines

@@ -31,23 +31,12 @@ use Rattle.transaction.specs.Calls.{Result, refusedWith, acceptedWith, c
 use Rattle.journal.specs.declared.Commit.{Commit}
 use Rattle.transaction.specs.declared.Transacted.the-variants.{Accepted, Refused}
 use Rattle.transaction.specs.Answers.{Begun, Done, Answers, bad-size, bad-work, bad-image, bad-list, bad-edit, no-log, no-tape, accepted}
-use Rattle.tree.proofs.Runs.{edits-refused}
-use Rattle.tree.proofs.Accepted.{edits-accepted, edits-table}
-use Rattle.tree.proofs.Changed.{place-changed}
+use Rattle.tree.proofs.Runs.{edits-refused, grounds-refuse}
+use Rattle.tree.proofs.Numbers.{edits-numbered}
 
 -- ---- the cases, in the order of document 01
 
 module _ (a work tape bytes : List ℕ) where
-  done-facts : Begun a work → (es : List Edit) → editList bytes ≡ listed es → (st : State) → editsOn a es ≡ finished st → Done a bytes es st
-  done-facts B es reads st makes =
-      let h = check-sound a (B .checked) in
-      let P = list-proper bytes es reads in
-      record { reads = reads; makes = makes; edited = edits-accepted a h es P st makes; holds = edits-table a h es P st makes; place = changed es (list-whole bytes es reads .some) P makes }
-    where
-      changed : (es : List Edit) → 1 ≤ length es → All Proper es → editsOn a es ≡ finished st → (1 ≤ length (changedPages a (editedImage a st))) ⊎ (sameRoot a (editedImage a st) ≡ false)
-      changed [] some P makes = absurd (not-suc-le-zero some)
-      changed (e ∷ es) some P makes = place-changed a (check-sound a (B .checked)) e es P st makes
-
   pub call-answers : Answers a work tape bytes (transactionCall a work tape bytes)
   unfolding transactionCall checkedOf listOf outcomeOf committed roomInLog
   call-answers =
@@ -67,8 +56,8 @@ module _ (a work tape bytes : List ℕ) where
           (λ many. no-log B es st D (leb-false (length (changedPages a w)) logMost many))
 
       edits : Begun a work → (es : List Edit) → editList bytes ≡ listed es → (o : Outcome) → editsOn a es ≡ o → Answers a work tape bytes (outcomeOf a tape o)
-      edits B es reads (stopped k i) e = bad-edit B es reads k i e (edits-refused a (check-sound a (B .checked)) es (list-proper bytes es reads) k i e)
-      edits B es reads (finished st) e = ends B es st (done-facts B es reads st e)
+      edits B es reads (stopped k i) e = bad-edit B es reads k i (edits-numbered a es k i e .0) (edits-refused a (check-sound a (B .checked)) es (list-proper bytes es reads) k i e)
+      edits B es reads (finished st) e = ends B es st (record { reads = reads; makes = e })
 
       list : Begun a work → (l : Listed) → editList bytes ≡ l → Answers a work tape bytes (listOf a work tape l)
       list B (faulty k i) e = bad-list B k i e
@@ -93,7 +82,9 @@ module _ (a work tape bytes : List ℕ) where
   answers-call _ (bad-work e other) = rw (e, ne-eqb (length work) (length a) other)
   answers-call _ (bad-image e same r c) = rw (e, eq-eqb (length work) (length a) same, c)
   answers-call _ (bad-list B k i e) = begun-call B ∙ rw e
-  answers-call _ (bad-edit B es reads k i e g) = begun-call B ∙ rw (reads, e)
+  answers-call _ (bad-edit B es reads k i low g) =
+      let e = grounds-refuse a (check-sound a (B .checked)) es (list-proper bytes es reads) k i g (λ z. omega arith) in
+      begun-call B ∙ rw (reads, e)
   answers-call _ (no-log B es st D many) = done-call B es st D ∙ rw (lt-leb (length (changedPages a (editedImage a st))) logMost many)
   answers-call _ (no-tape B es st D few long) =
       done-call B es st D

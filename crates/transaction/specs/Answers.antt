@@ -2,7 +2,6 @@
 -- Assumes nothing.
 use Prim.Native.Nat.{ℕ, _≤_, _<_}
 use mathlib.Core.Path.{_≡_}
-use mathlib.Core.Logic.{_⊎_}
 use mathlib.Core.Bool.{true, false}
 use mathlib.Core.List.{List, []}
 use lib.ListN.{length}
@@ -11,18 +10,15 @@ use Rattle.device.specs.Calls.{isImageSize}
 use Rattle.device.specs.declared.Refusal.{Refusal}
 use Rattle.device.specs.declared.Answer.the-variants as answers
 use Rattle.image.specs.PageZero.{logMost}
-use Rattle.image.specs.Table.{table}
 use Rattle.image.specs.Calls.{checkCall}
 use Rattle.edit.specs.EditList.{Edit, listed, faulty, editList}
-use Rattle.edit.specs.Ledger.{applyEdits}
-use Rattle.journal.specs.Changes.{changedPages, sameRoot}
+use Rattle.journal.specs.Changes.{changedPages}
 use Rattle.journal.specs.Tape.{takenFor}
-use Rattle.journal.specs.Edited.{Edited}
 use Rattle.tree.specs.State.{State}
-use Rattle.tree.specs.Whole.{finished, stopped, editsOn, editedImage}
+use Rattle.tree.specs.Whole.{finished, editsOn, editedImage}
 use Rattle.tree.specs.Grounds.{Grounds}
 use Rattle.transaction.specs.Calls.{Result, refusedWith, acceptedWith}
-use Rattle.transaction.specs.declared.Transacted.the-variants.{Accepted, Refused}
+use Rattle.transaction.specs.declared.Transacted.the-variants.{Refused}
 
 -- 1, 2 and check's refusals do not hold
 pub record Begun (a work : List ℕ) : Type 0 where
@@ -30,21 +26,19 @@ pub record Begun (a work : List ℕ) : Type 0 where
   pub same : length work ≡ length a
   pub checked : checkCall a ≡ answers.Accepted
 
--- nor do 5 to 11: the edits es lead to the edited image
+-- nor do 5 to 11: the list is read as the edits es, which lead to the state st
 pub record Done (a bytes : List ℕ) (es : List Edit) (st : State) : Type 0 where
   pub reads : editList bytes ≡ listed es
   pub makes : editsOn a es ≡ finished st
-  pub edited : Edited a (editedImage a st)
-  pub holds : table (editedImage a st) ≡ applyEdits es (table a)
-  pub place : (1 ≤ length (changedPages a (editedImage a st))) ⊎ (sameRoot a (editedImage a st) ≡ false)
 
+-- the result with its ground, the first that holds
 pub data Answers (a work tape bytes : List ℕ) : Result → Type 0 where
   bad-size : isImageSize (length a) ≡ false → Answers a work tape bytes (refusedWith 1 0 work tape)
   bad-work : isImageSize (length a) ≡ true → (length work ≡ length a → ⊥) → Answers a work tape bytes (refusedWith 2 0 work tape)
   bad-image : isImageSize (length a) ≡ true → length work ≡ length a → (r : Refusal) → checkCall a ≡ answers.Refused r →
       Answers a work tape bytes (record { answer = Refused r; work = work; tape = tape })
   bad-list : Begun a work → (k i : ℕ) → editList bytes ≡ faulty k i → Answers a work tape bytes (refusedWith k i work tape)
-  bad-edit : Begun a work → (es : List Edit) → editList bytes ≡ listed es → (k i : ℕ) → editsOn a es ≡ stopped k i → Grounds a es k i → Answers a work tape bytes (refusedWith k i a tape)
+  bad-edit : Begun a work → (es : List Edit) → editList bytes ≡ listed es → (k i : ℕ) → 8 ≤ k → Grounds a es k i → Answers a work tape bytes (refusedWith k i a tape)
   no-log : Begun a work → (es : List Edit) (st : State) → Done a bytes es st → logMost < length (changedPages a (editedImage a st)) → Answers a work tape bytes (refusedWith 12 0 a tape)
   no-tape : Begun a work → (es : List Edit) (st : State) → Done a bytes es st → length (changedPages a (editedImage a st)) ≤ logMost →
       length tape < length (tapeBytes (takenFor a (editedImage a st) .tape)) → Answers a work tape bytes (refusedWith 13 0 a tape)

@@ -3,10 +3,10 @@
 use Prim.Native.Nat.{ℕ}
 use mathlib.Core.Bool.{Bool, true, false}
 use mathlib.Core.List.{List}
-use lib.ListN.{length}
+use lib.ListN.{length, take}
 use lib.Dec.{eqb, leb}
 use Rattle.codec.specs.Lists.{splice, pick}
-use Rattle.device.specs.Tape.{tapeBytes}
+use Rattle.device.specs.Tape.{Op, decode, tapeBytes}
 use Rattle.device.specs.Calls.{imageSize, workSize, logFull, tapeShort, isImageSize}
 use Rattle.device.specs.declared.Answer.{Answer}
 use Rattle.device.specs.declared.Answer.the-variants as answers
@@ -28,6 +28,10 @@ pub record Result : Type 0 where
   pub answer : Transacted
   pub work : List ℕ
   pub tape : List ℕ
+
+-- the commands that the first `bytes` bytes of a tape hold, those that an accepted call used
+abbrev pub commandsOn : List ℕ → ℕ → List ℕ → List Op
+commandsOn a bytes tape = decode (length a) (take bytes tape)
 
 -- "A refusal gives its number and edit number from 0 (0 unless 5 to 11 in a transaction). The tape stays."
 unfoldable pub refusedWith : ℕ → ℕ → List ℕ → List ℕ → Result

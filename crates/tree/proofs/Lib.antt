@@ -18,3 +18,4 @@ pub mod PutBack
 pub mod Accepted
 pub mod Changed
 pub mod Reasons
+pub mod Numbers

@@ -1,0 +1,143 @@
+-- Demand 2 of the call: an accepted transaction leaves a sound work image with the ledger's table, which its tape gives.
+-- Assumes nothing.
+use Prim.Native.Nat.{ℕ, _≤_}
+use mathlib.Core.Path.{_≡_, refl, sym, ap, _∙_}
+use mathlib.Core.Logic.{_⊎_}
+use mathlib.Core.Bool.{true, false}
+use mathlib.Core.List.{List, [], _∷_}
+use native.Mathlib.Nat.{not-suc-le-zero}
+use native.Mathlib.Omega.{arith}
+use lib.ListN.{length, take, drop}
+use borrow.Author.Tests.{le-leb, eq-eqb}
+use Rattle.codec.specs.Lists.{All, part, splice}
+use Rattle.codec.proofs.Lists.{part-splice-same, drop-splice}
+use Rattle.device.specs.Tape.{decode, tapeBytes, wellFormed, flushCount}
+use Rattle.device.specs.Cut.{after}
+use Rattle.device.specs.Calls.{accepted, unless, runCall}
+use Rattle.device.proofs.Encode.{writable-formed}
+use Rattle.image.specs.PageZero.{logMost}
+use Rattle.image.specs.Image.{sound}
+use Rattle.image.specs.Table.{table}
+use Rattle.image.proofs.Answers.{check-sound}
+use Rattle.edit.specs.EditList.{Edit, listed, editsOf, editList}
+use Rattle.edit.specs.Reads.{Proper}
+use Rattle.edit.specs.Ledger.{applyEdits}
+use Rattle.edit.proofs.Parsing.{list-whole, list-proper}
+use Rattle.journal.specs.Changes.{changedPages, sameRoot}
+use Rattle.journal.specs.Tape.{Taken, commitOf, roomInLog, takenFor}
+use Rattle.journal.specs.Edited.{Edited}
+use Rattle.journal.specs.declared.Commit.{Commit}
+use Rattle.journal.proofs.Taken.{taken-run, taken-sound}
+use Rattle.journal.proofs.Fitting.{taken-fits, taken-decode}
+use Rattle.tree.specs.Whole.{finished, editsOn, editedImage}
+use Rattle.tree.proofs.Accepted.{edits-accepted, edits-table}
+use Rattle.tree.proofs.Changed.{place-changed}
+use Rattle.transaction.specs.Calls.{Result, acceptedWith, commandsOn, transactionCall}
+use Rattle.transaction.specs.Demand2.{Makes, Demand2}
+use Rattle.transaction.specs.declared.Transacted.the-variants.{Accepted}
+use Rattle.transaction.proofs.Answers.{Acceptance, call-accepted}
+
+module _ (a work tape bytes : List ℕ) (c : Commit) (e : transactionCall a work tape bytes .answer ≡ Accepted c) where
+  pub acceptance : Acceptance a work tape bytes
+  acceptance = call-accepted a work tape bytes c e
+
+  was-sound : sound a ≡ true
+  was-sound = check-sound a (acceptance .begun .checked)
+
+  proper : All Proper (acceptance .list)
+  proper = list-proper bytes (acceptance .list) (acceptance .done .reads)
+
+  -- its edited image, and the transaction to it
+  abbrev pub target : List ℕ
+  target = editedImage a (acceptance .state)
+
+  abbrev pub taken : Taken
+  taken = takenFor a target
+
+  pub target-edited : Edited a target
+  target-edited = edits-accepted a was-sound (acceptance .list) proper (acceptance .state) (acceptance .done .makes)
+
+  -- the edits made are those of the list
+  list-is : acceptance .list ≡ editsOf (editList bytes)
+  list-is = sym (ap editsOf (acceptance .done .reads))
+
+  pub target-table : table target ≡ applyEdits (editsOf (editList bytes)) (table a)
+  target-table =
+      edits-table a was-sound (acceptance .list) proper (acceptance .state) (acceptance .done .makes) ∙ ap (λ (es : List Edit). applyEdits es (table a)) list-is
+
+  pub room : roomInLog (changedPages a target) ≡ true
+  unfolding roomInLog
+  room = le-leb (length (changedPages a target)) logMost (acceptance .few)
+
+  -- a header or the root word differs
+  pub place-differs : (1 ≤ length (changedPages a target)) ⊎ (sameRoot a target ≡ false)
+  place-differs = go (acceptance .list) (list-whole bytes (acceptance .list) (acceptance .done .reads) .some) proper (acceptance .done .makes)
+    where
+      go : (es : List Edit) → 1 ≤ length es → All Proper es → editsOn a es ≡ finished (acceptance .state) → (1 ≤ length (changedPages a target)) ⊎ (sameRoot a target ≡ false)
+      go [] some P q = absurd (not-suc-le-zero some)
+      go (x ∷ es) some P q = place-changed a was-sound x es P (acceptance .state) q
+
+  -- the answer, and what the buffers hold
+  pub answer-is : c ≡ commitOf taken
+  unfolding acceptedWith
+  answer-is =
+      let r : Accepted c ≡ acceptedWith taken tape .answer = sym e ∙ ap (λ (x : Result). x .answer) (acceptance .result) in
+      cc
+
+  work-is : transactionCall a work tape bytes .work ≡ taken .work
+  unfolding acceptedWith
+  work-is = ap (λ (x : Result). x .work) (acceptance .result)
+
+  tape-is : transactionCall a work tape bytes .tape ≡ splice tape 0 (tapeBytes (taken .tape))
+  unfolding acceptedWith
+  tape-is = ap (λ (x : Result). x .tape) (acceptance .result)
+
+  bytes-are : c .bytes ≡ length (tapeBytes (taken .tape))
+  unfolding commitOf
+  bytes-are = ap (λ (x : Commit). x .bytes) answer-is
+
+  -- the bytes used say the commands
+  used-are : take (c .bytes) (transactionCall a work tape bytes .tape) ≡ tapeBytes (taken .tape)
+  unfolding part
+  used-are =
+      ap (take (c .bytes)) tape-is
+      ∙ ap (λ (n : ℕ). take n (splice tape 0 (tapeBytes (taken .tape)))) bytes-are
+      ∙ part-splice-same tape 0 (tapeBytes (taken .tape)) (omega (arith, acceptance .fits)) (length (tapeBytes (taken .tape))) refl
+
+  pub commands-are : commandsOn a (c .bytes) (transactionCall a work tape bytes .tape) ≡ taken .tape
+  commands-are = ap (decode (length a)) used-are ∙ taken-decode a target was-sound target-edited room
+
+  leaves : after a (commandsOn a (c .bytes) (transactionCall a work tape bytes .tape)) ≡ transactionCall a work tape bytes .work
+  leaves = ap (after a) commands-are ∙ taken-run a target was-sound target-edited room ∙ sym work-is
+
+  formed : wellFormed (commandsOn a (c .bytes) (transactionCall a work tape bytes .tape)) ≡ true
+  formed = ap wellFormed commands-are ∙ writable-formed (length a) (taken .tape) (taken-fits a target was-sound target-edited room)
+
+  runs : (buffer : List ℕ) → length buffer ≡ length a → runCall a buffer (take (c .bytes) (transactionCall a work tape bytes .tape)) ≡ accepted (transactionCall a work tape bytes .work)
+  unfolding runCall unless
+  runs buffer same = rw (acceptance .begun .size, eq-eqb (length buffer) (length a) same, formed) (ap accepted leaves)
+
+  flushes : c .flushes ≡ flushCount (commandsOn a (c .bytes) (transactionCall a work tape bytes .tape))
+  unfolding commitOf
+  flushes = ap (λ (x : Commit). x .flushes) answer-is ∙ ap flushCount (sym commands-are)
+
+  past : drop (c .bytes) (transactionCall a work tape bytes .tape) ≡ drop (c .bytes) tape
+  past = ap (drop (c .bytes)) tape-is ∙ drop-splice tape 0 (tapeBytes (taken .tape)) (omega (arith, acceptance .fits)) (c .bytes) (omega (arith, bytes-are))
+
+  makes : Makes a tape bytes c (transactionCall a work tape bytes)
+  makes =
+      let s = taken-sound a target was-sound target-edited room in
+      record {
+        wasSound = was-sound;
+        reads = acceptance .done .reads ∙ ap listed list-is;
+        isSound = ap sound work-is ∙ s .0;
+        isTable = ap table work-is ∙ s .1 ∙ target-table;
+        leaves = leaves;
+        runs = runs;
+        flushes = flushes;
+        used = omega (arith, bytes-are, acceptance .fits);
+        past = past;
+      }
+
+pub demand-2 : Demand2
+demand-2 = makes

@@ -46,7 +46,7 @@ module _ (before after a w : List ℕ) where
   abbrev from : ℕ → ℕ → List ℕ
   from n p = changedFrom before after a w n p
 
-  abbrev pub Passed : ℕ → Type 0
+  abbrev Passed : ℕ → Type 0
   Passed p = ((among p before && among p after) ≡ false) ⊎ (headerLine a p ≡ headerLine w p)
 
   -- what holds of the empty list, is kept past a page that is not listed, and by one that is, holds of the list

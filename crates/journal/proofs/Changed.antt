@@ -50,7 +50,7 @@ module _ (before after a w : List ℕ) where
   Passed p = ((among p before && among p after) ≡ false) ⊎ (headerLine a p ≡ headerLine w p)
 
   -- what holds of the empty list, is kept past a page that is not listed, and by one that is, holds of the list
-  from-all : (P : ℕ → ℕ → List ℕ → Type 0) →
+  pub from-all : (P : ℕ → ℕ → List ℕ → Type 0) →
       ((p : ℕ) → P zero p []) →
       ((n p : ℕ) (qs : List ℕ) → Passed p → P n (suc p) qs → P (suc n) p qs) →
       ((n p : ℕ) (qs : List ℕ) → (among p before && among p after) ≡ true → P n (suc p) qs → P (suc n) p (p ∷ qs)) →

@@ -10,3 +10,6 @@ pub mod OnePlace
 pub mod ByLog
 pub mod Taken
 pub mod Fitting
+pub mod Rising
+pub mod Order
+pub mod Stated

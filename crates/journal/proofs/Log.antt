@@ -22,7 +22,7 @@ use Rattle.journal.proofs.Headers.{Lines}
 
 -- ---- from line l on
 
-log-flushing : (l : ℕ) (hs : List (List ℕ)) → Flushing (logStores l hs) (logFlushes l hs)
+pub log-flushing : (l : ℕ) (hs : List (List ℕ)) → Flushing (logStores l hs) (logFlushes l hs)
 unfolding logStores logFlushes
 log-flushing l [] = flushing-none
 log-flushing l (h ∷ hs) =

@@ -43,7 +43,7 @@ flushing-from l (store p vs ∷ cs) = go (eqb l (p / lineSize)) refl (flushing-f
     go true e h = (flushing-past (store p vs) cs rest (h .1) (h .0), ap (λ (m : ℕ). flushed m rest) (eqb-true l (p / lineSize) e) ∙ h .1)
     go false e h = (flushing-flush l (store p vs ∷ cs) rest (flushing-past (store p vs) cs rest (h .1) (h .0)), flushed-first l rest)
 
-flushing-of : (cs : List Op) → Flushing cs (flushesOf cs)
+pub flushing-of : (cs : List Op) → Flushing cs (flushesOf cs)
 unfolding flushesOf
 flushing-of [] = flushing-none
 flushing-of (flush m ∷ cs) = flushing-past (flush m) cs (flushesOf cs) tt (flushing-of cs)

@@ -5,3 +5,4 @@ pub mod Recovery
 pub mod Edited
 pub mod Commit
 pub mod Holds
+pub mod Order

@@ -9,9 +9,9 @@ use native.Mathlib.Nat.{not-suc-le-zero}
 use native.Mathlib.Omega.{arith}
 use lib.ListN.{length, take, drop}
 use borrow.Author.Tests.{le-leb, eq-eqb}
-use Rattle.codec.specs.Lists.{All, part, splice}
-use Rattle.codec.proofs.Lists.{part-splice-same, drop-splice}
-use Rattle.device.specs.Tape.{decode, tapeBytes, wellFormed, flushCount}
+use Rattle.codec.specs.Lists.{All, splice}
+use Rattle.codec.proofs.Lists.{drop-splice}
+use Rattle.device.specs.Tape.{tapeBytes, wellFormed, flushCount}
 use Rattle.device.specs.Cut.{after}
 use Rattle.device.specs.Calls.{accepted, unless, runCall}
 use Rattle.device.proofs.Encode.{writable-formed}
@@ -28,7 +28,8 @@ use Rattle.journal.specs.Tape.{Taken, commitOf, roomInLog, takenFor}
 use Rattle.journal.specs.Edited.{Edited}
 use Rattle.journal.specs.declared.Commit.{Commit}
 use Rattle.journal.proofs.Taken.{taken-run, taken-sound}
-use Rattle.journal.proofs.Fitting.{taken-fits, taken-decode}
+use Rattle.journal.proofs.Fitting.{taken-fits}
+use Rattle.journal.proofs.Stated.{commit-reads}
 use Rattle.tree.specs.Whole.{finished, editsOn, editedImage}
 use Rattle.tree.proofs.Accepted.{edits-accepted, edits-table}
 use Rattle.tree.proofs.Changed.{place-changed}
@@ -97,15 +98,11 @@ module _ (a work tape bytes : List ℕ) (c : Commit) (e : transactionCall a work
   bytes-are = ap (λ (x : Commit). x .bytes) answer-is
 
   -- the bytes used say the commands
-  used-are : take (c .bytes) (transactionCall a work tape bytes .tape) ≡ tapeBytes (taken .tape)
-  unfolding part
-  used-are =
-      ap (take (c .bytes)) tape-is
-      ∙ ap (λ (n : ℕ). take n (splice tape 0 (tapeBytes (taken .tape)))) bytes-are
-      ∙ part-splice-same tape 0 (tapeBytes (taken .tape)) (omega (arith, acceptance .fits)) (length (tapeBytes (taken .tape))) refl
-
   pub commands-are : commandsOn a (c .bytes) (transactionCall a work tape bytes .tape) ≡ taken .tape
-  commands-are = ap (decode (length a)) used-are ∙ taken-decode a target was-sound target-edited room
+  commands-are =
+      ap (commandsOn a (c .bytes)) tape-is
+      ∙ ap (λ (x : Commit). commandsOn a (x .bytes) (splice tape 0 (tapeBytes (taken .tape)))) answer-is
+      ∙ commit-reads a target was-sound target-edited room tape (acceptance .fits) .0
 
   leaves : after a (commandsOn a (c .bytes) (transactionCall a work tape bytes .tape)) ≡ transactionCall a work tape bytes .work
   leaves = ap (after a) commands-are ∙ taken-run a target was-sound target-edited room ∙ sym work-is

@@ -1,16 +1,16 @@
 -- Demand 3: what a store holds after a list of transactions, a power failure in the next one, and a list of recoveries
 -- (document 01, 'The plain ledger', and the desk's third demand).
 -- Assumes nothing.
-use Prim.Native.Nat.{ℕ, suc, _*_, _≤_, _<_}
+use Prim.Native.Nat.{ℕ, suc, _+_, _*_, _≤_, _<_}
 use mathlib.Core.Path.{_≡_}
 use mathlib.Core.Logic.{_⊎_}
-use mathlib.Core.Bool.{Bool, true}
+use mathlib.Core.Bool.{Bool, true, false}
 use mathlib.Core.List.{List, [], _∷_, _++_}
 use lib.ListN.{length, take, drop}
 use lib.Dec.{eqb}
 use Rattle.codec.specs.Lists.{pick}
 use Rattle.device.specs.Tape.{Op, store, flush, malformed, decode, tapeBytes}
-use Rattle.device.specs.Cut.{after, cutImage, flushed, lineOf}
+use Rattle.device.specs.Cut.{after, cutImage, flushed, lineOf, touches}
 use Rattle.device.specs.Calls.{workSize, tapeShort}
 use Rattle.page.specs.Layout.{pageSize, Rec}
 use Rattle.image.specs.PageZero.{pageZero}
@@ -112,6 +112,20 @@ Issued place cs c = commitAt place cs < c
 
 abbrev pub Flushed : CommitPlace → List Op → ℕ → Type 0
 Flushed place cs c = flushed (lineOf (placeOffset place)) (drop (suc (commitAt place cs)) (take c cs)) ≡ true
+
+-- The commit store stands on the tape cs with its own flush next, and the two words above mean what they say: it is issued once its command
+-- is among the first c, and not before; it is flushed once its own flush is, and not before.
+pub record CommitStands (place : CommitPlace) (cs : List Op) : Type 0 where
+  pub before : List Op
+  pub bytes : List ℕ
+  pub rest : List Op
+  pub shape : cs ≡ before ++ (store (placeOffset place) bytes ∷ flush (lineOf (placeOffset place)) ∷ rest)
+  -- "the mark's first store": no command before it stores there
+  pub first : touches before (placeOffset place) ≡ false
+  pub issued : (c : ℕ) → Issued place cs c → length before + 1 ≤ c
+  pub issues : (c : ℕ) → length before + 1 ≤ c → Issued place cs c
+  pub flushed : (c : ℕ) → Flushed place cs c → length before + 2 ≤ c
+  pub flushes : (c : ℕ) → length before + 2 ≤ c → Flushed place cs c
 
 -- ---- recoveries
 

@@ -1,30 +1,44 @@
 -- Demand 3: after any list of transactions, a power failure at any command of the next accepted one, and any recoveries, the store holds
 -- exactly the transactions that it must.
 -- Assumes nothing.
-use Prim.Native.Nat.{ℕ, suc, _+_, _≤_, _<_}
-use mathlib.Core.Path.{_≡_, refl, sym, ap, _∙_, subst}
+use Prim.Native.Nat.{ℕ, suc, _+_, _≤_}
+use mathlib.Core.Path.{_≡_, refl, sym, ap, ap₂, _∙_, subst}
 use mathlib.Core.Logic.{_⊎_, inl, inr}
-use mathlib.Core.Bool.{Bool, true, false}
+use mathlib.Core.Bool.{true}
 use mathlib.Core.List.{List, [], _∷_, _++_}
 use native.Mathlib.Decide.{decLe}
 use native.Mathlib.Omega.{arith}
 use lib.ListN.{length}
+use Rattle.codec.specs.Lists.{pick}
 use Rattle.device.specs.Tape.{Op}
-use Rattle.device.specs.Cut.{cutImage, lineOf}
+use Rattle.device.specs.Cut.{cutImage}
 use Rattle.page.specs.Layout.{Rec}
 use Rattle.image.specs.Image.{sound}
 use Rattle.image.specs.Table.{table}
-use Rattle.edit.specs.Ledger.{Ledger, opened, applyEdits}
-use Rattle.journal.specs.Tape.{commitOf}
+use Rattle.edit.specs.Ledger.{opened, applyEdits, Feed, ledgerAfter, tableAt, acceptedOf}
+use Rattle.edit.proofs.Counts.{ledger-count, table-last, table-next}
 use Rattle.journal.proofs.Taken.{txn-before, txn-between, txn-after}
 use Rattle.journal.specs.declared.Commit.{Commit}
 use Rattle.journal.specs.Holds.{Holds}
+use Rattle.transaction.specs.Calls.{isAccepted}
 use Rattle.transaction.specs.declared.Transacted.the-variants as transacted
-use Rattle.durability.specs.Demand.{Call, onImage, played, Feed, feedOf, feeds, ledgerAfter, tableAt, Attempt, attemptedAll, placeOffset, commitAt, Issued, Flushed, before, commands, failed, last, history, ledger, accepted, Survives, Demand3}
-use Rattle.durability.proofs.Counts.{table-last, table-next}
-use Rattle.durability.proofs.Transactions.{run, target, taken, edited, edited-table, room, answer-is, commands-are, accepted-feed, played-sound, played-table}
+use Rattle.durability.specs.Demand.{Call, onImage, played, imageAfter, acceptedIn, feedOf, feeds, Attempt, Issued, Flushed, CommitStands, before, commands, failed, last, history, ledger, accepted, Survives, Demand3}
+use Rattle.durability.proofs.Transactions.{run, target, taken, edited, edited-table, room, commands-are, accepted-feed, played-sound, played-table}
 use Rattle.durability.proofs.Attempts.{holds-allowed, holds-accepted, completed, attempts-hold, attempts-allowed}
-use Rattle.durability.proofs.Committed.{commit-found, flushed-late}
+use Rattle.durability.proofs.Committed.{commit-at}
+
+-- ---- n
+
+-- the accepted ones among the feeds are those of the list
+pub accepted-feeds : (a : List ℕ) (ks : List Call) → acceptedOf (feeds a ks) ≡ acceptedIn a ks
+unfolding acceptedOf feeds acceptedIn
+accepted-feeds a [] = refl
+accepted-feeds a (k ∷ ks) = ap (λ (n : ℕ). pick (isAccepted (onImage a k .answer)) 1 0 + n) (accepted-feeds (imageAfter a k) ks)
+
+pub count-accepted : (a : List ℕ) (ks : List Call) → ledgerAfter (opened (table a)) (feeds a ks) .count ≡ acceptedIn a ks
+count-accepted a ks = ledger-count (table a) (feeds a ks) ∙ accepted-feeds a ks
+
+-- ---- every cut
 
 module _ (a : List ℕ) (ks : List Call) (k : Call) (c : ℕ) (f : ℕ → ℕ) (xs : List Attempt) (d : Commit) (s : sound a ≡ true)
     (e : onImage (played a ks) k .answer ≡ transacted.Accepted d) where
@@ -45,22 +59,21 @@ module _ (a : List ℕ) (ks : List Call) (k : Call) (c : ℕ) (f : ℕ → ℕ) 
 
   -- the ledger's tables at n and at n + 1
   table-n : table img ≡ tableAt n (ledger a ks k c f xs d) (history a ks k c f xs d)
-  table-n = sym (played-table ks a s (opened (table a)) refl) ∙ sym (table-last (opened (table a)) (feeds a ks) (feedOf img k ∷ []))
+  table-n =
+      sym (played-table ks a s (opened (table a)) refl)
+      ∙ sym (table-last (opened (table a)) (feeds a ks) (feedOf img k ∷ []))
+      ∙ ap (λ (j : ℕ). tableAt j (opened (table a)) (history a ks k c f xs d)) (count-accepted a ks)
 
   table-more : table w ≡ tableAt (suc n) (ledger a ks k c f xs d) (history a ks k c f xs d)
   table-more =
       edited-table img sound-img k d e
       ∙ ap (applyEdits (run img sound-img k d e .list)) (sym (played-table ks a s (opened (table a)) refl))
       ∙ sym (table-next (opened (table a)) (feeds a ks) (run img sound-img k d e .list))
-      ∙ ap (λ (g : Feed). tableAt (suc n) (opened (table a)) (feeds a ks ++ (g ∷ []))) (sym (accepted-feed img sound-img k d e))
+      ∙ ap₂ (λ (j : ℕ) (g : Feed). tableAt (suc j) (opened (table a)) (feeds a ks ++ (g ∷ []))) (count-accepted a ks) (sym (accepted-feed img sound-img k d e))
 
-  -- the commit store is found where it was put
-  found : commitAt (d .place) cs ≡ taken img sound-img k d e .commitAt
-  unfolding commitOf
-  found =
-      ap (commitAt (d .place)) (commands-are img sound-img k d e)
-      ∙ ap (λ (x : Commit). commitAt (x .place) (taken img sound-img k d e .tape)) (answer-is img sound-img k d e)
-      ∙ commit-found img w sound-img (edited img sound-img k d e) (room img sound-img k d e)
+  -- the commit store stands where it was put
+  at : (z : CommitStands (d .place) cs) × (length (z .before) ≡ taken img sound-img k d e .commitAt)
+  at = commit-at img sound-img k d e
 
   failed-is : failed a ks k c f xs d ≡ cutImage img f c (taken img sound-img k d e .tape)
   failed-is = ap (cutImage img f c) (commands-are img sound-img k d e)
@@ -95,7 +108,7 @@ module _ (a : List ℕ) (ks : List Call) (k : Call) (c : ℕ) (f : ℕ → ℕ) 
       (subst (λ (t : List Rec). Holds t (failed a ks k c f xs d)) table-more (subst (Holds (table w)) (sym failed-is) h))
 
   late : Flushed (d .place) cs c → taken img sound-img k d e .commitAt + 2 ≤ c
-  late g = omega (arith, flushed-late (lineOf (placeOffset (d .place))) (commitAt (d .place) cs) c cs g, found)
+  late g = omega (arith, at .0 .flushed c g, at .1)
 
   all-cuts : Survives a ks k c f xs d
   all-cuts = go (decLe c (taken img sound-img k d e .commitAt)) (decLe c (taken img sound-img k d e .commitAt + 1))
@@ -107,9 +120,9 @@ module _ (a : List ℕ) (ks : List Call) (k : Call) (c : ℕ) (f : ℕ → ℕ) 
         where
           between : Holds (table img) (cutImage img f c (taken img sound-img k d e .tape)) ⊎ Holds (table w) (cutImage img f c (taken img sound-img k d e .tape)) → Survives a ks k c f xs d
           between (inl z) = old z (λ g. omega (arith, late g))
-          between (inr z) = new z (omega (arith, found))
+          between (inr z) = new z (at .0 .issues c (omega (arith, at .1)))
       go (no h) (no q) =
-          new (txn-after img w sound-img (edited img sound-img k d e) (room img sound-img k d e) f c (omega arith)) (omega (arith, found))
+          new (txn-after img w sound-img (edited img sound-img k d e) (room img sound-img k d e) f c (omega arith)) (at .0 .issues c (omega (arith, at .1)))
 
 pub demand-3 : Demand3
 demand-3 = all-cuts

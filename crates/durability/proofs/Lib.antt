@@ -1,6 +1,6 @@
 pub mod Recovered
-pub mod Counts
 pub mod Transactions
 pub mod Attempts
 pub mod Committed
 pub mod Demand3
+pub mod Days

@@ -13,7 +13,7 @@ use Rattle.device.specs.Tape.{decode, tapeBytes}
 use Rattle.device.specs.Cut.{after}
 use Rattle.image.specs.Image.{sound}
 use Rattle.image.specs.Table.{table}
-use Rattle.edit.specs.Ledger.{Ledger, applyEdits, fed}
+use Rattle.edit.specs.Ledger.{Ledger, applyEdits, fed, Feed, ledgerAfter}
 use Rattle.image.specs.PageZero.{logMost}
 use Rattle.journal.specs.Changes.{changedPages}
 use Rattle.journal.specs.Tape.{Taken, commitOf, roomInLog, takenFor}
@@ -27,7 +27,7 @@ use Rattle.journal.specs.declared.Commit.{Commit}
 use Rattle.transaction.specs.declared.Transacted.{Transacted}
 use Rattle.transaction.specs.declared.Transacted.the-variants.{Accepted, Refused}
 use Rattle.edit.specs.EditList.{editsOf}
-use Rattle.durability.specs.Demand.{Call, onImage, commandsOn, leftBy, imageAfter, played, Feed, feedOf, feeds, ledgerAfter}
+use Rattle.durability.specs.Demand.{Call, onImage, commandsOn, leftBy, imageAfter, played, feedOf, feeds}
 
 -- ---- accepted
 

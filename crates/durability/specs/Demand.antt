@@ -1,23 +1,23 @@
 -- Demand 3: what a store holds after a list of transactions, a power failure in the next one, and a list of recoveries
 -- (document 01, 'The plain ledger', and the desk's third demand).
 -- Assumes nothing.
-use Prim.Native.Nat.{ℕ, suc, _*_, _≤_, _<_}
+use Prim.Native.Nat.{ℕ, suc, _+_, _*_, _≤_, _<_}
 use mathlib.Core.Path.{_≡_}
 use mathlib.Core.Logic.{_⊎_}
-use mathlib.Core.Bool.{Bool, true}
+use mathlib.Core.Bool.{true, false}
 use mathlib.Core.List.{List, [], _∷_, _++_}
 use lib.ListN.{length, take, drop}
 use lib.Dec.{eqb}
 use Rattle.codec.specs.Lists.{pick}
 use Rattle.device.specs.Tape.{Op, store, flush, malformed, decode, tapeBytes}
-use Rattle.device.specs.Cut.{after, cutImage, flushed, lineOf}
+use Rattle.device.specs.Cut.{after, cutImage, flushed, lineOf, touches}
 use Rattle.device.specs.Calls.{workSize, tapeShort}
-use Rattle.page.specs.Layout.{pageSize, Rec}
+use Rattle.page.specs.Layout.{pageSize}
 use Rattle.image.specs.PageZero.{pageZero}
 use Rattle.image.specs.Image.{sound}
 use Rattle.image.specs.Table.{table}
-use Rattle.edit.specs.EditList.{Edit, editsOf, editList}
-use Rattle.edit.specs.Ledger.{Ledger, opened, fed}
+use Rattle.edit.specs.EditList.{editsOf, editList}
+use Rattle.edit.specs.Ledger.{Ledger, opened, Feed, tableAt}
 use Rattle.journal.specs.Recovery.{recoveryTape}
 use Rattle.journal.specs.declared.CommitPlace.{CommitPlace}
 use Rattle.journal.specs.declared.CommitPlace.the-variants.{Header, Root, Log}
@@ -59,28 +59,20 @@ unfoldable pub played : List ℕ → List Call → List ℕ
 played a [] = a
 played a (k ∷ ks) = played (imageAfter a k) ks
 
+-- how many of them are accepted
+unfoldable pub acceptedIn : List ℕ → List Call → ℕ
+acceptedIn a [] = 0
+acceptedIn a (k ∷ ks) = pick (transaction.isAccepted (onImage a k .answer)) 1 0 + acceptedIn (imageAfter a k) ks
+
 -- ---- the ledger beside it
 
 -- "It is fed each transaction's edit list and whether it was accepted"
-pub record Feed : Type 0 where
-  pub accepted : Bool
-  pub edits : List Edit
-
 abbrev pub feedOf : List ℕ → Call → Feed
 feedOf a k = record { accepted = transaction.isAccepted (onImage a k .answer); edits = editsOf (editList (k .edits)) }
 
 unfoldable pub feeds : List ℕ → List Call → List Feed
 feeds a [] = []
 feeds a (k ∷ ks) = feedOf a k ∷ feeds (imageAfter a k) ks
-
-unfoldable pub ledgerAfter : Ledger → List Feed → Ledger
-ledgerAfter l [] = l
-ledgerAfter l (f ∷ fs) = ledgerAfter (fed (f .accepted) (f .edits) l) fs
-
--- "the ledger's at count j": its table while it is fed, when its count is j
-unfoldable pub tableAt : ℕ → Ledger → List Feed → List Rec
-tableAt j l [] = l .table
-tableAt j l (f ∷ fs) = pick (eqb (l .count) j) (l .table) (tableAt j (fed (f .accepted) (f .edits) l) fs)
 
 -- "That a recovered store holds j transactions means that it is sound and its table is the ledger's at count j"
 pub record HoldsCount (j : ℕ) (l : Ledger) (fs : List Feed) (img : List ℕ) : Type 0 where
@@ -112,6 +104,20 @@ Issued place cs c = commitAt place cs < c
 
 abbrev pub Flushed : CommitPlace → List Op → ℕ → Type 0
 Flushed place cs c = flushed (lineOf (placeOffset place)) (drop (suc (commitAt place cs)) (take c cs)) ≡ true
+
+-- The commit store stands on the tape cs with its own flush next, and the two words above mean what they say: it is issued once its command
+-- is among the first c, and not before; it is flushed once its own flush is, and not before.
+pub record CommitStands (place : CommitPlace) (cs : List Op) : Type 0 where
+  pub before : List Op
+  pub bytes : List ℕ
+  pub rest : List Op
+  pub shape : cs ≡ before ++ (store (placeOffset place) bytes ∷ flush (lineOf (placeOffset place)) ∷ rest)
+  -- "the mark's first store": no command before it stores there
+  pub first : touches before (placeOffset place) ≡ false
+  pub issued : (c : ℕ) → Issued place cs c → length before + 1 ≤ c
+  pub issues : (c : ℕ) → length before + 1 ≤ c → Issued place cs c
+  pub flushed : (c : ℕ) → Flushed place cs c → length before + 2 ≤ c
+  pub flushes : (c : ℕ) → length before + 2 ≤ c → Flushed place cs c
 
 -- ---- recoveries
 
@@ -172,7 +178,7 @@ module _ (a : List ℕ) (ks : List Call) (k : Call) (c : ℕ) (f : ℕ → ℕ) 
 
   -- n: the transactions that the list has accepted
   abbrev pub accepted : ℕ
-  accepted = ledgerAfter ledger (feeds a ks) .count
+  accepted = acceptedIn a ks
 
   -- "the store holds exactly n transactions before the commit store is issued, n + 1 once it is flushed, one of the two between"
   pub record Survives : Type 0 where

@@ -1,5 +1,6 @@
 pub mod General
 pub mod Ledger
+pub mod Counts
 pub mod Places
 pub mod Reading
 pub mod Parsing

@@ -1,8 +1,8 @@
 -- The plain ledger: a table and a count, fed one edit list at a time (document 01, 'The plain ledger'). It knows nothing of pages.
 -- Assumes nothing.
-use Prim.Native.Nat.{ℕ, suc}
+use Prim.Native.Nat.{ℕ, suc, _+_}
 use mathlib.Core.Bool.{Bool, true, false}
-use mathlib.Core.List.{List, [], _∷_}
+use mathlib.Core.List.{List, [], _∷_, _++_}
 use lib.Dec.{eqb, ltb}
 use Rattle.codec.specs.Lists.{pick}
 use Rattle.page.specs.Layout.{Rec, recOf}
@@ -45,3 +45,28 @@ opened t = record { table = t; count = 0 }
 unfoldable pub fed : Bool → List Edit → Ledger → Ledger
 fed false es l = l
 fed true es l = record { table = applyEdits es (l .table); count = suc (l .count) }
+
+-- ---- the ledger, fed one transaction after another
+
+-- "It is fed each transaction's edit list and whether it was accepted"
+pub record Feed : Type 0 where
+  pub accepted : Bool
+  pub edits : List Edit
+
+unfoldable pub ledgerAfter : Ledger → List Feed → Ledger
+ledgerAfter l [] = l
+ledgerAfter l (f ∷ fs) = ledgerAfter (fed (f .accepted) (f .edits) l) fs
+
+-- "the ledger's at count j": its table while it is fed, when its count is j
+unfoldable pub tableAt : ℕ → Ledger → List Feed → List Rec
+tableAt j l [] = l .table
+tableAt j l (f ∷ fs) = pick (eqb (l .count) j) (l .table) (tableAt j (fed (f .accepted) (f .edits) l) fs)
+
+-- what it comes to, with no ledger: how many of the transactions were accepted, and the edits of those, in order
+unfoldable pub acceptedOf : List Feed → ℕ
+acceptedOf [] = 0
+acceptedOf (f ∷ fs) = pick (f .accepted) 1 0 + acceptedOf fs
+
+unfoldable pub editsMade : List Feed → List Edit
+editsMade [] = []
+editsMade (f ∷ fs) = pick (f .accepted) (f .edits) [] ++ editsMade fs

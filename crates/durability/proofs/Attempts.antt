@@ -14,13 +14,14 @@ use Rattle.image.specs.Table.{table}
 use Rattle.journal.specs.Holds.{replay, tapeOf, Holds}
 use Rattle.journal.proofs.Replay.{holds-size, recovery-run, recovery-cut}
 use Rattle.journal.proofs.Fitting.{recovery-decode}
+use Rattle.journal.proofs.Stated.{front-back}
+use Rattle.transaction.specs.Calls.{commandsOn}
 use Rattle.recovery.specs.Calls.{Result, acceptedWith, recoverCall}
 use Rattle.recovery.specs.declared.Redone.{Redone}
 use Rattle.recovery.specs.declared.Recovered.{Recovered}
 use Rattle.recovery.specs.declared.Recovered.the-variants.{Accepted, Refused}
-use Rattle.durability.specs.Demand.{commandsOn, Attempt, cutBy, attempted, attemptedAll, Allowed, AllAllowed}
+use Rattle.durability.specs.Demand.{Attempt, cutBy, attempted, attemptedAll, Allowed, AllAllowed}
 use Rattle.durability.proofs.Recovered.{only-room, accepted-tape, accepts}
-use Rattle.durability.proofs.Transactions.{front-back}
 
 module _ (t : List Rec) (img : List ℕ) (h : Holds t img) where
   pub holds-allowed : (work tape : List ℕ) → Allowed (recoverCall img work tape .answer)

@@ -23,7 +23,7 @@ use Rattle.image.specs.Image.{sound, reached, among}
 use Rattle.image.specs.Live.{liveIn, live}
 use Rattle.image.proofs.General.{All-left}
 use Rattle.journal.specs.Changes.{headerLine, changedPages}
-use Rattle.journal.specs.Tape.{commitOf, roomInLog, takenFor}
+use Rattle.journal.specs.Tape.{Taken, commitOf, roomInLog, takenFor}
 use Rattle.journal.specs.Commit.{commitStore, commitLine, Names}
 use Rattle.journal.specs.Edited.{Edited}
 use Rattle.journal.specs.declared.Commit.{Commit}
@@ -35,8 +35,9 @@ use Rattle.journal.proofs.Edits.{changed}
 use Rattle.journal.proofs.Taken.{planned}
 use Rattle.journal.proofs.Fitting.{taken-fits}
 use Rattle.transaction.specs.declared.Transacted.the-variants.{Accepted}
-use Rattle.durability.specs.Demand.{Call, onImage, commandsOn, placeOffset, storeAt, commitAt, Flushed, CommitStands}
-use Rattle.durability.proofs.Transactions.{target, taken, edited, room, answer-is, commands-are}
+use Rattle.transaction.specs.Calls.{commandsOn}
+use Rattle.transaction.proofs.Demand2.{was-sound, target, target-edited, room, answer-is, commands-are}
+use Rattle.durability.specs.Demand.{Call, onImage, placeOffset, storeAt, commitAt, Flushed, CommitStands}
 
 -- a store of a word or a line at o stores byte o
 stores-first : (n o p : ℕ) (vs : List ℕ) → Writable n (store p vs) → hits (store p vs) o ≡ false → p ≡ o → ⊥
@@ -150,14 +151,20 @@ module _ (a w : List ℕ) (s : sound a ≡ true) (d : Edited a w) (room : roomIn
 
 -- ---- the call
 
-module _ (a : List ℕ) (s : sound a ≡ true) (k : Call) (d : Commit) (e : onImage a k .answer ≡ Accepted d) where
-  pub commit-at : (z : CommitStands (d .place) (commandsOn a (d .bytes) (onImage a k .tape))) × (length (z .before) ≡ taken a s k d e .commitAt)
+module _ (a : List ℕ) (k : Call) (d : Commit) (e : onImage a k .answer ≡ Accepted d) where
+  -- its edited image, and the transaction to it
+  abbrev w : List ℕ
+  w = target a (k .work) (k .tape) (k .edits) d e
+
+  abbrev x : Taken
+  x = takenFor a w
+
+  pub commit-at : (z : CommitStands (d .place) (commandsOn a (d .bytes) (onImage a k .tape))) × (length (z .before) ≡ x .commitAt)
   unfolding commitOf
   commit-at =
-      let at = taken a s k d e .commitAt in
-      subst (λ (cs : List Op). (z : CommitStands (d .place) cs) × (length (z .before) ≡ at)) (sym (commands-are a s k d e))
-      (subst (λ (c : Commit). (z : CommitStands (c .place) (taken a s k d e .tape)) × (length (z .before) ≡ at)) (sym (answer-is a s k d e))
-      (taken-stands a (target a s k d e) s (edited a s k d e) (room a s k d e)))
+      subst (λ (cs : List Op). (z : CommitStands (d .place) cs) × (length (z .before) ≡ x .commitAt)) (sym (commands-are a (k .work) (k .tape) (k .edits) d e))
+      (subst (λ (c : Commit). (z : CommitStands (c .place) (x .tape)) × (length (z .before) ≡ x .commitAt)) (sym (answer-is a (k .work) (k .tape) (k .edits) d e))
+      (taken-stands a w (was-sound a (k .work) (k .tape) (k .edits) d e) (target-edited a (k .work) (k .tape) (k .edits) d e) (room a (k .work) (k .tape) (k .edits) d e)))
 
   -- the commit store of an accepted transaction stands on its tape, with its flush next
   pub commit-stands : CommitStands (d .place) (commandsOn a (d .bytes) (onImage a k .tape))

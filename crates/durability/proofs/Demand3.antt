@@ -15,15 +15,20 @@ use Rattle.device.specs.Cut.{cutImage}
 use Rattle.page.specs.Layout.{Rec}
 use Rattle.image.specs.Image.{sound}
 use Rattle.image.specs.Table.{table}
+use Rattle.edit.specs.EditList.{editsOf, editList}
 use Rattle.edit.specs.Ledger.{opened, applyEdits, Feed, ledgerAfter, tableAt, acceptedOf}
 use Rattle.edit.proofs.Counts.{ledger-count, table-last, table-next}
+use Rattle.journal.specs.Changes.{changedPages}
+use Rattle.journal.specs.Tape.{Taken, roomInLog, takenFor}
+use Rattle.journal.specs.Edited.{Edited}
 use Rattle.journal.proofs.Taken.{txn-before, txn-between, txn-after}
 use Rattle.journal.specs.declared.Commit.{Commit}
 use Rattle.journal.specs.Holds.{Holds}
 use Rattle.transaction.specs.Calls.{isAccepted}
 use Rattle.transaction.specs.declared.Transacted.the-variants as transacted
+use Rattle.transaction.proofs.Demand2.{target, target-edited, target-table, room, commands-are}
 use Rattle.durability.specs.Demand.{Call, onImage, played, imageAfter, acceptedIn, feedOf, feeds, Attempt, Issued, Flushed, CommitStands, before, commands, failed, last, history, ledger, accepted, Survives, Demand3}
-use Rattle.durability.proofs.Transactions.{run, target, taken, edited, edited-table, room, commands-are, accepted-feed, played-sound, played-table}
+use Rattle.durability.proofs.Transactions.{accepted-feed, played-sound, played-table}
 use Rattle.durability.proofs.Attempts.{holds-allowed, holds-accepted, completed, attempts-hold, attempts-allowed}
 use Rattle.durability.proofs.Committed.{commit-at}
 
@@ -48,8 +53,18 @@ module _ (a : List ℕ) (ks : List Call) (k : Call) (c : ℕ) (f : ℕ → ℕ) 
   sound-img : sound img ≡ true
   sound-img = played-sound ks a s
 
+  -- the edited image of the next one, and the transaction to it
   abbrev w : List ℕ
-  w = target img sound-img k d e
+  w = target img (k .work) (k .tape) (k .edits) d e
+
+  abbrev x : Taken
+  x = takenFor img w
+
+  edited : Edited img w
+  edited = target-edited img (k .work) (k .tape) (k .edits) d e
+
+  inLog : roomInLog (changedPages img w) ≡ true
+  inLog = room img (k .work) (k .tape) (k .edits) d e
 
   abbrev cs : List Op
   cs = commands a ks k c f xs d
@@ -66,17 +81,17 @@ module _ (a : List ℕ) (ks : List Call) (k : Call) (c : ℕ) (f : ℕ → ℕ) 
 
   table-more : table w ≡ tableAt (suc n) (ledger a ks k c f xs d) (history a ks k c f xs d)
   table-more =
-      edited-table img sound-img k d e
-      ∙ ap (applyEdits (run img sound-img k d e .list)) (sym (played-table ks a s (opened (table a)) refl))
-      ∙ sym (table-next (opened (table a)) (feeds a ks) (run img sound-img k d e .list))
-      ∙ ap₂ (λ (j : ℕ) (g : Feed). tableAt (suc j) (opened (table a)) (feeds a ks ++ (g ∷ []))) (count-accepted a ks) (sym (accepted-feed img sound-img k d e))
+      target-table img (k .work) (k .tape) (k .edits) d e
+      ∙ ap (applyEdits (editsOf (editList (k .edits)))) (sym (played-table ks a s (opened (table a)) refl))
+      ∙ sym (table-next (opened (table a)) (feeds a ks) (editsOf (editList (k .edits))))
+      ∙ ap₂ (λ (j : ℕ) (g : Feed). tableAt (suc j) (opened (table a)) (feeds a ks ++ (g ∷ []))) (count-accepted a ks) (sym (accepted-feed img k d e))
 
   -- the commit store stands where it was put
-  at : (z : CommitStands (d .place) cs) × (length (z .before) ≡ taken img sound-img k d e .commitAt)
-  at = commit-at img sound-img k d e
+  at : (z : CommitStands (d .place) cs) × (length (z .before) ≡ x .commitAt)
+  at = commit-at img k d e
 
-  failed-is : failed a ks k c f xs d ≡ cutImage img f c (taken img sound-img k d e .tape)
-  failed-is = ap (cutImage img f c) (commands-are img sound-img k d e)
+  failed-is : failed a ks k c f xs d ≡ cutImage img f c (x .tape)
+  failed-is = ap (cutImage img f c) (commands-are img (k .work) (k .tape) (k .edits) d e)
 
   -- the image that the failure leaves decides what is held
   survives : (j : ℕ) → (j ≡ n) ⊎ (j ≡ suc n) → ((Issued (d .place) cs c → ⊥) → j ≡ n) → (Flushed (d .place) cs c → j ≡ suc n) →
@@ -97,32 +112,32 @@ module _ (a : List ℕ) (ks : List Call) (k : Call) (c : ℕ) (f : ℕ → ℕ) 
             record { isSound = u .0; isTable = u .1 };
       }
 
-  old : Holds (table img) (cutImage img f c (taken img sound-img k d e .tape)) → (Flushed (d .place) cs c → ⊥) → Survives a ks k c f xs d
+  old : Holds (table img) (cutImage img f c (x .tape)) → (Flushed (d .place) cs c → ⊥) → Survives a ks k c f xs d
   old h g =
       survives n (inl refl) (λ z. refl) (λ z. absurd (g z))
       (subst (λ (t : List Rec). Holds t (failed a ks k c f xs d)) table-n (subst (Holds (table img)) (sym failed-is) h))
 
-  new : Holds (table w) (cutImage img f c (taken img sound-img k d e .tape)) → Issued (d .place) cs c → Survives a ks k c f xs d
+  new : Holds (table w) (cutImage img f c (x .tape)) → Issued (d .place) cs c → Survives a ks k c f xs d
   new h i =
       survives (suc n) (inr refl) (λ z. absurd (z i)) (λ z. refl)
       (subst (λ (t : List Rec). Holds t (failed a ks k c f xs d)) table-more (subst (Holds (table w)) (sym failed-is) h))
 
-  late : Flushed (d .place) cs c → taken img sound-img k d e .commitAt + 2 ≤ c
+  late : Flushed (d .place) cs c → x .commitAt + 2 ≤ c
   late g = omega (arith, at .0 .flushed c g, at .1)
 
   all-cuts : Survives a ks k c f xs d
-  all-cuts = go (decLe c (taken img sound-img k d e .commitAt)) (decLe c (taken img sound-img k d e .commitAt + 1))
+  all-cuts = go (decLe c (x .commitAt)) (decLe c (x .commitAt + 1))
     where
-      go : Dec (c ≤ taken img sound-img k d e .commitAt) → Dec (c ≤ taken img sound-img k d e .commitAt + 1) → Survives a ks k c f xs d
-      go (yes h) q = old (txn-before img w sound-img (edited img sound-img k d e) (room img sound-img k d e) f c h) (λ g. omega (arith, late g))
+      go : Dec (c ≤ x .commitAt) → Dec (c ≤ x .commitAt + 1) → Survives a ks k c f xs d
+      go (yes h) q = old (txn-before img w sound-img edited inLog f c h) (λ g. omega (arith, late g))
       go (no h) (yes q) =
-          between (txn-between img w sound-img (edited img sound-img k d e) (room img sound-img k d e) f c (omega arith))
+          between (txn-between img w sound-img edited inLog f c (omega arith))
         where
-          between : Holds (table img) (cutImage img f c (taken img sound-img k d e .tape)) ⊎ Holds (table w) (cutImage img f c (taken img sound-img k d e .tape)) → Survives a ks k c f xs d
+          between : Holds (table img) (cutImage img f c (x .tape)) ⊎ Holds (table w) (cutImage img f c (x .tape)) → Survives a ks k c f xs d
           between (inl z) = old z (λ g. omega (arith, late g))
           between (inr z) = new z (at .0 .issues c (omega (arith, at .1)))
       go (no h) (no q) =
-          new (txn-after img w sound-img (edited img sound-img k d e) (room img sound-img k d e) f c (omega arith)) (at .0 .issues c (omega (arith, at .1)))
+          new (txn-after img w sound-img edited inLog f c (omega arith)) (at .0 .issues c (omega (arith, at .1)))
 
 pub demand-3 : Demand3
 demand-3 = all-cuts

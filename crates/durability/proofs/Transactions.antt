@@ -1,33 +1,20 @@
 -- A transaction on a sound image, accepted or refused: the image that it leaves is sound, and its table is the ledger's.
 -- Assumes nothing.
-use Prim.Native.Nat.{ℕ, _≤_}
+use Prim.Native.Nat.{ℕ}
 use mathlib.Core.Path.{_≡_, refl, sym, ap, _∙_}
 use mathlib.Core.Bool.{true}
 use mathlib.Core.List.{List, [], _∷_}
-use native.Mathlib.Omega.{arith}
-use lib.ListN.{length, take}
-use borrow.Author.Tests.{le-leb}
-use Rattle.codec.specs.Lists.{part, splice}
-use Rattle.codec.proofs.Lists.{part-splice-same}
-use Rattle.device.specs.Tape.{decode, tapeBytes}
-use Rattle.device.specs.Cut.{after}
 use Rattle.image.specs.Image.{sound}
 use Rattle.image.specs.Table.{table}
+use Rattle.edit.specs.EditList.{editsOf, editList}
 use Rattle.edit.specs.Ledger.{Ledger, applyEdits, fed, Feed, ledgerAfter}
-use Rattle.image.specs.PageZero.{logMost}
-use Rattle.journal.specs.Changes.{changedPages}
-use Rattle.journal.specs.Tape.{Taken, commitOf, roomInLog, takenFor}
-use Rattle.journal.specs.Edited.{Edited}
-use Rattle.journal.proofs.Taken.{taken-run, taken-sound}
-use Rattle.journal.proofs.Fitting.{taken-decode}
-use Rattle.transaction.specs.Calls.{Result, acceptedWith, isAccepted}
-use Rattle.transaction.proofs.Answers.{Acceptance, call-accepted}
-use Rattle.tree.specs.Whole.{editedImage}
 use Rattle.journal.specs.declared.Commit.{Commit}
+use Rattle.transaction.specs.Calls.{isAccepted}
+use Rattle.transaction.specs.Demand2.{Makes}
 use Rattle.transaction.specs.declared.Transacted.{Transacted}
 use Rattle.transaction.specs.declared.Transacted.the-variants.{Accepted, Refused}
-use Rattle.edit.specs.EditList.{editsOf}
-use Rattle.durability.specs.Demand.{Call, onImage, commandsOn, leftBy, imageAfter, played, feedOf, feeds}
+use Rattle.transaction.proofs.Demand2.{demand-2}
+use Rattle.durability.specs.Demand.{Call, onImage, leftBy, imageAfter, played, feedOf, feeds}
 
 -- ---- accepted
 

@@ -13,11 +13,12 @@ use Rattle.image.specs.Table.{table}
 use Rattle.edit.specs.EditList.{editsOf, editList}
 use Rattle.edit.specs.Ledger.{opened, Feed, ledgerAfter}
 use Rattle.journal.specs.declared.Commit.{Commit}
+use Rattle.transaction.specs.Calls.{commandsOn}
 use Rattle.transaction.specs.declared.Transacted.the-variants as transacted
 use Rattle.recovery.specs.Calls as recovery
 use Rattle.recovery.specs.declared.Redone.{Redone}
 use Rattle.recovery.specs.declared.Recovered.the-variants as recovered
-use Rattle.durability.specs.Demand.{Call, onImage, commandsOn, played, acceptedIn, feeds, Attempt, Issued, Flushed, commands, last}
+use Rattle.durability.specs.Demand.{Call, onImage, played, acceptedIn, feeds, Attempt, Issued, Flushed, commands, last}
 
 -- ---- a day
 

@@ -9,7 +9,7 @@ use mathlib.Core.List.{List, [], _∷_, _++_}
 use lib.ListN.{length, take, drop}
 use lib.Dec.{eqb}
 use Rattle.codec.specs.Lists.{pick}
-use Rattle.device.specs.Tape.{Op, store, flush, malformed, decode, tapeBytes}
+use Rattle.device.specs.Tape.{Op, store, flush, malformed, tapeBytes}
 use Rattle.device.specs.Cut.{after, cutImage, flushed, lineOf, touches}
 use Rattle.device.specs.Calls.{workSize, tapeShort}
 use Rattle.page.specs.Layout.{pageSize}
@@ -22,6 +22,7 @@ use Rattle.journal.specs.Recovery.{recoveryTape}
 use Rattle.journal.specs.declared.CommitPlace.{CommitPlace}
 use Rattle.journal.specs.declared.CommitPlace.the-variants.{Header, Root, Log}
 use Rattle.transaction.specs.Calls as transaction
+use Rattle.transaction.specs.Calls.{commandsOn}
 use Rattle.journal.specs.declared.Commit.{Commit}
 use Rattle.transaction.specs.declared.Transacted.{Transacted}
 use Rattle.transaction.specs.declared.Transacted.the-variants as transacted
@@ -41,10 +42,6 @@ pub record Call : Type 0 where
 -- the transaction k on the image a
 abbrev pub onImage : List ℕ → Call → transaction.Result
 onImage a k = transaction.transactionCall a (k .work) (k .tape) (k .edits)
-
--- the commands of the bytes that an accepted call used of its tape
-abbrev pub commandsOn : List ℕ → ℕ → List ℕ → List Op
-commandsOn a bytes tape = decode (length a) (take bytes tape)
 
 -- "An accepted call has run to the end, or completes, when its whole tape is done. It then leaves the image after its tape; ..
 -- a refused one the image it was given."

@@ -42,7 +42,7 @@ module _ (a work tape bytes : List ℕ) (c : Commit) (e : transactionCall a work
   pub acceptance : Acceptance a work tape bytes
   acceptance = call-accepted a work tape bytes c e
 
-  was-sound : sound a ≡ true
+  pub was-sound : sound a ≡ true
   was-sound = check-sound a (acceptance .begun .checked)
 
   proper : All Proper (acceptance .list)
@@ -52,7 +52,7 @@ module _ (a work tape bytes : List ℕ) (c : Commit) (e : transactionCall a work
   abbrev pub target : List ℕ
   target = editedImage a (acceptance .state)
 
-  abbrev pub taken : Taken
+  abbrev taken : Taken
   taken = takenFor a target
 
   pub target-edited : Edited a target

@@ -91,28 +91,15 @@ fault-case t =
 
 pub case-fault : (t : List ℕ) (k : ℕ) → Fault t k → faultIn t ≡ k
 unfolding faultIn
-case-fault t k (head-short h) = rw (lt-ltb (length t) headSize h)
-case-fault t k (unknown-kind h (inl g)) = rw (le-ltb (length t) headSize h, lt-ltb (kindIn t) 1 g)
-case-fault t k (unknown-kind h (inr g)) = rw (le-ltb (length t) headSize h, lt-ltb 3 (kindIn t) g, le-ltb (kindIn t) 1 (omega arith))
-case-fault t k (delete-long h g m) = rw (le-ltb (length t) headSize h, g, lt-ltb 0 (lengthIn t) m)
-case-fault t k (long-value h f m) = rw (le-ltb (length t) headSize h, known-kind t f, known-bare t f, lt-ltb 200 (lengthIn t) m)
-case-fault t k (value-short h f m c) =
-    rw (le-ltb (length t) headSize h, known-kind t f, known-bare t f, le-ltb 200 (lengthIn t) m, lt-ltb (length t) (headSize + lengthIn t) c)
+case-fault t k (head-short h) = rw (lt-ltb _ headSize)
+case-fault t k (unknown-kind h (inl g)) = rw (le-ltb _ headSize, lt-ltb _ 1)
+case-fault t k (unknown-kind h (inr g)) = rw (le-ltb _ headSize, lt-ltb 3, le-ltb (kindIn t) 1 (omega arith))
+case-fault t k (delete-long h g m) = rw (le-ltb _ headSize, g, lt-ltb 0)
+case-fault t k (long-value h f m) = rw (le-ltb _ headSize, known-kind, known-bare, lt-ltb _ (lengthIn t))
+case-fault t k (value-short h f m c) = rw (le-ltb _ headSize, known-kind, known-bare, le-ltb _ (lengthIn t), lt-ltb (length t))
 case-fault t k (bad-key c f m r) =
-    rw (
-      le-ltb (length t) headSize (omega arith),
-      known-kind t f,
-      known-bare t f,
-      le-ltb 200 (lengthIn t) m,
-      le-ltb (length t) (headSize + lengthIn t) c,
-      false-keyOk (keyIn t) r,
-    )
+    let h : headSize ≤ length t = omega arith in
+    rw (le-ltb _ headSize, known-kind, known-bare, le-ltb _ (lengthIn t), le-ltb (length t), false-keyOk)
 case-fault t k (none f) =
-    rw (
-      le-ltb (length t) headSize (omega (arith, f .whole)),
-      known-kind t (f .known),
-      known-bare t (f .known),
-      le-ltb 200 (lengthIn t) (f .short),
-      le-ltb (length t) (headSize + lengthIn t) (f .whole),
-      true-keyOk (keyIn t) (f .key-low) (f .key-high),
-    )
+    let h : headSize ≤ length t = omega (arith, f .whole) in
+    rw (le-ltb _ headSize, known-kind t (f .known), known-bare t (f .known), le-ltb _ (lengthIn t) (f .short), le-ltb (length t) _ (f .whole), true-keyOk _ (f .key-low) (f .key-high))

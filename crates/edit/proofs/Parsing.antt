@@ -1,18 +1,19 @@
--- The edit list: it is read exactly if it is the encodings of 1 to 16 proper edits end to end, and else the first faulty edit decides.
+-- The edit list: it is read exactly if it is the encodings of 1 to 16 proper edits end to end, and refused exactly as the first faulty edit decides.
 -- Assumes nothing.
-use Prim.Native.Nat.{ℕ, zero, suc, _+_, _≤_, _<_}
+use Prim.Native.Nat.{ℕ, zero, suc, _+_, _-_, _≤_}
 use mathlib.Core.Path.{_≡_, refl, sym, _∙_, subst}
-use mathlib.Core.Logic.{_⊎_, inl, inr}
+use mathlib.Core.Logic.{inl, inr}
 use mathlib.Core.Bool.{Bool, true, false}
 use mathlib.Core.List.{List, [], _∷_, _++_, append-assoc, append-nil}
 use native.Mathlib.Omega.{arith}
 use native.Mathlib.Nat.{not-suc-le-zero}
 use lib.ListN.{length, drop}
 use lib.Dec.{eqb}
-use borrow.Author.Tests.{eqb-true, eqb-false, eq-eqb}
+use borrow.Author.Tests.{eqb-true, eqb-false, eq-eqb, ne-eqb}
 use Rattle.codec.specs.Lists.{pick, All}
 use Rattle.edit.specs.EditList.{Edit, editsMost, headSize, editBytes, lengthIn, editIn, faultIn, Listed, listed, faulty, joined, editsIn, editList}
-use Rattle.edit.specs.Reads.{Bytes, editValue, Proper, Reads, listBytes, Whole, FirstFault}
+use Rattle.edit.specs.Reads.{Bytes, editValue, Proper, Fault, Reads, listBytes, Whole, Stops, FirstFault, ListFault}
+use Rattle.edit.proofs.Faults.{fault-case, case-fault}
 use Rattle.edit.proofs.Reading.{bytes-drop, faultless, edit-proper, edit-bytes, edit-encoded, encoded-reads}
 
 -- ---- what is read
@@ -123,10 +124,9 @@ first-fault (suc n) i (b ∷ t) k j q = go (eqb (faultIn u) 0) refl (editsIn n (
     rest : List ℕ
     rest = drop (headSize + lengthIn u) u
 
-    further : {n : ℕ} (ds : List Edit) (r : List ℕ) → ((length ds < n) × (faultIn r ≡ k) × (k ≡ 0 → ⊥)) ⊎ ((length ds ≡ n) × (k ≡ 5)) →
-        ((suc (length ds) < suc n) × (faultIn r ≡ k) × (k ≡ 0 → ⊥)) ⊎ ((suc (length ds) ≡ suc n) × (k ≡ 5))
-    further ds r (inl w) = inl (omega (arith, w .0), w .1, w .2)
-    further ds r (inr w) = inr (omega (arith, w .0), w .1)
+    further : (m : ℕ) (r : List ℕ) → Stops n m r k → Stops (suc n) (suc m) r k
+    further m r (inl w) = inl (omega (arith, w .0), w .1, w .2)
+    further m r (inr w) = inr (omega (arith, w .0), w .1)
 
     go : (c : Bool) → eqb (faultIn u) 0 ≡ c → (x : Listed) → pick c (joined (editIn u) x) (faulty (faultIn u) i) ≡ faulty k j →
         (x ≡ faulty k j → FirstFault n (suc i) rest k j) → FirstFault (suc n) i u k j
@@ -139,7 +139,7 @@ first-fault (suc n) i (b ∷ t) k j q = go (eqb (faultIn u) 0) refl (editsIn n (
           reads = (eqb-true (faultIn u) 0 c, refl, r .reads);
           number = omega (arith, r .number);
           some = r .some;
-          why = further (r .before) (r .rest) (r .why);
+          why = further (length (r .before)) (r .rest) (r .why);
         }
     go false c x q f =
         let z : faultIn u ≡ k = cc in
@@ -150,14 +150,56 @@ first-fault (suc n) i (b ∷ t) k j q = go (eqb (faultIn u) 0) refl (editsIn n (
           reads = refl;
           number = omega arith;
           some = omega arith;
-          why = inl (omega arith, z, λ w. eqb-false (faultIn u) 0 c (z ∙ w));
+          why = inl (omega arith, subst (Fault u) z (fault-case u), λ w. eqb-false (faultIn u) 0 c (z ∙ w));
         }
 
+-- edits without fault are read, and what follows them decides
+read-on : (m n h i : ℕ) (t : List ℕ) (es : List Edit) (rest : List ℕ) (k j : ℕ) → n ≡ length es + m → h ≡ i + length es → Reads t es rest →
+    editsIn m h rest ≡ faulty k j → editsIn n i t ≡ faulty k j
+unfolding editsIn joined
+read-on m n h i t [] rest k j a c r q =
+    let same : n ≡ m = omega arith in
+    let here : i ≡ h = omega arith in
+    rw (same, here, r) q
+read-on m zero h i t (e ∷ es) rest k j a c r q = absurd (omega arith)
+read-on m (suc n) h i [] (e ∷ es) rest k j a c r q = absurd (omega (arith, faultless [] (r .0) .whole))
+read-on m (suc n) h i (b ∷ t) (e ∷ es) rest k j a c r q =
+    rw (eq-eqb (faultIn (b ∷ t)) 0 (r .0), read-on m n h (suc i) (drop (headSize + lengthIn (b ∷ t)) (b ∷ t)) es rest k j (omega arith) (omega arith) (r .2) q)
+
+fault-first : (n i : ℕ) (t : List ℕ) (k j : ℕ) → FirstFault n i t k j → editsIn n i t ≡ faulty k j
+unfolding editsIn
+fault-first n i t k j f = go (f .why)
+  where
+    m : ℕ
+    m = length (f .before)
+
+    own : (n : ℕ) (rest : List ℕ) → 1 ≤ length rest → Fault rest k → (k ≡ 0 → ⊥) → editsIn (suc n) j rest ≡ faulty k j
+    own n [] some g z = absurd (omega arith)
+    own n (b ∷ rest) some g z = rw (case-fault (b ∷ rest) k g, ne-eqb k 0 z)
+
+    past : (rest : List ℕ) → 1 ≤ length rest → k ≡ 5 → editsIn 0 j rest ≡ faulty k j
+    past [] some e = absurd (omega arith)
+    past (b ∷ rest) some e = rw e
+
+    go : Stops n m (f .rest) k → editsIn n i t ≡ faulty k j
+    go (inl w) = read-on (suc (n - suc m)) n j i t (f .before) (f .rest) k j (omega (arith, w .0)) (f .number) (f .reads) (own (n - suc m) (f .rest) (f .some) (w .1) (w .2))
+    go (inr w) = read-on 0 n j i t (f .before) (f .rest) k j (omega (arith, w .0)) (f .number) (f .reads) (past (f .rest) (f .some) (w .1))
+
 -- "5 (no edit, ..)", or the first faulty edit decides
-pub list-fault : (bytes : List ℕ) (k i : ℕ) → editList bytes ≡ faulty k i → ((bytes ≡ []) × (k ≡ 5) × (i ≡ 0)) ⊎ FirstFault editsMost 0 bytes k i
+pub list-fault : (bytes : List ℕ) (k i : ℕ) → editList bytes ≡ faulty k i → ListFault bytes k i
 unfolding editList
 list-fault [] k i q =
     let z : 5 ≡ k = cc in
     let y : 0 ≡ i = cc in
     inl (refl, sym z, sym y)
 list-fault (b ∷ t) k i q = inr (first-fault editsMost 0 (b ∷ t) k i q)
+
+-- and a list of which that holds is refused so
+pub fault-list : (bytes : List ℕ) (k i : ℕ) → ListFault bytes k i → editList bytes ≡ faulty k i
+unfolding editList editsIn
+fault-list bytes k i (inl w) = rw (w .0, w .1, w .2)
+fault-list [] k i (inr f) =
+    let q : listed [] ≡ faulty k i = fault-first 16 0 [] k i f in
+    let z : _≡_ {A = ℕ} 0 1 = cc in
+    absurd (omega arith)
+fault-list (b ∷ t) k i (inr f) = fault-first 16 0 (b ∷ t) k i f

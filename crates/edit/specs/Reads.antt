@@ -2,13 +2,11 @@
 -- Assumes nothing.
 use Prim.Native.Nat.{ℕ, _+_, _≤_, _<_}
 use mathlib.Core.Path.{_≡_}
-use mathlib.Core.Bool.{true}
 use mathlib.Core.List.{List, [], _∷_, _++_}
 use mathlib.Core.Logic.{_⊎_}
 use lib.ListN.{length, drop}
 use Rattle.codec.specs.Lists.{All}
 use Rattle.page.specs.Layout.{topKey, valueMost}
-use Rattle.image.specs.Calls.{keyOk}
 use Rattle.edit.specs.EditList.{Edit, insert, update, delete, keyOf, headSize, kindIn, lengthIn, keyIn, editsMost, editBytes, editIn, faultIn}
 
 -- bytes
@@ -27,14 +25,30 @@ pub record Proper (e : Edit) : Type 0 where
   pub high : keyOf e ≤ topKey
   pub short : length (editValue e) ≤ valueMost
 
--- what `faultIn` asks of the edit at the front of t
-pub record Faultless (t : List ℕ) : Type 0 where
+-- "kind (1 insert, 2 update, 3 delete), value length (1 byte; 0 for delete)", of the edit at the front of t
+pub record Known (t : List ℕ) : Type 0 where
   pub kind-low : 1 ≤ kindIn t
   pub kind-high : kindIn t ≤ 3
   pub delete-bare : kindIn t ≡ 3 → lengthIn t ≡ 0
-  pub short : lengthIn t ≤ valueMost
+
+-- the edit at the front of t has no fault
+pub record Faultless (t : List ℕ) : Type 0 where
+  pub known : Known t
+  pub short : lengthIn t ≤ 200
   pub whole : headSize + lengthIn t ≤ length t
-  pub key : keyOk (keyIn t) ≡ true
+  pub key-low : 1 ≤ keyIn t
+  pub key-high : keyIn t ≤ 999999999999
+
+-- why the edit at the front of t refuses its list, the first ground that holds, or 0: "5 (.. head cut short, unknown kind, delete with a length), 7 length
+-- above 200, 5 value cut short, 6". Each ground stands with the negations of those before it
+pub data Fault (t : List ℕ) : ℕ → Type 0 where
+  head-short : length t < headSize → Fault t 5
+  unknown-kind : headSize ≤ length t → (kindIn t < 1) ⊎ (3 < kindIn t) → Fault t 5
+  delete-long : headSize ≤ length t → kindIn t ≡ 3 → 1 ≤ lengthIn t → Fault t 5
+  long-value : headSize ≤ length t → Known t → 200 < lengthIn t → Fault t 7
+  value-short : headSize ≤ length t → Known t → lengthIn t ≤ 200 → length t < headSize + lengthIn t → Fault t 5
+  bad-key : headSize + lengthIn t ≤ length t → Known t → lengthIn t ≤ 200 → (keyIn t < 1) ⊎ (999999999999 < keyIn t) → Fault t 6
+  none : Faultless t → Fault t 0
 
 -- the bytes t begin with the edits es, none with a fault, and `rest` is what follows them
 abbrev pub Reads : List ℕ → List Edit → List ℕ → Type 0
@@ -52,12 +66,19 @@ pub record Whole (bytes : List ℕ) (es : List Edit) : Type 0 where
   pub few : length es ≤ editsMost
   pub reads : Reads bytes es []
 
--- "first faulty edit": the edits before edit j have no fault, and its bytes are why the list is refused with k: a fault of their own, or
--- that they are there at all, past n edits. The first edit of t is edit i
+-- why the bytes `rest` that stand after m edits refuse a list of at most n with k: a fault of their own, or that they are there at all, past n edits
+abbrev pub Stops : ℕ → ℕ → List ℕ → ℕ → Type 0
+Stops n m rest k = ((m < n) × Fault rest k × (k ≡ 0 → ⊥)) ⊎ ((m ≡ n) × (k ≡ 5))
+
+-- "first faulty edit": the edits before edit j have no fault, and its bytes are why the list is refused with k. The first edit of t is edit i
 pub record FirstFault (n i : ℕ) (t : List ℕ) (k j : ℕ) : Type 0 where
   pub before : List Edit
   pub rest : List ℕ
   pub reads : Reads t before rest
   pub number : j ≡ i + length before
   pub some : 1 ≤ length rest
-  pub why : ((length before < n) × (faultIn rest ≡ k) × (k ≡ 0 → ⊥)) ⊎ ((length before ≡ n) × (k ≡ 5))
+  pub why : Stops n (length before) rest k
+
+-- the list is refused with k for edit i, "edit number from 0": "5 (no edit, a seventeenth, ..", or the first faulty edit decides
+abbrev pub ListFault : List ℕ → ℕ → ℕ → Type 0
+ListFault bytes k i = ((bytes ≡ []) × (k ≡ 5) × (i ≡ 0)) ⊎ FirstFault 16 0 bytes k i

@@ -1,0 +1,105 @@
+-- The fault of one edit: `faultIn` is the first ground that holds, in document 01's order, and nothing else.
+-- Assumes nothing.
+use Prim.Native.Nat.{ℕ, _+_, _≤_, _<_}
+use mathlib.Core.Path.{_≡_, refl}
+use mathlib.Core.Logic.{_⊎_, inl, inr}
+use mathlib.Core.Bool.{Bool, true, false, _&&_, _||_}
+use mathlib.Core.List.{List}
+use native.Mathlib.Omega.{arith}
+use lib.ListN.{length}
+use lib.Dec.{eqb, ltb, leb}
+use borrow.Author.Tests.{ltb-true, ltb-false, lt-ltb, le-ltb, leb-true, leb-false, le-leb, lt-leb, eqb-true, eq-eqb}
+use Rattle.codec.proofs.Tests.{both, first, second}
+use Rattle.codec.proofs.Agree.{either}
+use Rattle.page.specs.Layout.{topKey}
+use Rattle.image.specs.Calls.{keyOk}
+use Rattle.edit.specs.EditList.{headSize, kindIn, lengthIn, keyIn, faultIn}
+use Rattle.edit.specs.Reads.{Known, Fault, head-short, unknown-kind, delete-long, long-value, value-short, bad-key, none}
+use Rattle.edit.proofs.General.{neither, not-both, by-test}
+
+-- ---- the range of a key
+
+pub keyOk-true : (k : ℕ) → keyOk k ≡ true → (1 ≤ k) × (k ≤ 999999999999)
+unfolding keyOk
+keyOk-true k h = (leb-true 1 k (first (leb 1 k) (leb k topKey) h), leb-true k topKey (second (leb 1 k) (leb k topKey) h))
+
+pub true-keyOk : (k : ℕ) → 1 ≤ k → k ≤ 999999999999 → keyOk k ≡ true
+unfolding keyOk
+true-keyOk k h g = both (le-leb 1 k h) (le-leb k topKey g)
+
+pub keyOk-false : (k : ℕ) → keyOk k ≡ false → (k < 1) ⊎ (999999999999 < k)
+unfolding keyOk
+keyOk-false k h = go (leb 1 k) refl
+  where
+    go : (b : Bool) → leb 1 k ≡ b → (k < 1) ⊎ (999999999999 < k)
+    go true e = inr (leb-false k topKey (not-both (leb 1 k) (leb k topKey) h e))
+    go false e = inl (leb-false 1 k e)
+
+pub false-keyOk : (k : ℕ) → (k < 1) ⊎ (999999999999 < k) → keyOk k ≡ false
+unfolding keyOk
+false-keyOk k (inl h) = rw (lt-leb 1 k h)
+false-keyOk k (inr h) = rw (lt-leb k topKey h, le-leb 1 k (omega arith))
+
+-- ---- its kind, and no length with a delete
+
+module _ (t : List ℕ) where
+  abbrev kind : ℕ
+  kind = kindIn t
+
+  abbrev n : ℕ
+  n = lengthIn t
+
+  unknown : (ltb kind 1 || ltb 3 kind) ≡ true → (kind < 1) ⊎ (3 < kind)
+  unknown h = go (either (ltb kind 1) (ltb 3 kind) h)
+    where
+      go : (ltb kind 1 ≡ true) ⊎ (ltb 3 kind ≡ true) → (kind < 1) ⊎ (3 < kind)
+      go (inl e) = inl (ltb-true kind 1 e)
+      go (inr e) = inr (ltb-true 3 kind e)
+
+  known : (ltb kind 1 || ltb 3 kind) ≡ false → (eqb kind 3 && ltb 0 n) ≡ false → Known t
+  known h g =
+      let k = neither (ltb kind 1) (ltb 3 kind) h in
+      record {
+        kind-low = ltb-false kind 1 (k .0);
+        kind-high = ltb-false 3 kind (k .1);
+        delete-bare = λ z. omega (arith, ltb-false 0 n (not-both (eqb kind 3) (ltb 0 n) g (eq-eqb kind 3 z)));
+      }
+
+  known-kind : Known t → (ltb kind 1 || ltb 3 kind) ≡ false
+  known-kind f = rw (le-ltb kind 1 (f .kind-low), le-ltb 3 kind (f .kind-high))
+
+  known-bare : Known t → (eqb kind 3 && ltb 0 n) ≡ false
+  known-bare f = go (eqb kind 3) refl
+    where
+      go : (b : Bool) → eqb kind 3 ≡ b → (b && ltb 0 n) ≡ false
+      go true e = le-ltb 0 n (omega (arith, f .delete-bare (eqb-true kind 3 e)))
+      go false e = refl
+
+-- ---- the first ground that holds
+
+pub fault-case : (t : List ℕ) → Fault t (faultIn t)
+unfolding faultIn
+fault-case t =
+    by-test (Fault t) _ (λ a. head-short (ltb-true _ _ a))
+    (λ a. by-test (Fault t) _ (λ b. unknown-kind (ltb-false _ _ a) (unknown t b))
+    (λ b. by-test (Fault t) _ (λ c. delete-long (ltb-false _ _ a) (eqb-true _ _ (first (eqb (kindIn t) 3) _ c)) (ltb-true _ _ (second (eqb (kindIn t) 3) _ c)))
+    (λ c. by-test (Fault t) _ (λ d. long-value (ltb-false _ _ a) (known t b c) (ltb-true _ _ d))
+    (λ d. by-test (Fault t) _ (λ e. value-short (ltb-false _ _ a) (known t b c) (ltb-false _ _ d) (ltb-true _ _ e))
+    (λ e. by-test (Fault t) _
+    (λ f. none (record { known = known t b c; short = ltb-false _ _ d; whole = ltb-false _ _ e; key-low = keyOk-true _ f .0; key-high = keyOk-true _ f .1 }))
+    (λ f. bad-key (ltb-false _ _ e) (known t b c) (ltb-false _ _ d) (keyOk-false _ f)))))))
+
+pub case-fault : (t : List ℕ) (k : ℕ) → Fault t k → faultIn t ≡ k
+unfolding faultIn
+case-fault t k (head-short h) = rw (lt-ltb _ headSize)
+case-fault t k (unknown-kind h (inl g)) = rw (le-ltb _ headSize, lt-ltb _ 1)
+case-fault t k (unknown-kind h (inr g)) = rw (le-ltb _ headSize, lt-ltb 3, le-ltb (kindIn t) 1 (omega arith))
+case-fault t k (delete-long h g m) = rw (le-ltb _ headSize, g, lt-ltb 0)
+case-fault t k (long-value h f m) = rw (le-ltb _ headSize, known-kind, known-bare, lt-ltb _ (lengthIn t))
+case-fault t k (value-short h f m c) = rw (le-ltb _ headSize, known-kind, known-bare, le-ltb _ (lengthIn t), lt-ltb (length t))
+case-fault t k (bad-key c f m r) =
+    let h : headSize ≤ length t = omega arith in
+    rw (le-ltb _ headSize, known-kind, known-bare, le-ltb _ (lengthIn t), le-ltb (length t), false-keyOk)
+case-fault t k (none f) =
+    let h : headSize ≤ length t = omega (arith, f .whole) in
+    rw (le-ltb _ headSize, known-kind t (f .known), known-bare t (f .known), le-ltb _ (lengthIn t) (f .short), le-ltb (length t) _ (f .whole), true-keyOk _ (f .key-low) (f .key-high))

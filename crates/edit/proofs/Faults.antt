@@ -1,6 +1,6 @@
 -- The fault of one edit: `faultIn` is the first ground that holds, in document 01's order, and nothing else.
 -- Assumes nothing.
-use Prim.Native.Nat.{ℕ, _+_, _≤_, _<_}
+use Prim.Native.Nat.{ℕ, _≤_, _<_}
 use mathlib.Core.Path.{_≡_, refl}
 use mathlib.Core.Logic.{_⊎_, inl, inr}
 use mathlib.Core.Bool.{Bool, true, false, _&&_, _||_}
@@ -13,7 +13,7 @@ use Rattle.codec.proofs.Tests.{both, first, second}
 use Rattle.codec.proofs.Agree.{either}
 use Rattle.page.specs.Layout.{topKey}
 use Rattle.image.specs.Calls.{keyOk}
-use Rattle.edit.specs.EditList.{headSize, kindIn, lengthIn, keyIn, faultIn}
+use Rattle.edit.specs.EditList.{headSize, kindIn, lengthIn, faultIn}
 use Rattle.edit.specs.Reads.{Known, Fault, head-short, unknown-kind, delete-long, long-value, value-short, bad-key, none}
 use Rattle.edit.proofs.General.{neither, not-both, by-test}
 

@@ -14,19 +14,19 @@ use Rattle.codec.specs.Lists.{pick, All}
 use Rattle.edit.specs.EditList.{Edit, editsMost, headSize, editBytes, lengthIn, editIn, faultIn, Listed, listed, faulty, joined, editsIn, editList}
 use Rattle.edit.specs.Reads.{Bytes, editValue, Proper, Fault, Reads, listBytes, Whole, Stops, FirstFault, ListFault}
 use Rattle.edit.proofs.Faults.{fault-case, case-fault}
-use Rattle.edit.proofs.Reading.{bytes-drop, faultless, edit-proper, edit-bytes, edit-encoded, encoded-reads}
+use Rattle.edit.proofs.Reading.{bytes-drop, faultless, no-fault, edit-proper, edit-bytes, edit-encoded, encoded-reads}
 
 -- ---- what is read
 
 pub reads-proper : (t : List ℕ) (es : List Edit) (rest : List ℕ) → Reads t es rest → All Proper es
 reads-proper t [] rest r = tt
 reads-proper t (e ∷ es) rest r =
-    (subst Proper (r .1) (edit-proper t (faultless t (r .0))), reads-proper (drop (headSize + lengthIn t) t) es rest (r .2))
+    (subst Proper (r .1) (edit-proper t (r .0)), reads-proper (drop (headSize + lengthIn t) t) es rest (r .2))
 
 pub reads-bytes : (t : List ℕ) (es : List Edit) (rest : List ℕ) → Reads t es rest → Bytes t → All (λ (e : Edit). Bytes (editValue e)) es
 reads-bytes t [] rest r h = tt
 reads-bytes t (e ∷ es) rest r h = (
-  subst (λ (x : Edit). Bytes (editValue x)) (r .1) (edit-bytes t (faultless t (r .0)) h),
+  subst (λ (x : Edit). Bytes (editValue x)) (r .1) (edit-bytes t (r .0) h),
   reads-bytes (drop (headSize + lengthIn t) t) es rest (r .2) (bytes-drop (headSize + lengthIn t) t h),
 )
 
@@ -35,7 +35,7 @@ pub reads-encoded : (t : List ℕ) (es : List Edit) (rest : List ℕ) → Reads 
 reads-encoded t [] rest r h = r
 reads-encoded t (e ∷ es) rest r h =
     let n = headSize + lengthIn t in
-    edit-encoded t (faultless t (r .0)) h
+    edit-encoded t (r .0) h
     ∙ rw (r .1, reads-encoded (drop n t) es rest (r .2) (bytes-drop n t h)) (sym (append-assoc (editBytes e) (listBytes es) rest))
 
 pub encoded-list : (es : List Edit) (rest : List ℕ) → All Proper es → Reads (listBytes es ++ rest) es rest
@@ -64,18 +64,18 @@ read-all (suc n) i (b ∷ t) es q = go (eqb (faultIn u) 0) refl (editsIn n (suc 
     go true c (listed fs) q f =
         let z : editIn u ∷ fs ≡ es = cc in
         let r = f fs refl in
-        rw (← z) ((eqb-true (faultIn u) 0 c, refl, r .0), omega (arith, r .1))
+        rw (← z) ((faultless u (eqb-true (faultIn u) 0 c), refl, r .0), omega (arith, r .1))
     go true c (faulty k j) q f = let z : _≡_ {A = ℕ} 0 1 = cc in absurd (omega arith)
     go false c x q f = let z : _≡_ {A = ℕ} 0 1 = cc in absurd (omega arith)
 
 all-read : (n i : ℕ) (t : List ℕ) (es : List Edit) → Reads t es [] → length es ≤ n → editsIn n i t ≡ listed es
-unfolding editsIn joined faultIn
+unfolding editsIn joined
 all-read zero i t [] r h = rw r
 all-read (suc n) i t [] r h = rw r
 all-read zero i t (e ∷ es) r h = absurd (not-suc-le-zero h)
-all-read (suc n) i [] (e ∷ es) r h = absurd (omega (arith, r .0))
+all-read (suc n) i [] (e ∷ es) r h = absurd (omega (arith, r .0 .whole))
 all-read (suc n) i (b ∷ t) (e ∷ es) r h =
-    rw (eq-eqb (faultIn (b ∷ t)) 0 (r .0), all-read n (suc i) (drop (headSize + lengthIn (b ∷ t)) (b ∷ t)) es (r .2) (omega arith), r .1)
+    rw (eq-eqb (faultIn (b ∷ t)) 0 (no-fault (b ∷ t) (r .0)), all-read n (suc i) (drop (headSize + lengthIn (b ∷ t)) (b ∷ t)) es (r .2) (omega arith), r .1)
 
 pub list-whole : (bytes : List ℕ) (es : List Edit) → editList bytes ≡ listed es → Whole bytes es
 unfolding editList
@@ -91,7 +91,7 @@ list-whole (b ∷ t) es q =
 pub whole-list : (bytes : List ℕ) (es : List Edit) → Whole bytes es → editList bytes ≡ listed es
 unfolding editList
 whole-list bytes [] w = absurd (not-suc-le-zero (w .some))
-whole-list [] (e ∷ es) w = absurd (omega (arith, faultless [] (w .reads .0) .whole))
+whole-list [] (e ∷ es) w = absurd (omega (arith, w .reads .0 .whole))
 whole-list (b ∷ t) (e ∷ es) w = all-read editsMost 0 (b ∷ t) (e ∷ es) (w .reads) (w .few)
 
 -- the encodings of 1 to 16 proper edits are read as those edits
@@ -136,7 +136,7 @@ first-fault (suc n) i (b ∷ t) k j q = go (eqb (faultIn u) 0) refl (editsIn n (
         record {
           before = editIn u ∷ r .before;
           rest = r .rest;
-          reads = (eqb-true (faultIn u) 0 c, refl, r .reads);
+          reads = (faultless u (eqb-true (faultIn u) 0 c), refl, r .reads);
           number = omega (arith, r .number);
           some = r .some;
           why = further (length (r .before)) (r .rest) (r .why);
@@ -162,9 +162,9 @@ read-on m n h i t [] rest k j a c r q =
     let here : i ≡ h = omega arith in
     rw (same, here, r) q
 read-on m zero h i t (e ∷ es) rest k j a c r q = absurd (omega arith)
-read-on m (suc n) h i [] (e ∷ es) rest k j a c r q = absurd (omega (arith, faultless [] (r .0) .whole))
+read-on m (suc n) h i [] (e ∷ es) rest k j a c r q = absurd (omega (arith, r .0 .whole))
 read-on m (suc n) h i (b ∷ t) (e ∷ es) rest k j a c r q =
-    rw (eq-eqb (faultIn (b ∷ t)) 0 (r .0), read-on m n h (suc i) (drop (headSize + lengthIn (b ∷ t)) (b ∷ t)) es rest k j (omega arith) (omega arith) (r .2) q)
+    rw (eq-eqb (faultIn (b ∷ t)) 0 (no-fault (b ∷ t) (r .0)), read-on m n h (suc i) (drop (headSize + lengthIn (b ∷ t)) (b ∷ t)) es rest k j (omega arith) (omega arith) (r .2) q)
 
 fault-first : (n i : ℕ) (t : List ℕ) (k j : ℕ) → FirstFault n i t k j → editsIn n i t ≡ faulty k j
 unfolding editsIn

@@ -116,22 +116,22 @@ module _ (kind k : ℕ) (v rest : List ℕ) where
       drop-at (kind ∷ length v ∷ (bytesOf 8 k ++ v)) rest (headSize + length v) (sym e)
 
   back : 1 ≤ kind → kind ≤ 3 → (kind ≡ 3 → length v ≡ 0) → 1 ≤ k → k ≤ topKey → length v ≤ valueMost →
-      (faultIn t ≡ 0) × (editIn t ≡ editOf kind k v) × (drop (headSize + lengthIn t) t ≡ rest)
+      Faultless t × (editIn t ≡ editOf kind k v) × (drop (headSize + lengthIn t) t ≡ rest)
   unfolding editIn
   back low high bare one top short = (
-    no-fault t (record {
+    record {
       known = record { kind-low = low; kind-high = high; delete-bare = bare };
       short = short;
       whole = simp length-append (omega (arith, length-bytesOf 8 k));
       key-low = rw (key-back top) one;
       key-high = rw (key-back top) top;
-    }),
+    },
     rw (key-back top, value-back),
     rest-back,
   )
 
 pub encoded-reads : (e : Edit) (rest : List ℕ) → Proper e →
-    (faultIn (editBytes e ++ rest) ≡ 0) × (editIn (editBytes e ++ rest) ≡ e) × (drop (headSize + lengthIn (editBytes e ++ rest)) (editBytes e ++ rest) ≡ rest)
+    Faultless (editBytes e ++ rest) × (editIn (editBytes e ++ rest) ≡ e) × (drop (headSize + lengthIn (editBytes e ++ rest)) (editBytes e ++ rest) ≡ rest)
 unfolding editBytes editOf
 encoded-reads (insert k v) rest p = back 1 k v rest (omega arith) (omega arith) (λ z. absurd (omega arith)) (p .low) (p .high) (p .short)
 encoded-reads (update k v) rest p = back 2 k v rest (omega arith) (omega arith) (λ z. absurd (omega arith)) (p .low) (p .high) (p .short)

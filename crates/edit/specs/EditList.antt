@@ -1,10 +1,10 @@
 -- The edit list: its edits, and the first fault that refuses it (document 01, 'Edits', and 'Transaction' in 'Each call').
 -- Assumes nothing.
 use Prim.Native.Nat.{ℕ, zero, suc, _+_}
-use mathlib.Core.Bool.{Bool, true, false, _&&_, _||_}
+use mathlib.Core.Bool.{_&&_, _||_}
 use mathlib.Core.List.{List, [], _∷_, _++_}
 use lib.ListN.{length, getD, drop}
-use lib.Dec.{eqb, ltb, leb}
+use lib.Dec.{eqb, ltb}
 use Rattle.codec.specs.Lists.{part, pick}
 use Rattle.codec.specs.Numbers.{number, bytesOf}
 use Rattle.device.specs.Calls.{badList, keyRange, longValue}

@@ -7,7 +7,7 @@ use mathlib.Core.Logic.{_⊎_}
 use lib.ListN.{length, drop}
 use Rattle.codec.specs.Lists.{All}
 use Rattle.page.specs.Layout.{topKey, valueMost}
-use Rattle.edit.specs.EditList.{Edit, insert, update, delete, keyOf, headSize, kindIn, lengthIn, keyIn, editsMost, editBytes, editIn, faultIn}
+use Rattle.edit.specs.EditList.{Edit, insert, update, delete, keyOf, headSize, kindIn, lengthIn, keyIn, editsMost, editBytes, editIn}
 
 -- bytes
 abbrev pub Bytes : List ℕ → Type 0
@@ -53,7 +53,7 @@ pub data Fault (t : List ℕ) : ℕ → Type 0 where
 -- the bytes t begin with the edits es, none with a fault, and `rest` is what follows them
 abbrev pub Reads : List ℕ → List Edit → List ℕ → Type 0
 Reads t [] rest = t ≡ rest
-Reads t (e ∷ es) rest = (faultIn t ≡ 0) × (editIn t ≡ e) × Reads (drop (headSize + lengthIn t) t) es rest
+Reads t (e ∷ es) rest = Faultless t × (editIn t ≡ e) × Reads (drop (headSize + lengthIn t) t) es rest
 
 -- the encodings of edits, end to end
 abbrev pub listBytes : List Edit → List ℕ

@@ -3,7 +3,7 @@
 use Prim.Native.Nat.{ℕ, zero}
 use mathlib.Core.Path.{_≡_}
 use mathlib.Core.Bool.{true}
-use mathlib.Core.List.{List, []}
+use mathlib.Core.List.{List}
 use Rattle.image.specs.PageZero.{pageCount, pageZero}
 use Rattle.image.specs.declared.PageZero.the-variants.{Waiting}
 use Rattle.journal.specs.Recovery.{logged, loggedOk, replayFrom, recoveryTape, replayable}

@@ -3,15 +3,12 @@
 -- Assumes nothing.
 use Prim.Native.Nat.{ℕ, _≤_}
 use mathlib.Core.Path.{_≡_, refl, _∙_}
-use mathlib.Core.Logic.{_⊎_}
-use mathlib.Core.Bool.{true, false}
-use mathlib.Core.List.{List, [], _∷_}
+use mathlib.Core.Bool.{true}
+use mathlib.Core.List.{List}
 use native.Mathlib.Omega.{arith}
-use native.Mathlib.Nat.{not-suc-le-zero}
 use lib.ListN.{length}
 use lib.Dec.{eqb, leb}
 use borrow.Author.Tests.{eqb-true, eqb-false, eq-eqb, ne-eqb, leb-true, leb-false, le-leb, lt-leb}
-use Rattle.codec.specs.Lists.{All}
 use Rattle.device.specs.Tape.{tapeBytes}
 use Rattle.device.specs.Calls.{isImageSize}
 use Rattle.device.specs.declared.Answer.{Answer}
@@ -20,10 +17,9 @@ use Rattle.image.specs.PageZero.{logMost}
 use Rattle.image.specs.Calls.{checkCall}
 use Rattle.image.proofs.Answers.{check-sound}
 use Rattle.edit.specs.EditList.{Edit, Listed, listed, faulty, editList}
-use Rattle.edit.specs.Reads.{Proper}
 use Rattle.edit.proofs.General.{by-test}
-use Rattle.edit.proofs.Parsing.{list-whole, list-proper}
-use Rattle.journal.specs.Changes.{changedPages, sameRoot}
+use Rattle.edit.proofs.Parsing.{list-proper, list-fault, fault-list}
+use Rattle.journal.specs.Changes.{changedPages}
 use Rattle.journal.specs.Tape.{roomInLog, takenFor}
 use Rattle.tree.specs.State.{State}
 use Rattle.tree.specs.Whole.{Outcome, finished, stopped, editsOn, editedImage}
@@ -60,7 +56,7 @@ module _ (a work tape bytes : List ℕ) where
       edits B es reads (finished st) e = ends B es st (record { reads = reads; makes = e })
 
       list : Begun a work → (l : Listed) → editList bytes ≡ l → Answers a work tape bytes (listOf a work tape l)
-      list B (faulty k i) e = bad-list B k i e
+      list B (faulty k i) e = bad-list B k i (list-fault bytes k i e)
       list B (listed es) e = edits B es e (editsOn a es) refl
 
       check : isImageSize (length a) ≡ true → length work ≡ length a → (c : Answer) → checkCall a ≡ c → Answers a work tape bytes (checkedOf a work tape bytes c)
@@ -81,7 +77,7 @@ module _ (a work tape bytes : List ℕ) where
   answers-call _ (bad-size e) = rw e
   answers-call _ (bad-work e other) = rw (e, ne-eqb (length work) (length a) other)
   answers-call _ (bad-image e same r c) = rw (e, eq-eqb (length work) (length a) same, c)
-  answers-call _ (bad-list B k i e) = begun-call B ∙ rw e
+  answers-call _ (bad-list B k i f) = let e = fault-list bytes k i f in begun-call B ∙ rw e
   answers-call _ (bad-edit B es reads k i low g) =
       let e = grounds-refuse a (check-sound a (B .checked)) es (list-proper bytes es reads) k i g (λ z. omega arith) in
       begun-call B ∙ rw (reads, e)

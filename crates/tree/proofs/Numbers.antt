@@ -1,16 +1,15 @@
 -- The numbers that edits are refused with: 8 to 11, and no other (document 01, 'Each call and when it says no').
 -- Assumes nothing.
 use Prim.Native.Nat.{ℕ, suc, _-_, _≤_}
-use mathlib.Core.Path.{_≡_, refl, subst}
+use mathlib.Core.Path.{_≡_, subst}
 use mathlib.Core.Bool.{Bool, true, false, _&&_}
 use mathlib.Core.List.{List, [], _∷_}
 use native.Mathlib.Omega.{arith}
 use lib.ListN.{length, getD}
 use lib.Dec.{eqb, ltb, leb}
-use Rattle.codec.specs.Lists.{pick}
-use Rattle.page.specs.Layout.{pageSize, lineSize, slotCount, leafKind, indexKind, Rec, recOf, size}
+use Rattle.page.specs.Layout.{pageSize, lineSize, slotCount, Rec, recOf, size}
 use Rattle.page.specs.Page.{records}
-use Rattle.page.specs.Operations.{made, delete, sizes, pageOf}
+use Rattle.page.specs.Operations.{delete, sizes, pageOf}
 use Rattle.page.specs.Search.{searched}
 use Rattle.page.specs.declared.Search.{Search}
 use Rattle.page.specs.declared.Search.the-variants.{At, Missing}
@@ -21,7 +20,7 @@ use Rattle.edit.specs.EditList as edits
 use Rattle.edit.proofs.General.{by-test}
 use Rattle.tree.specs.State.{State, Step, done, refused, takePage, taken}
 use Rattle.tree.specs.Edits.{isFull, indexed, copied, split, moved, put, dropped, editAt, edited}
-use Rattle.tree.specs.Whole.{Outcome, finished, stopped, onward, editsFrom, editsOn}
+use Rattle.tree.specs.Whole.{stopped, onward, editsFrom, editsOn}
 
 abbrev Numbered : Step → Type 0
 Numbered (done t) = Unit {0}

@@ -3,7 +3,7 @@
 use Prim.Native.Nat.{ℕ, _≤_, _<_, _+_, _-_}
 use mathlib.Core.Path.{_≡_}
 use mathlib.Core.Bool.{true, false}
-use mathlib.Core.List.{List, [], _∷_, _++_}
+use mathlib.Core.List.{List, _∷_, _++_}
 use Rattle.image.specs.Image.{among, reached}
 use Rattle.image.specs.PageZero.{pageCount, rootOf}
 use Rattle.tree.specs.State.{State, begin}

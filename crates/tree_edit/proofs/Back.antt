@@ -2,8 +2,7 @@
 -- Assumes nothing.
 use Prim.Native.Nat.{ℕ, zero, suc, _+_, _*_, _/_, _≤_, _<_}
 use mathlib.Core.Path.{_≡_, refl, sym, ap, ap₂, _∙_}
-use mathlib.Core.Logic.{_⊎_, inl, inr}
-use mathlib.Core.Bool.{Bool, true, false, _||_, not}
+use mathlib.Core.Bool.{Bool, true, false, _||_}
 use mathlib.Core.List.{List, [], _∷_, _++_}
 use native.Mathlib.Omega.{arith}
 use lib.ListN.{length, getD, take, drop, length-drop, take-append-drop}
@@ -17,7 +16,6 @@ use Rattle.page.specs.Operations.{pageOf, putPage}
 use Rattle.page.proofs.Images.{length-pageOf, put-length, put-same, put-other}
 use Rattle.image.specs.PageZero.{pageCount}
 use Rattle.image.specs.Image.{reached, among}
-use Rattle.tree.specs.State.{State}
 use Rattle.tree.specs.Whole.{pagesFrom, putBack, editedImage}
 use Rattle.tree.specs.Good.{Good}
 use Rattle.tree.proofs.Counts.{inside-range}

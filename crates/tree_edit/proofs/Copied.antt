@@ -10,7 +10,7 @@ use lib.Dec.{eqb}
 use Rattle.codec.specs.Lists.{pick, All}
 use Rattle.page.specs.Layout.{pageSize, leafKind, Rec}
 use Rattle.page.specs.Page.{records, laidOut, RecOk}
-use Rattle.page.specs.Operations.{made, between, fill, pageOf, putPage}
+use Rattle.page.specs.Operations.{between, fill, pageOf, putPage}
 use Rattle.page.proofs.Made.{All-made, length-made, between-all}
 use Rattle.page_edit.specs.Filling.{CanFill}
 use Rattle.page.proofs.Facts.{records-ok}

@@ -1,17 +1,17 @@
 -- The edits of a list that are left to be made: what the head of the next one says, and what is left after it.
 -- Assumes nothing.
-use Prim.Native.Nat.{ℕ, zero, suc, _+_, _-_, _*_, _/_, _≤_, _<_}
+use Prim.Native.Nat.{ℕ, zero, suc, _+_, _-_, _≤_, _<_}
 use mathlib.Core.Path.{_≡_, refl, sym, ap, _∙_, subst}
 use mathlib.Core.List.{List, [], _∷_}
 use native.Mathlib.Omega.{arith}
 use native.Mathlib.Numerals.{add-one}
-use lib.ListN.{length, getD, take, drop, length-drop, drop-of-length-le}
+use lib.ListN.{length, getD, take, drop, length-drop}
 use lib.Seq.{drop-drop, getD-drop}
 use Rattle.codec.specs.Lists.{part}
 use Rattle.codec.specs.Numbers.{number}
-use Rattle.edit.specs.EditList.{Edit, editsMost, headSize, kindIn, lengthIn, keyIn, editOf, editIn, Listed, listed, editList}
+use Rattle.edit.specs.EditList.{Edit, editsMost, headSize, kindIn, lengthIn, keyIn, editOf, editIn, listed, editList}
 use Rattle.edit.specs.Reads.{Proper, Faultless, Reads}
-use Rattle.edit.proofs.Reading.{faultless, edit-proper}
+use Rattle.edit.proofs.Reading.{edit-proper}
 use Rattle.edit.proofs.Parsing.{list-whole}
 use Rattle.tree.specs.State.{State, Step, done, refused}
 use Rattle.tree.specs.Edits.{edited}
@@ -50,11 +50,11 @@ record Head (t : List ℕ) (es : List Edit) : Type 0 where
 
 head-of : (t : List ℕ) (es : List Edit) → 1 ≤ length t → Reads t es [] → Head t es
 head-of t [] h r = absurd (omega (arith, ap length r))
-head-of t (e ∷ es) h r = record { next = e; rest = es; shape = refl; ok = faultless t (r .0); is = r .1; reads = r .2 }
+head-of t (e ∷ es) h r = record { next = e; rest = es; shape = refl; ok = r .0; is = r .1; reads = r .2 }
 
 none-left : (t : List ℕ) (es : List Edit) → length t ≡ 0 → Reads t es [] → es ≡ []
 none-left t [] h r = refl
-none-left t (e ∷ es) h r = absurd (omega (arith, faultless t (r .0) .whole))
+none-left t (e ∷ es) h r = absurd (omega (arith, r .0 .whole))
 
 module _ {n : ℕ} {before list : List ℕ} {all : Outcome} {work : List ℕ} {t : Tree} {at i : ℕ} (L : Left n before list all work t at i) where
   abbrev st : State

@@ -1,17 +1,17 @@
 -- Free pages by marks: those below a page that is looked at, the first of them, and that it is the one that the definition takes.
 -- Assumes nothing.
-use Prim.Native.Nat.{ℕ, zero, suc, _+_, _-_, _≤_, _<_}
+use Prim.Native.Nat.{ℕ, zero, suc, _-_, _≤_}
 use mathlib.Core.Path.{_≡_, refl, sym, ap, ap₂, _∙_}
-use mathlib.Core.Bool.{Bool, true, false, not, false≢true}
+use mathlib.Core.Bool.{Bool, true, false, false≢true}
 use mathlib.Core.List.{List, [], _∷_}
 use native.Mathlib.Omega.{arith}
 use native.Mathlib.Nat.{not-suc-le-zero}
-use lib.ListN.{length, getD}
+use lib.ListN.{getD}
 use lib.Dec.{eqb}
 use borrow.Author.Tests.{eq-eqb, ne-eqb, eqb-true, eqb-false}
 use Rattle.codec.specs.Lists.{pick}
 use Rattle.image.specs.PageZero.{pageCount, rootOf}
-use Rattle.image.specs.Image.{among, reached}
+use Rattle.image.specs.Image.{reached}
 use Rattle.tree.specs.State.{State, Step, refused, others, begin, takePage, taken}
 use Rattle.tree.specs.Good.{hit, count}
 use Rattle.tree.proofs.Counts.{hit-self}

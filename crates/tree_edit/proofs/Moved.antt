@@ -1,19 +1,17 @@
 -- A record put into a leaf: in place, or moved to one new page or two, as `put` and `moved` say; and a record dropped, as `dropped` says.
 -- Assumes nothing.
-use Prim.Native.Nat.{ℕ, suc, _+_, _-_, _*_, _≤_, _<_}
-use mathlib.Core.Path.{_≡_, refl, sym, ap, _∙_, subst}
+use Prim.Native.Nat.{ℕ, _+_, _-_}
+use mathlib.Core.Path.{_≡_, sym, ap, _∙_}
 use mathlib.Core.Bool.{Bool, true, false, _&&_}
-use mathlib.Core.List.{List, [], _∷_}
+use mathlib.Core.List.{List}
 use native.Mathlib.Omega.{arith}
 use lib.ListN.{length}
 use lib.Dec.{leb}
 use borrow.Author.Tests.{leb-true}
-use Rattle.codec.specs.Lists.{pick, All}
 use Rattle.codec.proofs.Tests.{first, second}
 use Rattle.page.specs.Layout.{pageSize, lineSize, slotCount, Rec, up8, size}
-use Rattle.page.specs.Page.{records, RecOk}
 use Rattle.page.specs.Operations.{sizes, pageOf, putPage}
-use Rattle.tree.specs.State.{State, Step, done, withPage}
+use Rattle.tree.specs.State.{State, done}
 use Rattle.tree.specs.Edits.{isFull, inPlace, copied, split, moved, put}
 use Rattle.tree.specs.Good.{Fits}
 use Rattle.tree.proofs.Split.{halves}

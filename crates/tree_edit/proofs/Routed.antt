@@ -1,15 +1,15 @@
 -- One edit in the leaf that its key is routed to: what it comes to by the search, and what it asks for.
 -- Assumes nothing.
 use Prim.Native.Nat.{ℕ, suc, _≤_, _<_}
-use mathlib.Core.Path.{_≡_, refl, sym, ap, _∙_, subst}
+use mathlib.Core.Path.{_≡_, refl, sym, ap, _∙_}
 use mathlib.Core.Bool.{Bool, true, false}
-use mathlib.Core.List.{List, []}
+use mathlib.Core.List.{List}
 use native.Mathlib.Omega.{arith}
-use lib.ListN.{length, getD}
+use lib.ListN.{length}
 use borrow.Author.Tests.{eq-eqb, ne-eqb}
 use Rattle.codec.specs.Lists.{pick}
 use Rattle.page.specs.Layout.{topKey, valueMost, Rec, recOf}
-use Rattle.page.specs.Page.{records, RecOk}
+use Rattle.page.specs.Page.{records}
 use Rattle.page.specs.Operations.{pageOf}
 use Rattle.page.specs.Search.{searched}
 use Rattle.page.specs.declared.Search.{Search}
@@ -20,15 +20,13 @@ use Rattle.image.specs.Facts.{Rising}
 use Rattle.image.specs.Route.{route}
 use Rattle.image.proofs.CodeDescent.{laid-rising}
 use Rattle.edit.specs.EditList.{Edit, insert, update, delete, keyOf, editOf}
-use Rattle.edit.specs.Reads.{Proper}
 use Rattle.edit.proofs.Places.{search-there, search-missing}
-use Rattle.tree.specs.State.{State, Step, refused}
+use Rattle.tree.specs.State.{State, refused}
 use Rattle.tree.specs.Edits.{put, dropped, editAt, edited}
 use Rattle.tree.specs.Good.{Good}
-use Rattle.tree_edit.specs.Steps.{leafAt, recBy}
-use Rattle.tree_edit.specs.Asked.{AtLeaf, CanPut, CanChange}
+use Rattle.tree_edit.specs.Steps.{leafAt}
+use Rattle.tree_edit.specs.Asked.{AtLeaf, CanChange}
 use Rattle.tree_edit.specs.declared.Leaf.{Leaf}
-use Rattle.tree_edit.specs.declared.Change.{Change}
 use Rattle.tree_edit.proofs.Places.{routed-leaf, leaf-ok}
 
 -- ---- the edit of a kind

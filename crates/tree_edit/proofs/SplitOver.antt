@@ -1,20 +1,19 @@
 -- A leaf's records with a change made, split over two new pages: what the copies ask for, and that with the index's two records they are
 -- `splitOver`, and with the pages taken `split`.
 -- Assumes nothing.
-use Prim.Native.Nat.{ℕ, zero, suc, _+_, _-_, _*_, _≤_, _<_}
-use mathlib.Core.Path.{_≡_, refl, sym, ap, _∙_, subst}
-use mathlib.Core.Bool.{Bool, true, false}
+use Prim.Native.Nat.{ℕ, suc, _+_, _-_, _*_, _≤_, _<_}
+use mathlib.Core.Path.{_≡_, sym, ap, _∙_, subst}
 use mathlib.Core.List.{List, [], _∷_, _++_}
 use native.Mathlib.Omega.{arith}
 use native.Mathlib.Nat.{sub-zero}
 use lib.ListN.{length, take, drop, length-drop, take-append-drop}
 use lib.Seq.{take-length}
-use lib.Dec.{eqb, leb}
+use lib.Dec.{eqb}
 use borrow.Author.Tests.{le-leb, lt-leb}
 use Rattle.image.proofs.General.{All-left}
 use Rattle.codec.specs.Lists.{pick, All}
 use Rattle.page.specs.Layout.{pageSize, slotCount, leafKind, Rec}
-use Rattle.page.specs.Page.{records, laidOut, RecOk}
+use Rattle.page.specs.Page.{records, RecOk}
 use Rattle.page.specs.Operations.{sizes, between, fill, pageOf, putPage}
 use Rattle.page_edit.specs.Filling.{CanFill}
 use Rattle.image.specs.PageZero.{pageCount}
@@ -22,8 +21,8 @@ use Rattle.image.specs.Image.{children}
 use Rattle.edit.proofs.General.{all-right}
 use Rattle.tree.specs.State.{State, refused, filled}
 use Rattle.tree.specs.Edits.{keptSep, splitPoint, firstKey, split}
-use Rattle.tree.specs.Good.{hit, count, Shows}
-use Rattle.tree.proofs.Counts.{hit-self, inside-most}
+use Rattle.tree.specs.Good.{count, Shows}
+use Rattle.tree.proofs.Counts.{hit-self}
 use Rattle.tree.proofs.Steps.{Filled}
 use Rattle.tree_edit.specs.Steps.{recBy, madeBy, indexTwo, splitOver}
 use Rattle.tree_edit.specs.Asked.{CanChange, CanSplit, CanIndexTwo}

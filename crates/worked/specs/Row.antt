@@ -16,7 +16,6 @@ use Rattle.image.specs.Fresh.{fresh}
 use Rattle.edit.specs.EditList.{Edit}
 use Rattle.edit.specs.Reads.{listBytes}
 use Rattle.transaction.specs.Calls.{Result, transactionCall}
-use Rattle.journal.specs.declared.Commit.{Commit}
 use Rattle.transaction.specs.declared.Transacted.{Transacted}
 use Rattle.transaction.specs.declared.Transacted.the-variants.{Accepted, Refused}
 

@@ -7,11 +7,11 @@ use mathlib.Core.Bool.{Bool, true, false, _&&_, true≢false}
 use mathlib.Core.List.{List, [], _∷_, _++_}
 use native.Mathlib.Omega.{arith}
 use lib.ListN.{length, length-append}
-use lib.Dec.{ltb, leb, eqb}
-use borrow.Author.Tests.{ltb-true, ltb-false, leb-false, eqb-true, eqb-false}
+use lib.Dec.{ltb, eqb}
+use borrow.Author.Tests.{ltb-true, ltb-false, eqb-true, eqb-false}
 use Rattle.codec.specs.Lists.{removeAt}
 use Rattle.codec.proofs.Tests.{first, second, All-map, All-remove}
-use Rattle.page.specs.Layout.{pageSize, lineSize, slotCount, leafKind, indexKind, Rec, size, readHead}
+use Rattle.page.specs.Layout.{pageSize, lineSize, leafKind, indexKind, Rec, size, readHead}
 use Rattle.page.specs.Page.{records, formOk, RecOk, PageOk}
 use Rattle.page.specs.Operations.{made, delete, pageOf, putPage}
 use Rattle.page.proofs.Facts.{pageOk-true, leaf-form, records-ok}
@@ -23,15 +23,16 @@ use Rattle.image.specs.Facts.{Rising, Leaf}
 use Rattle.image.specs.Table.{leafRecords}
 use Rattle.image.proofs.Rising.{From}
 use Rattle.image.proofs.Order.{startOf}
-use Rattle.edit.proofs.General.{neither, not-both, by-test, by-tests}
+use Rattle.edit.proofs.General.{by-test, by-tests}
 use Rattle.tree.specs.State.{State, withPage}
-use Rattle.tree.specs.Edits.{isFull, inPlace, put, dropped}
+use Rattle.tree.specs.Edits.{inPlace, put, dropped}
 use Rattle.tree.specs.Grounds.{room}
 use Rattle.tree.specs.Good.{inside, Shows}
+use Rattle.tree.specs.Reasons.{NotFull}
 use Rattle.tree.proofs.General.{removeAt-seam}
 use Rattle.tree.proofs.Counts.{hit-self, hit-apart, inside-most}
 use Rattle.tree.proofs.Sizes.{size-most, sizes-made, made-most}
-use Rattle.tree.proofs.Pages.{laid-length, laid-start, Lower, place-shows, place-lower, place-old, delete-shows, delete-lower, delete-old}
+use Rattle.tree.proofs.Pages.{laid-length, laid-start, Lower, fullTest, full-exact, test-room, place-shows, place-lower, place-old, delete-shows, delete-lower, delete-old}
 use Rattle.tree.proofs.States.{write-length, write-here, write-other, leads-trans, leads-write}
 use Rattle.tree.proofs.Tree.{Here, leaf-here, Loss, loss-pages, loss-good, loss-table}
 use Rattle.tree.proofs.Steps.{Ends}
@@ -70,24 +71,22 @@ module _ (n : ℕ) (F : List ℕ) (H : Here n F) where
     keys : From 1 rs
     keys = All-made (λ (x : Rec). 1 ≤ x .key) ins j r (records p) one leaf-keys
 
-    place-after : isFull ins (size r) p ≡ false → After n F H rs (withPage (childOf c) (inPlace ins j r p) st)
-    unfolding isFull
+    place-after : NotFull ins (size r) p → After n F H rs (withPage (childOf c) (inPlace ins j r p) st)
     place-after e =
-        let t = neither (ltb (readHead p .start - lineSize) (size r)) (ins && leb slotCount (length (records p))) e in
-        let fits : lineSize + size r ≤ readHead p .start = omega (arith, ltb-false (readHead p .start - lineSize) (size r) (t .0), laid-start p (leaf-page .laid)) in
-        let few : ins ≡ true → length (records p) < slotCount = λ z. leb-false slotCount (length (records p)) (not-both ins (leb slotCount (length (records p))) (t .1) z) in
-        rewritten n F H (inPlace ins j r p) (readHead p .start - size r) rs (leaf-shown (place-shows p (leaf-page .laid) j r ok fits ins few))
-        (place-old p (leaf-page .laid) j r ok fits ins few) (place-lower p (leaf-page .laid) j r ok fits ins few) up keys (inr some)
+        let fits : lineSize + size r ≤ readHead p .start = omega (arith, e .0, laid-start p (leaf-page .laid)) in
+        rewritten n F H (inPlace ins j r p) (readHead p .start - size r) rs (leaf-shown (place-shows p (leaf-page .laid) j r ok fits ins (e .1)))
+        (place-old p (leaf-page .laid) j r ok fits ins (e .1)) (place-lower p (leaf-page .laid) j r ok fits ins (e .1)) up keys (inr some)
 
     pub put-ends : Ends (After n F H rs) (room st ins (size r) p rs) (put st (length pre) (c .key) (childOf c) ins j r)
     unfolding put room
     put-ends =
-        by-tests (Ends (After n F H rs)) (isFull ins (size r) p)
+        rw (full-exact ins (size r) p)
+        (by-tests (Ends (After n F H rs)) (fullTest ins (size r) p)
         (λ e.
         moved-ends n F H rs up keys (All-made RecOk ins j r (records p) ok (records-ok p (leaf-page .laid))) some
         (omega (arith, made-most ins j r (records p), few-listed p (leaf-page .laid)))
         (omega (arith, sizes-made ins j r (records p), size-most r ok, page-sizes p (leaf-page .laid), laid-start p (leaf-page .laid))))
-        (λ e. (refl, place-after e))
+        (λ e. (refl, place-after (test-room ins (size r) p e))))
 
   -- ---- a record dropped
 

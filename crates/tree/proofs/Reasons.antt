@@ -17,9 +17,9 @@ use Rattle.edit.specs.EditList.{Edit, insert, update, delete}
 use Rattle.edit.specs.Ledger.{add, replace}
 use Rattle.edit.proofs.General.{by-test}
 use Rattle.tree.specs.State.{State}
-use Rattle.tree.specs.Edits.{isFull}
 use Rattle.tree.specs.Grounds.{tableOf, holds, leafOf, pagesFor, tooFew, room, ground}
 use Rattle.tree.specs.Reasons.{OnePage, TwoPages, Room, in-place, copied, no-copy, no-index, split, no-split, Reason, present, inserted, no-update, updated, no-delete, deleted}
+use Rattle.tree.proofs.Pages.{fullTest, test-full, test-room, full-test, room-test}
 
 module _ (st : State) (ins : Bool) (s : ℕ) (p : List ℕ) (rs : List Rec) where
   one-page : (leb (length rs) slotCount && leb (sizes rs) (pageSize - lineSize)) ≡ true → OnePage rs
@@ -40,8 +40,8 @@ module _ (st : State) (ins : Bool) (s : ℕ) (p : List ℕ) (rs : List Rec) wher
   room-reason : Room st ins s p rs (room st ins s p rs)
   unfolding room tooFew
   room-reason =
-      by-test (Room st ins s p rs) (isFull ins s p)
-      (λ full. by-test (Room st ins s p rs) (leb (length rs) slotCount && leb (sizes rs) (pageSize - lineSize))
+      by-test (Room st ins s p rs) (fullTest ins s p)
+      (λ e. let full = test-full ins s p e in by-test (Room st ins s p rs) (leb (length rs) slotCount && leb (sizes rs) (pageSize - lineSize))
       (λ one. by-test (Room st ins s p rs) (ltb (length (st .free)) (pagesFor st 1)) (λ less. no-copy full (one-page one) (ltb-true (length (st .free)) (pagesFor st 1) less))
       (λ more. copied full (one-page one) (ltb-false (length (st .free)) (pagesFor st 1) more)))
       (λ over. let two = two-pages (leb (length rs) slotCount) refl (leb (sizes rs) (pageSize - lineSize)) refl over in
@@ -50,17 +50,17 @@ module _ (st : State) (ins : Bool) (s : ℕ) (p : List ℕ) (rs : List Rec) wher
       (λ few. by-test (Room st ins s p rs) (ltb (length (st .free)) (pagesFor st 2))
       (λ less. no-split full two (leb-false slotCount (length (children (st .image) (st .root))) few) (ltb-true (length (st .free)) (pagesFor st 2) less))
       (λ more. split full two (leb-false slotCount (length (children (st .image) (st .root))) few) (ltb-false (length (st .free)) (pagesFor st 2) more)))))
-      (λ room. in-place room)
+      (λ e. in-place (test-room ins s p e))
 
   -- and each case excludes the others
   reason-room : (g : ℕ) → Room st ins s p rs g → room st ins s p rs ≡ g
   unfolding room tooFew
-  reason-room _ (in-place e) = rw e
-  reason-room _ (copied e o h) = rw (e, le-leb (length rs) slotCount (o .few), le-leb (sizes rs) (pageSize - lineSize) (o .small), le-ltb (length (st .free)) (pagesFor st 1) h)
-  reason-room _ (no-copy e o h) = rw (e, le-leb (length rs) slotCount (o .few), le-leb (sizes rs) (pageSize - lineSize) (o .small), lt-ltb (length (st .free)) (pagesFor st 1) h)
-  reason-room _ (no-index e t h) = rw (e, not-one t, le-leb slotCount (length (children (st .image) (st .root))) h)
-  reason-room _ (split e t f h) = rw (e, not-one t, lt-leb slotCount (length (children (st .image) (st .root))) f, le-ltb (length (st .free)) (pagesFor st 2) h)
-  reason-room _ (no-split e t f h) = rw (e, not-one t, lt-leb slotCount (length (children (st .image) (st .root))) f, lt-ltb (length (st .free)) (pagesFor st 2) h)
+  reason-room _ (in-place e) = rw (room-test ins s p e)
+  reason-room _ (copied e o h) = rw (full-test ins s p e, le-leb (length rs) slotCount (o .few), le-leb (sizes rs) (pageSize - lineSize) (o .small), le-ltb (length (st .free)) (pagesFor st 1) h)
+  reason-room _ (no-copy e o h) = rw (full-test ins s p e, le-leb (length rs) slotCount (o .few), le-leb (sizes rs) (pageSize - lineSize) (o .small), lt-ltb (length (st .free)) (pagesFor st 1) h)
+  reason-room _ (no-index e t h) = rw (full-test ins s p e, not-one t, le-leb slotCount (length (children (st .image) (st .root))) h)
+  reason-room _ (split e t f h) = rw (full-test ins s p e, not-one t, lt-leb slotCount (length (children (st .image) (st .root))) f, le-ltb (length (st .free)) (pagesFor st 2) h)
+  reason-room _ (no-split e t f h) = rw (full-test ins s p e, not-one t, lt-leb slotCount (length (children (st .image) (st .root))) f, lt-ltb (length (st .free)) (pagesFor st 2) h)
 
 pub ground-reason : (st : State) (e : Edit) → Reason st e (ground st e)
 unfolding ground

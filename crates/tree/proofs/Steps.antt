@@ -22,7 +22,7 @@ use Rattle.tree.specs.Grounds.{entrySize}
 use Rattle.tree.specs.Good.{hit, count, inside, IsEntry, Entries, Shows}
 use Rattle.tree.proofs.Counts.{hit-self, hit-apart, inside-most, inside-range}
 use Rattle.tree.proofs.Sizes.{size-entry, sizes-entries}
-use Rattle.tree.proofs.Pages.{shows-as, laid-length, laid-start, Lower, lower-trans, place-shows, place-lower, place-old, fill-shows}
+use Rattle.tree.proofs.Pages.{full-exact, shows-as, laid-length, laid-start, Lower, lower-trans, place-shows, place-lower, place-old, fill-shows}
 use Rattle.tree.proofs.States.{page-length, write-length, write-here, write-other, Leads, leads-trans, leads-take, leads-root, leads-write}
 
 -- ---- refused by g, or g is 0 and the state has P
@@ -113,8 +113,7 @@ module _ (n : ℕ) (few : n ≤ 64) (F : List ℕ) (st : State) (long : length (
   root-in = omega (arith, apart (st .root), hit-self (st .root))
 
   full : isFull ins (size x) p ≡ ltb (s - lineSize) entrySize
-  unfolding isFull
-  full = rw (I .start, I .recs, size-entry x entry, none ins more) (or-false (ltb (s - lineSize) entrySize))
+  full = full-exact ins (size x) p ∙ rw (I .start, I .recs, size-entry x entry, none ins more) (or-false (ltb (s - lineSize) entrySize))
     where
       none : (b : Bool) → (b ≡ true → length cs < slotCount) → (b && leb slotCount (length cs)) ≡ false
       none true h = lt-leb slotCount (length cs) (h refl)

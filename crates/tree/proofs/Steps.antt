@@ -8,7 +8,7 @@ use mathlib.Core.List.{List, [], _∷_}
 use native.Mathlib.Omega.{arith}
 use lib.ListN.{length}
 use lib.Dec.{ltb, leb, leb·suc-suc}
-use borrow.Author.Tests.{lt-ltb, ltb-false, lt-leb}
+use borrow.Author.Tests.{lt-ltb, ltb-true, ltb-false, lt-leb}
 use Rattle.codec.specs.Lists.{pick, All}
 use Rattle.page.specs.Layout.{pageSize, lineSize, slotCount, indexKind, Rec, size, readHead}
 use Rattle.page.specs.Page.{records, RecOk}
@@ -30,6 +30,10 @@ use Rattle.tree.proofs.States.{page-length, write-length, write-here, w
 abbrev pub Ends : (State → Type 0) → ℕ → Step → Type 0
 Ends P g (done st) = (g ≡ 0) × P st
 Ends P g (refused k) = g ≡ k
+
+pub ends-map : (P Q : State → Type 0) → ((t : State) → P t → Q t) → (g : ℕ) (s : Step) → Ends P g s → Ends Q g s
+ends-map P Q f g (done t) h = (h .0, f t (h .1))
+ends-map P Q f g (refused k) h = h
 
 -- 11 where fewer than n pages are free
 abbrev pub short : ℕ → List ℕ → ℕ
@@ -79,6 +83,11 @@ pub record Reindexed (F : List ℕ) (s t : State) (i : ℕ) (cs : List Rec) : Ty
   pub pages : (x : ℕ) → hit x (t .root) + count x (t .free) ≤ hit x (s .root) + count x (s .free)
   pub leads : Leads F s t
   pub touch : (1 ≤ count (t .root) F) ⊎ ((t .root ≡ s .root) × Lower (pageOf (s .image) (s .root)) (pageOf (t .image) (s .root)))
+
+-- how its content start went from a to i: in its page, where an index record has room there, or else in the first free page, with all of its records
+pub data Way (s t : State) (a i : ℕ) (cs : List Rec) : Type 0 where
+  in-page : entrySize ≤ a - lineSize → i ≡ a - entrySize → t .root ≡ s .root → s .free ≡ t .free → Way s t a i cs
+  in-new : a - lineSize < entrySize → i ≡ pageSize - entrySize * length cs → s .free ≡ t .root ∷ t .free → Way s t a i cs
 
 pub reindexed-trans : (F : List ℕ) (s t u : State) (i j : ℕ) (cs ds : List Rec) → Reindexed F s t i cs → Reindexed F t u j ds → Reindexed F s u j ds
 reindexed-trans F s t u i j cs ds R S =
@@ -167,10 +176,15 @@ module _ (n : ℕ) (few : n ≤ 64) (F : List ℕ) (st : State) (long : length (
         touch = inr (refl, subst (Lower p) (sym here) (place-lower p (I .laid) i x ok room ins slots));
       }
 
-  pub indexed-ends : (P : State → Type 0) (need : ℕ → ℕ) (k : State → Step) → ((t : State) (j : ℕ) → Reindexed F st t j ds → Ends P (short (need j) (t .free)) (k t)) →
+  pub indexed-ways : (P : State → Type 0) (need : ℕ → ℕ) (k : State → Step) → ((t : State) (j : ℕ) → Reindexed F st t j ds → Way st t s j ds → Ends P (short (need j) (t .free)) (k t)) →
       Ends P (short (pick (ltb (s - lineSize) entrySize) (suc (need (pageSize - entrySize * length ds))) (need (s - entrySize))) (st .free)) (indexed ins i x st k)
   unfolding indexed filled
-  indexed-ends P need k h =
+  indexed-ways P need k h =
       rw full
       (by-tests (λ (d : ℕ) (x : Step). Ends P (short d (st .free)) x) (ltb (s - lineSize) entrySize)
-      (λ e. taken-ends P st (need (pageSize - entrySize * length ds)) _ _ refl (λ q f z. h _ _ (copy q f z))) (λ e. h _ _ (place e)))
+      (λ e. taken-ends P st (need (pageSize - entrySize * length ds)) _ _ refl (λ q f z. h _ _ (copy q f z) (in-new (ltb-true (s - lineSize) entrySize e) refl z)))
+      (λ e. h _ _ (place e) (in-page (ltb-false (s - lineSize) entrySize e) refl refl refl)))
+
+  pub indexed-ends : (P : State → Type 0) (need : ℕ → ℕ) (k : State → Step) → ((t : State) (j : ℕ) → Reindexed F st t j ds → Ends P (short (need j) (t .free)) (k t)) →
+      Ends P (short (pick (ltb (s - lineSize) entrySize) (suc (need (pageSize - entrySize * length ds))) (need (s - entrySize))) (st .free)) (indexed ins i x st k)
+  indexed-ends P need k h = indexed-ways P need k (λ t j R W. h t j R)

@@ -6,7 +6,7 @@ use mathlib.Core.Logic.{_⊎_, inl, inr}
 use mathlib.Core.Bool.{Bool, true, false, _&&_, false≢true}
 use mathlib.Core.List.{List, [], _∷_, _++_, append-nil}
 use native.Mathlib.Omega.{arith}
-use lib.ListN.{length, take, drop, take-append-drop, length-append, length-take}
+use lib.ListN.{length, getD, take, drop, take-append-drop, length-append, length-take}
 use lib.Dec.{ltb, leb}
 use borrow.Author.Tests.{le-ltb, leb-false}
 use Rattle.codec.specs.Lists.{pick, All}
@@ -26,7 +26,7 @@ use Rattle.tree.specs.State.{State, Step, done, filled}
 use Rattle.tree.specs.Edits.{indexRec, indexed, splitPoint, firstKey, copied, split, moved}
 use Rattle.tree.specs.Grounds.{entrySize, pagesFor, tooFew}
 use Rattle.tree.specs.Reasons.{OnePage, TwoPages}
-use Rattle.tree.specs.Moved.{indexStart, Takes, index-stays, index-copied, Kept, CopiedTo, SplitOver, MovedTo}
+use Rattle.tree.specs.Moved.{indexStart, Takes, index-stays, index-copied, Kept, NewLeaf, CopiedTo, SplitOver, MovedTo}
 use Rattle.tree.specs.Good.{hit, count, named, inside, IsEntry, Entries, Fits, Shows}
 use Rattle.tree.proofs.Counts.{hit-self, inside-most, inside-range}
 use Rattle.tree.proofs.Sizes.{index-entry, index-child, index-ok, sizeMost}
@@ -49,6 +49,14 @@ new-leaf v w b p d lo hi rs child shown same up keys some =
 
 new-records : (v : State) (p : ℕ) (d : Rec) (rs : List Rec) → childOf d ≡ p → Shows (pageOf (v .image) p) leafKind p (pageSize - sizes rs) rs → records (pageOf (v .image) (childOf d)) ≡ rs
 new-records v p d rs child shown = ap (λ (q : ℕ). records (pageOf (v .image) q)) child ∙ shown .recs
+
+-- and where it still is in t, after st
+still-new : (F : List ℕ) (st s v t : State) (p : ℕ) (rs : List Rec) → Filled F s v leafKind p rs → pageOf (s .image) p ≡ pageOf (st .image) p → pageOf (t .image) p ≡ pageOf (v .image) p → NewLeaf st t p rs
+still-new F st s v t p rs A before after =
+    record {
+      shows = subst (λ (g : List ℕ). Shows g leafKind p (pageSize - sizes rs) rs) (sym after) (A .shows);
+      stays = λ i low high. ap (λ (g : List ℕ). getD g i 0) after ∙ A .stays i low high ∙ ap (λ (g : List ℕ). getD g i 0) before;
+    }
 
 short-none : (f : List ℕ) → short 0 f ≡ 0
 short-none f = rw (le-ltb (length f) 0 (omega arith))
@@ -252,7 +260,7 @@ module _ (n : ℕ) (F : List ℕ) (H : Here n F) where
                 kept = K;
                 pages = one-way F st v (p ∷ []) e refl t j (pre ++ left p ∷ post) refl R W;
                 index = R .index .recs;
-                leaf = subst (λ (g : List ℕ). Shows g leafKind p (pageSize - sizes rs) rs) (sym still) (copy-filled .shows);
+                leaf = still-new F st u v t p rs copy-filled refl still;
               }
 
           copy-ends : Ends To (short (pick (ltb (s - lineSize) entrySize) 1 0) f) (indexed false (length pre) (left p) (filled leafKind p rs u) done)
@@ -307,9 +315,11 @@ module _ (n : ℕ) (F : List ℕ) (H : Here n F) where
         unfolding filled
         right-filled = new-filled v1 (left-filled .long ∙ G .size) q (new-right .0) (new-right .1) (drop m rs) (parts .1) R
 
+        apart : p ≡ q → ⊥
+        apart z = omega (arith, left-page .3, ap (count p) e, hit-self p, ap (hit p) z)
+
         left-shown : Shows (pageOf (v .image) p) leafKind p (pageSize - sizes (take m rs)) (take m rs)
         left-shown =
-            let apart : p ≡ q → ⊥ = λ z. omega (arith, left-page .3, ap (count p) e, hit-self p, ap (hit p) z) in
             subst (λ (g : List ℕ). Shows g leafKind p (pageSize - sizes (take m rs)) (take m rs)) (sym (right-filled .other p apart)) (left-filled .shows)
 
         split-fresh : Fresh v (left p) (right ∷ []) rs
@@ -363,11 +373,10 @@ module _ (n : ℕ) (F : List ℕ) (H : Here n F) where
               fewest = λ j h. point-smallest rs j (omega (arith, length-take m rs));
               pages = T;
               index = B .index .recs ∙ ap (λ (k : ℕ). pre ++ left p ∷ recOf k (bytesOf 2 q) ∷ post) (X .3);
-              leftLeaf =
-                  subst (λ (g : List ℕ). Shows g leafKind p (pageSize - sizes (take m rs)) (take m rs)) (sym (still p (omega (arith, ap (hit p) (left-child p (q ∷ f) e), hit-self p)))) left-shown;
+              leftLeaf = still-new F st w v1 t p (take m rs) left-filled refl (still p (omega (arith, ap (hit p) (left-child p (q ∷ f) e), hit-self p)) ∙ right-filled .other p apart);
               rightLeaf =
-                  subst (λ (l : List Rec). Shows (pageOf (t .image) q) leafKind q (pageSize - sizes l) l) (X .2)
-                  (subst (λ (g : List ℕ). Shows g leafKind q (pageSize - sizes (drop m rs)) (drop m rs)) (sym (still q (omega (arith, ap (hit q) right-child, hit-self q)))) (right-filled .shows));
+                  subst (NewLeaf st t q) (X .2)
+                  (still-new F st v1 v t q (drop m rs) right-filled (left-filled .other q (λ z. apart (sym z))) (still q (omega (arith, ap (hit q) right-child, hit-self q))));
             }
 
         -- the second record of the index

@@ -6,7 +6,7 @@ use mathlib.Core.Logic.{_⊎_, inl, inr}
 use mathlib.Core.Bool.{Bool, true, false, _&&_, or-false}
 use mathlib.Core.List.{List, [], _∷_}
 use native.Mathlib.Omega.{arith}
-use lib.ListN.{length}
+use lib.ListN.{length, getD}
 use lib.Dec.{ltb, leb, leb·suc-suc}
 use borrow.Author.Tests.{lt-ltb, ltb-true, ltb-false, lt-leb}
 use Rattle.codec.specs.Lists.{pick, All}
@@ -15,6 +15,7 @@ use Rattle.page.specs.Page.{records, RecOk}
 use Rattle.page.specs.Operations.{made, sizes, fill, pageOf}
 use Rattle.page.proofs.Made.{All-made}
 use Rattle.page.proofs.Facts.{records-ok}
+use Rattle.page.proofs.Operations.{fill-stays}
 use Rattle.edit.proofs.General.{by-tests}
 use Rattle.tree.specs.State.{State, Step, done, refused, withPage, withRoot, takePage, taken, filled}
 use Rattle.tree.specs.Edits.{isFull, inPlace, indexed}
@@ -56,6 +57,8 @@ module _ (P : State → Type 0) where
 pub record Filled (F : List ℕ) (s t : State) (kind q : ℕ) (rs : List Rec) : Type 0 where
   pub shows : Shows (pageOf (t .image) q) kind q (pageSize - sizes rs) rs
   pub other : (x : ℕ) → (x ≡ q → ⊥) → pageOf (t .image) x ≡ pageOf (s .image) x
+  -- "its bytes from 64 to start stay"
+  pub stays : (i : ℕ) → lineSize ≤ i → i < pageSize - sizes rs → getD (pageOf (t .image) q) i 0 ≡ getD (pageOf (s .image) q) i 0
   pub long : length (t .image) ≡ length (s .image)
   pub leads : count q (s .free) ≡ 0 → Leads F s t
 
@@ -64,12 +67,15 @@ pub filled-facts : (n : ℕ) → n ≤ 64 → (F : List ℕ) (st : State) → le
 unfolding filled
 filled-facts n few F st long q page new kind small rs good room slots =
     let g = fill (pageOf (st .image) q) kind q rs in
-    let shown : Shows g kind q (pageSize - sizes rs) rs =
-    fill-shows (pageOf (st .image) q) kind q rs (page-length n (st .image) long q page) small (omega (arith, inside-range n q page)) good room slots in
+    let before = page-length n (st .image) long q page in
+    let own : q < 65536 = omega (arith, inside-range n q page) in
+    let shown : Shows g kind q (pageSize - sizes rs) rs = fill-shows (pageOf (st .image) q) kind q rs before small own good room slots in
     let whole = laid-length g (shown .laid) in
+    let here = write-here n (st .image) long q page g whole in
     record {
-      shows = subst (λ (p : List ℕ). Shows p kind q (pageSize - sizes rs) rs) (sym (write-here n (st .image) long q page g whole)) shown;
+      shows = subst (λ (p : List ℕ). Shows p kind q (pageSize - sizes rs) rs) (sym here) shown;
       other = write-other n (st .image) long q page g whole;
+      stays = λ i low high. ap (λ (p : List ℕ). getD p i 0) here ∙ fill-stays (pageOf (st .image) q) kind q rs before small own good room slots i low (omega (arith, shown .start));
       long = write-length n (st .image) long q page g whole;
       leads = leads-write F n st long q page g whole (λ h. absurd (omega arith));
     }

@@ -5,7 +5,7 @@ use mathlib.Core.Path.{_≡_}
 use mathlib.Core.Logic.{_⊎_}
 use mathlib.Core.Bool.{Bool, true, false}
 use mathlib.Core.List.{List, [], _∷_, _++_}
-use lib.ListN.{length, take}
+use lib.ListN.{length, getD, take}
 use Rattle.codec.specs.Numbers.{bytesOf}
 use Rattle.page.specs.Layout.{pageSize, lineSize, leafKind, Rec, recOf, size, readHead}
 use Rattle.page.specs.Page.{records}
@@ -37,6 +37,11 @@ pub record Kept (pre : List Rec) (c : Rec) (sep : ℕ) : Type 0 where
   pub first : pre ≡ [] → sep ≡ 0
   pub later : 1 ≤ length pre → sep ≡ c .key
 
+-- the page p is a new leaf with the records rs: "A new page is filled in key order from the end down; its bytes from 64 to start stay."
+pub record NewLeaf (st t : State) (p : ℕ) (rs : List Rec) : Type 0 where
+  pub shows : Shows (pageOf (t .image) p) leafKind p (pageSize - sizes rs) rs
+  pub stays : (i : ℕ) → lineSize ≤ i → i < pageSize - sizes rs → getD (pageOf (t .image) p) i 0 ≡ getD (pageOf (st .image) p) i 0
+
 -- "copied to one new page": "The left or only record takes the old leaf's slot"
 pub record CopiedTo (st t : State) (pre : List Rec) (c : Rec) (post rs : List Rec) : Type 0 where
   pub left : ℕ
@@ -44,7 +49,7 @@ pub record CopiedTo (st t : State) (pre : List Rec) (c : Rec) (post rs : List Re
   pub kept : Kept pre c sep
   pub pages : Takes st t (left ∷ [])
   pub index : children (t .image) (t .root) ≡ pre ++ recOf sep (bytesOf 2 left) ∷ post
-  pub leaf : Shows (pageOf (t .image) left) leafKind left (pageSize - sizes rs) rs
+  pub leaf : NewLeaf st t left rs
 
 -- "split over two": "the right one is an insert and takes its smallest key", the first of a rising list
 pub record SplitOver (st t : State) (pre : List Rec) (c : Rec) (post rs : List Rec) : Type 0 where
@@ -61,8 +66,8 @@ pub record SplitOver (st t : State) (pre : List Rec) (c : Rec) (post rs : List R
   pub fewest : (j : ℕ) → j < length firsts → 2 * sizes (take j rs) < sizes rs
   pub pages : Takes st t (left ∷ right ∷ [])
   pub index : children (t .image) (t .root) ≡ pre ++ recOf sep (bytesOf 2 left) ∷ recOf (smallest .key) (bytesOf 2 right) ∷ post
-  pub leftLeaf : Shows (pageOf (t .image) left) leafKind left (pageSize - sizes firsts) firsts
-  pub rightLeaf : Shows (pageOf (t .image) right) leafKind right (pageSize - sizes (smallest ∷ more)) (smallest ∷ more)
+  pub leftLeaf : NewLeaf st t left firsts
+  pub rightLeaf : NewLeaf st t right (smallest ∷ more)
 
 -- "If they are at most 28 and at most 960 bytes, they are copied to one new page; else split over two."
 abbrev pub MovedTo : State → State → List Rec → Rec → List Rec → List Rec → Type 0

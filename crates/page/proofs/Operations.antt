@@ -7,17 +7,18 @@ use mathlib.Core.Bool.{true}
 use mathlib.Core.List.{List, [], _∷_, _++_, append-assoc, append-nil}
 use mathlib.Core.Logic.{inl}
 use native.Mathlib.Omega.{arith}
-use lib.ListN.{length, set, length-set, length-map}
-use Rattle.codec.specs.Lists.{insertAt, removeAt, All}
-use Rattle.codec.proofs.Lists.{length-insertAt, length-removeAt-le, map-insertAt, map-set, map-removeAt}
+use lib.ListN.{length, getD, set, length-set, length-map}
+use Rattle.codec.specs.Lists.{part, insertAt, removeAt, All}
+use Rattle.codec.proofs.Lists.{part-splice-below, length-insertAt, length-removeAt-le, map-insertAt, map-set, map-removeAt}
+use Rattle.codec.proofs.Agree.{agree-part}
 use Rattle.codec.proofs.Tests.{All-map, All-insert, All-set, All-remove}
-use Rattle.page.specs.Layout.{pageSize, lineSize, slotCount, Rec, size, Head, readHead, unusedHead}
+use Rattle.page.specs.Layout.{pageSize, lineSize, slotCount, Rec, size, recordBytes, Head, readHead, unusedHead}
 use Rattle.page.specs.Page.{Entry, recs, entries, records, laidOut, RecOk, HeadOk, Held, Off, Body, Is, Page}
 use Rattle.page.specs.Operations.{written, insertHead, updateHead, deleteHead, insert, update, delete, fillHead, fillBytes, fill, placed, sizes}
-use Rattle.page.proofs.Records.{size-even}
+use Rattle.page.proofs.Records.{length-recordBytes, size-even}
 use Rattle.page.proofs.Slots.{insert-last}
 use Rattle.page.proofs.Facts.{length-records, length-entries, recs-entries, is-page, ok-is}
-use Rattle.page.proofs.Writes.{Apart-insert, Apart-set, Apart-remove, Agree, held-agree, held-down, put-length, put-reads, put-off, is-seal}
+use Rattle.page.proofs.Writes.{Apart-insert, Apart-set, Apart-remove, Agree, held-agree, held-down, put-length, put-reads, put-off, part-seal, is-seal}
 
 -- the entry of a record written just below start
 abbrev pub below : Head → Rec → Entry
@@ -178,6 +179,15 @@ unfolding placed
 recs-placed start [] = refl
 recs-placed start (r ∷ rs) = ap (λ (l : List Rec). r ∷ l) (recs-placed (start - size r) rs)
 
+-- the bytes below the records stay
+fill-below : (rs : List Rec) (start : ℕ) (p : List ℕ) (a n : ℕ) → a + n + sizes rs ≤ start → start ≤ length p → part (fillBytes start p rs) a n ≡ part p a n
+unfolding fillBytes written sizes
+fill-below [] start p a n room fits = refl
+fill-below (r ∷ rs) start p a n room fits =
+    let e : Entry = record { at = start - size r; rec = r } in
+    fill-below rs (start - size r) (written start p r) a n (omega arith) (omega (arith, put-length p e (omega arith)))
+    ∙ part-splice-below p (start - size r) (recordBytes r) (omega (arith, length-recordBytes r)) a n (omega arith)
+
 module _ (p : List ℕ) (kind own : ℕ) (rs : List Rec) (whole : length p ≡ pageSize) (k : kind < 256) (o : own < 65536) where
   unused : Body (unusedHead kind own) p []
   unfolding unusedHead
@@ -201,3 +211,15 @@ module _ (p : List ℕ) (kind own : ℕ) (rs : List Rec) (whole : length p ≡ p
   fill-page good room few =
       let q = is-page _ _ _ (fill-is good room few) in
       rw (recs-placed pageSize rs) at q
+
+  -- "its bytes from 64 to start stay"
+  pub fill-stays : All RecOk rs → lineSize + sizes rs ≤ pageSize → length rs ≤ slotCount → (i : ℕ) → lineSize ≤ i → i < readHead (fill p kind own rs) .start →
+      getD (fill p kind own rs) i 0 ≡ getD p i 0
+  unfolding fill unusedHead
+  fill-stays good room few i low high =
+      let h = fillHead (unusedHead kind own) rs in
+      let n : ℕ = pageSize - sizes rs - lineSize in
+      let start : readHead (fill p kind own rs) .start ≡ pageSize - sizes rs = ap (λ (x : Head). x .start) (fill-page good room few .head) ∙ fill-start (unusedHead kind own) rs in
+      let stays : part (fill p kind own rs) lineSize n ≡ part p lineSize n =
+      part-seal h (fillBytes pageSize p rs) lineSize n (fill-is good room few .body .head .few) (omega arith) ∙ fill-below rs pageSize p lineSize n (omega arith) (omega arith) in
+      agree-part p (fill p kind own rs) lineSize n stays i low (omega arith)

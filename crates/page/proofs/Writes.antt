@@ -84,9 +84,12 @@ drop-seal h p a few low =
     ∙ drop-drop (a - lineSize) lineSize p
     ∙ ap (λ (m : ℕ). drop m p) f
 
-pub agree-seal : (h : Head) (p : List ℕ) (e : Entry) → length (h .slots) ≤ slotCount → lineSize ≤ e .at → Agree p (seal h p) e
+pub part-seal : (h : Head) (p : List ℕ) (a n : ℕ) → length (h .slots) ≤ slotCount → lineSize ≤ a → part (seal h p) a n ≡ part p a n
 unfolding part
-agree-seal h p e few low = ap (take (size (e .rec))) (drop-seal h p (e .at) few low)
+part-seal h p a n few low = ap (take n) (drop-seal h p a few low)
+
+pub agree-seal : (h : Head) (p : List ℕ) (e : Entry) → length (h .slots) ≤ slotCount → lineSize ≤ e .at → Agree p (seal h p) e
+agree-seal h p e few low = part-seal h p (e .at) (size (e .rec)) few low
 
 module _ (h : Head) (p : List ℕ) (es : List Entry) (b : Body h p es) where
   pub length-seal : length (seal h p) ≡ pageSize

@@ -30,13 +30,14 @@ use Rattle.edit.specs.Ledger.{add, replace, without, applyEdit}
 use Rattle.edit.specs.Reads.{Proper}
 use Rattle.edit.proofs.Ledger.{lacks-find, rising-add, rising-replace, rising-without, apply-middle}
 use Rattle.edit.proofs.Places.{search-there, search-missing}
-use Rattle.tree.specs.State.{State, Step, done, refused}
+use Rattle.tree.specs.State.{State, done, refused}
 use Rattle.tree.specs.Edits.{put, dropped, editAt, edited}
 use Rattle.tree.specs.Grounds.{tableOf, isSome, holds, leafOf, room, ground}
 use Rattle.tree.specs.Good.{count, Good}
+use Rattle.tree.specs.Moved.{Stays, PutIn, Does, InLeaf}
 use Rattle.tree.proofs.States.{Leads}
 use Rattle.tree.proofs.Tree.{Here, NoMore, good-seps, leaf-here, held}
-use Rattle.tree.proofs.Steps.{Ends}
+use Rattle.tree.proofs.Steps.{Ends, ends-map}
 use Rattle.tree.proofs.Moves.{Touch, After}
 use Rattle.tree.proofs.InLeaf.{put-ends, dropped-ends}
 
@@ -47,10 +48,7 @@ pub record Made (n : ℕ) (F : List ℕ) (e : Edit) (s t : State) : Type 0 where
   pub makes : tableOf t ≡ applyEdit e (tableOf s)
   pub leads : Leads F s t
   pub touch : Touch F s t
-
-ends-map : (P Q : State → Type 0) → ((t : State) → P t → Q t) → (g : ℕ) (s : Step) → Ends P g s → Ends Q g s
-ends-map P Q f g (done t) h = (h .0, f t (h .1))
-ends-map P Q f g (refused k) h = h
+  pub leaf : InLeaf e s t
 
 -- the ground of an edit in the leaf p, where `there` says whether the key is there
 abbrev groundAt : State → Edit → List ℕ → Bool → ℕ
@@ -86,7 +84,8 @@ module _ (n : ℕ) (F : List ℕ) (H : Here n F) where
   unfolding tableOf leafRecords
   table-here = ap (leafRecords (st .image)) shape ∙ leafRecords-append (st .image) pre (c ∷ post)
 
-  module _ (e : Edit) (P : Proper e) (low : startOf pre 0 (c .key) ≤ keyOf e) (high : keyOf e < firstKey post (suc (keyOf e))) where
+  module _ (e : Edit) (P : Proper e) (low : startOf pre 0 (c .key) ≤ keyOf e) (high : keyOf e < firstKey post (suc (keyOf e)))
+      (place : length pre ≡ route (keyOf e) (children (st .image) (st .root))) where
     abbrev only : Bool
     only = eqb (length (children (st .image) (st .root))) 1
 
@@ -107,8 +106,8 @@ module _ (n : ℕ) (F : List ℕ) (H : Here n F) where
         go [] h = omega (arith, P .high)
         go (x ∷ l) h = h
 
-    made-after : (t : State) → After n F H (applyEdit e (records p)) t → Made n F e st t
-    made-after t A =
+    made-after : (t : State) → After n F H (applyEdit e (records p)) t → Does st t pre c post e → Made n F e st t
+    made-after t A does =
         record {
           good = A .good;
           pages = A .pages;
@@ -122,40 +121,43 @@ module _ (n : ℕ) (F : List ℕ) (H : Here n F) where
               );
           leads = A .leads;
           touch = A .touch;
+          leaf = record { pre = pre; c = c; post = post; shape = shape; place = place; does = does };
         }
 
     -- a record put in, which makes the edit
     put-edit : (ins : Bool) (j : ℕ) (r : Rec) → RecOk r → 1 ≤ r .key → made ins j r (records p) ≡ applyEdit e (records p) → Rising lo (applyEdit e (records p)) (nextSep post) →
-        1 ≤ length (made ins j r (records p)) → Ends (Made n F e st) (room st ins (size r) p (applyEdit e (records p))) (put st (length pre) (c .key) (childOf c) ins j r)
-    put-edit ins j r ok one eq rising filled =
+        1 ≤ length (made ins j r (records p)) → ((t : State) → PutIn st t pre c post ins (size r) (applyEdit e (records p)) → Does st t pre c post e) →
+        Ends (Made n F e st) (room st ins (size r) p (applyEdit e (records p))) (put st (length pre) (c .key) (childOf c) ins j r)
+    put-edit ins j r ok one eq rising filled does =
         let s = put st (length pre) (c .key) (childOf c) ins j r in
+        let To : List Rec → State → Type 0 = λ l t. After n F H l t × PutIn st t pre c post ins (size r) l in
         let a = put-ends n F H ins j r ok one (subst (λ (l : List Rec). Rising lo l (nextSep post)) (sym eq) rising) filled in
-        ends-map (After n F H (applyEdit e (records p))) (Made n F e st) made-after (room st ins (size r) p (applyEdit e (records p))) s
-        (subst (λ (l : List Rec). Ends (After n F H l) (room st ins (size r) p l) s) eq a)
+        ends-map (To (applyEdit e (records p))) (Made n F e st) (λ t h. made-after t (h .0) (does t (h .1))) (room st ins (size r) p (applyEdit e (records p))) s
+        (subst (λ (l : List Rec). Ends (To l) (room st ins (size r) p l) s) eq a)
 
-  editAt-ends : (e : Edit) → Proper e → startOf pre 0 (c .key) ≤ keyOf e → keyOf e < firstKey post (suc (keyOf e)) → (s : Search) → searched (keyOf e) 0 (records p) ≡ s →
+  editAt-ends : (e : Edit) → Proper e → startOf pre 0 (c .key) ≤ keyOf e → keyOf e < firstKey post (suc (keyOf e)) → length pre ≡ route (keyOf e) (children (st .image) (st .root)) → (s : Search) → searched (keyOf e) 0 (records p) ≡ s →
       Ends (Made n F e st) (groundAt st e p (isSome (find (keyOf e) (records p)))) (editAt st (length pre) (c .key) (childOf c) e s)
   unfolding editAt applyEdit made
-  editAt-ends (edits.insert k v) P low high (At j) q = let T = search-there k lo (records p) (nextSep post) up j q in rw (found-some (find k (records p)) (T .found))
-  editAt-ends (edits.insert k v) P low high (Missing j) q =
+  editAt-ends (edits.insert k v) P low high place (At j) q = let T = search-there k lo (records p) (nextSep post) up j q in rw (found-some (find k (records p)) (T .found))
+  editAt-ends (edits.insert k v) P low high place (Missing j) q =
       let T = search-missing k lo (records p) (nextSep post) up j q in
       rw (lacks-find k (records p) (T .lacks))
-      (put-edit (edits.insert k v) P low high true j (recOf k v) (record { low = P .high; few = P .short }) (P .low) (T .inserted v)
-      (rising-add k v lo (records p) (nextSep post) up low (below-next (edits.insert k v) P low high) (T .lacks)) (omega (arith, length-insertAt j (recOf k v) (records p))))
-  editAt-ends (edits.update k v) P low high (At j) q =
+      (put-edit (edits.insert k v) P low high place true j (recOf k v) (record { low = P .high; few = P .short }) (P .low) (T .inserted v)
+      (rising-add k v lo (records p) (nextSep post) up low (below-next (edits.insert k v) P low high place) (T .lacks)) (omega (arith, length-insertAt j (recOf k v) (records p))) (λ t h. h))
+  editAt-ends (edits.update k v) P low high place (At j) q =
       let T = search-there k lo (records p) (nextSep post) up j q in
       rw (found-some (find k (records p)) (T .found))
-      (put-edit (edits.update k v) P low high false j (recOf k v) (record { low = P .high; few = P .short }) (P .low) (T .updated v)
-      (rising-replace k v lo (records p) (nextSep post) up) (omega (arith, length-set (records p) j (recOf k v), T .inside)))
-  editAt-ends (edits.update k v) P low high (Missing j) q = let T = search-missing k lo (records p) (nextSep post) up j q in rw (lacks-find k (records p) (T .lacks))
-  editAt-ends (edits.delete k) P low high (At j) q =
+      (put-edit (edits.update k v) P low high place false j (recOf k v) (record { low = P .high; few = P .short }) (P .low) (T .updated v)
+      (rising-replace k v lo (records p) (nextSep post) up) (omega (arith, length-set (records p) j (recOf k v), T .inside)) (λ t h. h))
+  editAt-ends (edits.update k v) P low high place (Missing j) q = let T = search-missing k lo (records p) (nextSep post) up j q in rw (lacks-find k (records p) (T .lacks))
+  editAt-ends (edits.delete k) P low high place (At j) q =
       let T = search-there k lo (records p) (nextSep post) up j q in
       let rising : Rising lo (removeAt j (records p)) (nextSep post) = rw (T .deleted) (rising-without k lo (records p) (nextSep post) up) in
       rw (found-some (find k (records p)) (T .found))
-      (ends-map (After n F H (without k (records p))) (Made n F (edits.delete k) st) (made-after (edits.delete k) P low high) 0 (dropped st (length pre) (childOf c) j)
-      (subst (λ (l : List Rec). Ends (After n F H l) 0 (dropped st (length pre) (childOf c) j)) (T .deleted)
+      (ends-map (λ (t : State). After n F H (without k (records p)) t × Stays st t) (Made n F (edits.delete k) st) (λ t h. made-after (edits.delete k) P low high place t (h .0) (h .1)) 0 (dropped st (length pre) (childOf c) j)
+      (subst (λ (l : List Rec). Ends (λ (t : State). After n F H l t × Stays st t) 0 (dropped st (length pre) (childOf c) j)) (T .deleted)
       (dropped-ends n F H j (T .inside) rising)))
-  editAt-ends (edits.delete k) P low high (Missing j) q = let T = search-missing k lo (records p) (nextSep post) up j q in rw (lacks-find k (records p) (T .lacks))
+  editAt-ends (edits.delete k) P low high place (Missing j) q = let T = search-missing k lo (records p) (nextSep post) up j q in rw (lacks-find k (records p) (T .lacks))
 
 -- ---- routed
 
@@ -176,6 +178,12 @@ edited-ends n F st G sub e P =
     let H : Here n F = record { st = st; G = G; sub = sub; pre = pre; c = c; post = post; shape = split-at cs i noRec (R .inside) } in
     let long : length pre ≡ i = length-take-le i cs (omega (arith, R .inside)) in
     let q = pageOf (st .image) (childOf c) in
-    let a = editAt-ends n F H e P (R .low) (R .high) (searched k 0 (records q)) refl in
+    let a = editAt-ends n F H e P (R .low) (R .high) long (searched k 0 (records q)) refl in
     let b = subst (λ (j : ℕ). Ends (Made n F e st) (groundAt st e q (isSome (find k (records q)))) (editAt st j (c .key) (childOf c) e (searched k 0 (records q)))) long a in
-    rw (ground-at st e, holds-here n F H e P (R .low) (R .high)) b
+    rw (ground-at st e, holds-here n F H e P (R .low) (R .high) long) b
+
+-- an edit that is made leaves root, index and free pages as document 01 says
+pub edit-moves : (n : ℕ) (st : State) → Good n st → (e : Edit) → Proper e → (t : State) → edited e st ≡ done t → InLeaf e st t
+edit-moves n st G e P t q =
+    let a : Ends (Made n (st .free) e st) (ground st e) (done t) = subst (Ends (Made n (st .free) e st) (ground st e)) q (edited-ends n (st .free) st G (λ x. omega arith) e P) in
+    a .1 .leaf

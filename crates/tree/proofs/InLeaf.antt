@@ -7,11 +7,11 @@ use mathlib.Core.Bool.{Bool, true, false, _&&_, true≢false}
 use mathlib.Core.List.{List, [], _∷_, _++_}
 use native.Mathlib.Omega.{arith}
 use lib.ListN.{length, length-append}
-use lib.Dec.{ltb, leb, eqb}
-use borrow.Author.Tests.{ltb-true, ltb-false, leb-false, eqb-true, eqb-false}
+use lib.Dec.{ltb, eqb}
+use borrow.Author.Tests.{ltb-true, ltb-false, eqb-true, eqb-false}
 use Rattle.codec.specs.Lists.{removeAt}
 use Rattle.codec.proofs.Tests.{first, second, All-map, All-remove}
-use Rattle.page.specs.Layout.{pageSize, lineSize, slotCount, leafKind, indexKind, Rec, size, readHead}
+use Rattle.page.specs.Layout.{pageSize, lineSize, leafKind, indexKind, Rec, size, readHead}
 use Rattle.page.specs.Page.{records, formOk, RecOk, PageOk}
 use Rattle.page.specs.Operations.{made, delete, pageOf, putPage}
 use Rattle.page.proofs.Facts.{pageOk-true, leaf-form, records-ok}
@@ -23,20 +23,22 @@ use Rattle.image.specs.Facts.{Rising, Leaf}
 use Rattle.image.specs.Table.{leafRecords}
 use Rattle.image.proofs.Rising.{From}
 use Rattle.image.proofs.Order.{startOf}
-use Rattle.edit.proofs.General.{neither, not-both, by-test, by-tests}
+use Rattle.edit.proofs.General.{by-test, by-tests}
 use Rattle.tree.specs.State.{State, withPage}
-use Rattle.tree.specs.Edits.{isFull, inPlace, put, dropped}
+use Rattle.tree.specs.Edits.{inPlace, moved, put, dropped}
 use Rattle.tree.specs.Grounds.{room}
 use Rattle.tree.specs.Good.{inside, Shows}
+use Rattle.tree.specs.Reasons.{NotFull}
+use Rattle.tree.specs.Moved.{MovedTo, Stays, PutIn}
 use Rattle.tree.proofs.General.{removeAt-seam}
 use Rattle.tree.proofs.Counts.{hit-self, hit-apart, inside-most}
 use Rattle.tree.proofs.Sizes.{size-most, sizes-made, made-most}
-use Rattle.tree.proofs.Pages.{laid-length, laid-start, Lower, place-shows, place-lower, place-old, delete-shows, delete-lower, delete-old}
+use Rattle.tree.proofs.Pages.{laid-length, laid-start, Lower, fullTest, full-exact, test-full, test-room, place-shows, place-lower, place-old, delete-shows, delete-lower, delete-old}
 use Rattle.tree.proofs.States.{write-length, write-here, write-other, leads-trans, leads-write}
 use Rattle.tree.proofs.Tree.{Here, leaf-here, Loss, loss-pages, loss-good, loss-table}
-use Rattle.tree.proofs.Steps.{Ends}
+use Rattle.tree.proofs.Steps.{Ends, ends-map}
 use Rattle.tree.proofs.Moves.{After, siblings-apart, leaf-apart, index-shape, rewritten}
-use Rattle.tree.proofs.Copies.{moved-ends}
+use Rattle.tree.proofs.Copies.{fullGround, moved-ends}
 
 nothing : (l : List Rec) → length l ≡ 0 → l ≡ []
 nothing [] h = refl
@@ -70,24 +72,43 @@ module _ (n : ℕ) (F : List ℕ) (H : Here n F) where
     keys : From 1 rs
     keys = All-made (λ (x : Rec). 1 ≤ x .key) ins j r (records p) one leaf-keys
 
-    place-after : isFull ins (size r) p ≡ false → After n F H rs (withPage (childOf c) (inPlace ins j r p) st)
-    unfolding isFull
-    place-after e =
-        let t = neither (ltb (readHead p .start - lineSize) (size r)) (ins && leb slotCount (length (records p))) e in
-        let fits : lineSize + size r ≤ readHead p .start = omega (arith, ltb-false (readHead p .start - lineSize) (size r) (t .0), laid-start p (leaf-page .laid)) in
-        let few : ins ≡ true → length (records p) < slotCount = λ z. leb-false slotCount (length (records p)) (not-both ins (leb slotCount (length (records p))) (t .1) z) in
-        rewritten n F H (inPlace ins j r p) (readHead p .start - size r) rs (leaf-shown (place-shows p (leaf-page .laid) j r ok fits ins few))
-        (place-old p (leaf-page .laid) j r ok fits ins few) (place-lower p (leaf-page .laid) j r ok fits ins few) up keys (inr some)
+    abbrev Placed : State → Type 0
+    Placed t = After n F H rs t × PutIn st t pre c post ins (size r) rs
 
-    pub put-ends : Ends (After n F H rs) (room st ins (size r) p rs) (put st (length pre) (c .key) (childOf c) ins j r)
+    placed : NotFull ins (size r) p → Placed (withPage (childOf c) (inPlace ins j r p) st)
+    placed e =
+        let q = childOf c in
+        let g = inPlace ins j r p in
+        let fits : lineSize + size r ≤ readHead p .start = omega (arith, e .0, laid-start p (leaf-page .laid)) in
+        let shown = leaf-shown (place-shows p (leaf-page .laid) j r ok fits ins (e .1)) in
+        let whole = laid-length g (shown .laid) in
+        let A = leaf-apart n F H in
+        let here = write-here n (st .image) (G .size) q (A .0) g whole in (
+          rewritten n F H g (readHead p .start - size r) rs shown
+              (place-old p (leaf-page .laid) j r ok fits ins (e .1)) (place-lower p (leaf-page .laid) j r ok fits ins (e .1)) up keys (inr some),
+          inl (
+            e,
+            record {
+              stays = (refl, refl);
+              holds = ap records here ∙ shown .recs;
+              start = ap (λ (x : List ℕ). readHead x .start) here ∙ shown .start;
+              other = write-other n (st .image) (G .size) q (A .0) g whole;
+            },
+          ),
+        )
+
+    pub put-ends : Ends (λ (t : State). After n F H (made ins j r (records (pageOf (st .image) (childOf c)))) t × PutIn st t pre c post ins (size r) (made ins j r (records (pageOf (st .image) (childOf c)))))
+        (room st ins (size r) p rs) (put st (length pre) (c .key) (childOf c) ins j r)
     unfolding put room
     put-ends =
-        by-tests (Ends (After n F H rs)) (isFull ins (size r) p)
+        rw (full-exact ins (size r) p)
+        (by-tests (Ends Placed) (fullTest ins (size r) p)
         (λ e.
-        moved-ends n F H rs up keys (All-made RecOk ins j r (records p) ok (records-ok p (leaf-page .laid))) some
+        ends-map (λ (t : State). After n F H rs t × MovedTo st t pre c post rs) Placed (λ t h. (h .0, inr (test-full ins (size r) p e, h .1))) (fullGround st rs) (moved st (length pre) (c .key) rs)
+        (moved-ends n F H rs up keys (All-made RecOk ins j r (records p) ok (records-ok p (leaf-page .laid))) some
         (omega (arith, made-most ins j r (records p), few-listed p (leaf-page .laid)))
-        (omega (arith, sizes-made ins j r (records p), size-most r ok, page-sizes p (leaf-page .laid), laid-start p (leaf-page .laid))))
-        (λ e. (refl, place-after e))
+        (omega (arith, sizes-made ins j r (records p), size-most r ok, page-sizes p (leaf-page .laid), laid-start p (leaf-page .laid)))))
+        (λ e. (refl, placed (test-room ins (size r) p e))))
 
   -- ---- a record dropped
 
@@ -164,16 +185,19 @@ module _ (n : ℕ) (F : List ℕ) (H : Here n F) where
               );
         }
 
-    pub dropped-ends : Ends (After n F H (removeAt j (records p))) 0 (dropped st (length pre) (childOf c) j)
+    pub dropped-ends : Ends (λ (t : State). After n F H (removeAt j (records p)) t × Stays st t) 0 (dropped st (length pre) (childOf c) j)
     unfolding dropped
     dropped-ends =
-        by-test (Ends (After n F H left) 0) (eqb (length (records (delete p j))) 0 && ltb 1 (length (children (st .image) (st .root))))
+        by-test (Ends (λ (t : State). After n F H left t × Stays st t) 0) (eqb (length (records (delete p j))) 0 && ltb 1 (length (children (st .image) (st .root))))
         (λ e. (
           refl,
-          goes (ltb-true 1 (length (children (st .image) (st .root))) (second (eqb (length (records (delete p j))) 0) _ e))
-              (nothing left (ap length (sym (shown .recs)) ∙ eqb-true (length (records (delete p j))) 0 (first (eqb (length (records (delete p j))) 0) _ e))),
+          (
+            goes (ltb-true 1 (length (children (st .image) (st .root))) (second (eqb (length (records (delete p j))) 0) _ e))
+                (nothing left (ap length (sym (shown .recs)) ∙ eqb-true (length (records (delete p j))) 0 (first (eqb (length (records (delete p j))) 0) _ e))),
+            (refl, refl),
+          ),
         ))
-        (λ e. (refl, stays (some (eqb (length (records (delete p j))) 0) refl (ltb 1 (length (children (st .image) (st .root)))) refl e)))
+        (λ e. (refl, (stays (some (eqb (length (records (delete p j))) 0) refl (ltb 1 (length (children (st .image) (st .root)))) refl e), (refl, refl))))
       where
         some : (a : Bool) → eqb (length (records (delete p j))) 0 ≡ a → (b : Bool) → ltb 1 (length (children (st .image) (st .root))) ≡ b → (a && b) ≡ false →
             (length (children (st .image) (st .root)) ≡ 1) ⊎ (1 ≤ length left)

@@ -4,13 +4,16 @@
 use Prim.Native.Nat.{ℕ, _+_, _-_, _≤_, _<_}
 use mathlib.Core.Path.{_≡_, refl, sym, ap, _∙_, subst}
 use mathlib.Core.Logic.{_⊎_, inl, inr}
-use mathlib.Core.Bool.{Bool, true, false}
+use mathlib.Core.Bool.{Bool, true, false, _&&_, _||_, or-true}
 use mathlib.Core.List.{List}
 use native.Mathlib.Omega.{arith}
 use lib.ListN.{length, drop}
 use lib.Seq.{drop-drop}
+use lib.Dec.{ltb, leb}
+use borrow.Author.Tests.{ltb-true, ltb-false, lt-ltb, le-ltb, leb-true, leb-false, le-leb, lt-leb}
 use Rattle.codec.specs.Lists.{removeAt, All}
 use Rattle.codec.proofs.Lists.{drop-splice, length-removeAt}
+use Rattle.codec.proofs.Tests.{first, second}
 use Rattle.page.specs.Layout.{pageSize, lineSize, slotCount, Rec, size, recordBytes, Head, readHead, unusedHead}
 use Rattle.page.specs.Page.{records, laidOut, pageOk, RecOk, Page}
 use Rattle.page.specs.Operations.{seal, written, insertHead, updateHead, deleteHead, insert, update, delete, fillHead, fill, sizes, made}
@@ -18,8 +21,10 @@ use Rattle.page.proofs.Records.{length-recordBytes, size-least}
 use Rattle.page.proofs.Facts.{ok-is, pageOk-true}
 use Rattle.page.proofs.Writes.{drop-seal}
 use Rattle.page.proofs.Operations.{insert-page, update-page, delete-page, fill-page, fill-kind, fill-own, fill-start}
-use Rattle.tree.specs.Edits.{inPlace}
+use Rattle.edit.proofs.General.{neither, not-both}
+use Rattle.tree.specs.Edits.{isFull, inPlace}
 use Rattle.tree.specs.Good.{Shows}
+use Rattle.tree.specs.Reasons.{Full, NotFull}
 
 -- ---- what a page shows
 
@@ -83,6 +88,42 @@ old-trans p q r h k =
     go (inl a) (inr b) = inr (subst (λ (x : List ℕ). Lower x r) a b)
     go (inr a) (inl b) = inr (subst (Lower p) (sym b) a)
     go (inr a) (inr b) = inr (lower-trans p q r a b)
+
+-- ---- whether a record of size s has room in a page
+
+-- the test of document 01's words
+abbrev pub fullTest : Bool → ℕ → List ℕ → Bool
+fullTest ins s p = ltb (readHead p .start - lineSize) s || (ins && leb slotCount (length (records p)))
+
+-- `isFull` is that test
+pub full-exact : (ins : Bool) (s : ℕ) (p : List ℕ) → isFull ins s p ≡ fullTest ins s p
+unfolding isFull
+full-exact true s p = refl
+full-exact false s p = refl
+
+module _ (ins : Bool) (s : ℕ) (p : List ℕ) where
+  pub test-full : fullTest ins s p ≡ true → Full ins s p
+  test-full e = go (ltb (readHead p .start - lineSize) s) refl e
+    where
+      go : (b : Bool) → ltb (readHead p .start - lineSize) s ≡ b → (b || (ins && leb slotCount (length (records p)))) ≡ true → Full ins s p
+      go true q h = inl (ltb-true (readHead p .start - lineSize) s q)
+      go false q h = inr (first ins (leb slotCount (length (records p))) h, leb-true slotCount (length (records p)) (second ins (leb slotCount (length (records p))) h))
+
+  pub test-room : fullTest ins s p ≡ false → NotFull ins s p
+  test-room e =
+      let t = neither (ltb (readHead p .start - lineSize) s) (ins && leb slotCount (length (records p))) e in
+      (ltb-false (readHead p .start - lineSize) s (t .0), λ z. leb-false slotCount (length (records p)) (not-both ins (leb slotCount (length (records p))) (t .1) z))
+
+  pub full-test : Full ins s p → fullTest ins s p ≡ true
+  full-test (inl h) = rw (lt-ltb (readHead p .start - lineSize) s h)
+  full-test (inr h) = rw (h .0, le-leb slotCount (length (records p)) (h .1)) (or-true (ltb (readHead p .start - lineSize) s))
+
+  pub room-test : NotFull ins s p → fullTest ins s p ≡ false
+  room-test h = rw (le-ltb (readHead p .start - lineSize) s (h .0)) (go ins (h .1))
+    where
+      go : (b : Bool) → (b ≡ true → length (records p) < slotCount) → (b && leb slotCount (length (records p))) ≡ false
+      go true k = lt-leb slotCount (length (records p)) (k refl)
+      go false k = refl
 
 -- ---- a record put into its page
 

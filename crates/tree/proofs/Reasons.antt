@@ -1,14 +1,12 @@
 -- The ground of an edit case by case: 8, 9, 10 and 11 exactly where document 01 says so, and none where the edit is made.
 -- Assumes nothing.
 use Prim.Native.Nat.{ℕ, _-_}
-use mathlib.Core.Path.{_≡_, refl, _∙_}
-use mathlib.Core.Logic.{inl, inr}
-use mathlib.Core.Bool.{Bool, true, false, _&&_, and-false}
+use mathlib.Core.Path.{_≡_}
+use mathlib.Core.Bool.{Bool, true, false, _&&_}
 use mathlib.Core.List.{List}
 use lib.ListN.{length}
 use lib.Dec.{ltb, leb}
 use borrow.Author.Tests.{ltb-true, ltb-false, lt-ltb, le-ltb, leb-true, leb-false, le-leb, lt-leb}
-use Rattle.codec.proofs.Tests.{first, second}
 use Rattle.page.specs.Layout.{pageSize, lineSize, slotCount, Rec, recOf, size}
 use Rattle.page.specs.Page.{records}
 use Rattle.page.specs.Operations.{sizes}
@@ -17,50 +15,36 @@ use Rattle.edit.specs.EditList.{Edit, insert, update, delete}
 use Rattle.edit.specs.Ledger.{add, replace}
 use Rattle.edit.proofs.General.{by-test}
 use Rattle.tree.specs.State.{State}
-use Rattle.tree.specs.Edits.{isFull}
 use Rattle.tree.specs.Grounds.{tableOf, holds, leafOf, pagesFor, tooFew, room, ground}
-use Rattle.tree.specs.Reasons.{OnePage, TwoPages, Room, in-place, copied, no-copy, no-index, split, no-split, Reason, present, inserted, no-update, updated, no-delete, deleted}
+use Rattle.tree.specs.Reasons.{Room, in-place, copied, no-copy, no-index, split, no-split, Reason, present, inserted, no-update, updated, no-delete, deleted}
+use Rattle.tree.proofs.Split.{one-page, two-pages, not-one}
+use Rattle.tree.proofs.Pages.{fullTest, test-full, test-room, full-test, room-test}
 
 module _ (st : State) (ins : Bool) (s : ℕ) (p : List ℕ) (rs : List Rec) where
-  one-page : (leb (length rs) slotCount && leb (sizes rs) (pageSize - lineSize)) ≡ true → OnePage rs
-  one-page e =
-      record {
-        few = leb-true (length rs) slotCount (first (leb (length rs) slotCount) (leb (sizes rs) (pageSize - lineSize)) e);
-        small = leb-true (sizes rs) (pageSize - lineSize) (second (leb (length rs) slotCount) (leb (sizes rs) (pageSize - lineSize)) e);
-      }
-
-  two-pages : (a : Bool) → leb (length rs) slotCount ≡ a → (b : Bool) → leb (sizes rs) (pageSize - lineSize) ≡ b → (a && b) ≡ false → TwoPages rs
-  two-pages false e b f h = inl (leb-false (length rs) slotCount e)
-  two-pages true e b f h = inr (leb-false (sizes rs) (pageSize - lineSize) (f ∙ h))
-
-  not-one : TwoPages rs → (leb (length rs) slotCount && leb (sizes rs) (pageSize - lineSize)) ≡ false
-  not-one (inl h) = rw (lt-leb (length rs) slotCount h)
-  not-one (inr h) = rw (lt-leb (sizes rs) (pageSize - lineSize) h) (and-false (leb (length rs) slotCount))
-
   room-reason : Room st ins s p rs (room st ins s p rs)
   unfolding room tooFew
   room-reason =
-      by-test (Room st ins s p rs) (isFull ins s p)
-      (λ full. by-test (Room st ins s p rs) (leb (length rs) slotCount && leb (sizes rs) (pageSize - lineSize))
-      (λ one. by-test (Room st ins s p rs) (ltb (length (st .free)) (pagesFor st 1)) (λ less. no-copy full (one-page one) (ltb-true (length (st .free)) (pagesFor st 1) less))
-      (λ more. copied full (one-page one) (ltb-false (length (st .free)) (pagesFor st 1) more)))
-      (λ over. let two = two-pages (leb (length rs) slotCount) refl (leb (sizes rs) (pageSize - lineSize)) refl over in
+      by-test (Room st ins s p rs) (fullTest ins s p)
+      (λ e. let full = test-full ins s p e in by-test (Room st ins s p rs) (leb (length rs) slotCount && leb (sizes rs) (pageSize - lineSize))
+      (λ one. by-test (Room st ins s p rs) (ltb (length (st .free)) (pagesFor st 1)) (λ less. no-copy full (one-page rs one) (ltb-true (length (st .free)) (pagesFor st 1) less))
+      (λ more. copied full (one-page rs one) (ltb-false (length (st .free)) (pagesFor st 1) more)))
+      (λ over. let two = two-pages rs over in
       by-test (Room st ins s p rs) (leb slotCount (length (children (st .image) (st .root))))
       (λ many. no-index full two (leb-true slotCount (length (children (st .image) (st .root))) many))
       (λ few. by-test (Room st ins s p rs) (ltb (length (st .free)) (pagesFor st 2))
       (λ less. no-split full two (leb-false slotCount (length (children (st .image) (st .root))) few) (ltb-true (length (st .free)) (pagesFor st 2) less))
       (λ more. split full two (leb-false slotCount (length (children (st .image) (st .root))) few) (ltb-false (length (st .free)) (pagesFor st 2) more)))))
-      (λ room. in-place room)
+      (λ e. in-place (test-room ins s p e))
 
   -- and each case excludes the others
   reason-room : (g : ℕ) → Room st ins s p rs g → room st ins s p rs ≡ g
   unfolding room tooFew
-  reason-room _ (in-place e) = rw e
-  reason-room _ (copied e o h) = rw (e, le-leb (length rs) slotCount (o .few), le-leb (sizes rs) (pageSize - lineSize) (o .small), le-ltb (length (st .free)) (pagesFor st 1) h)
-  reason-room _ (no-copy e o h) = rw (e, le-leb (length rs) slotCount (o .few), le-leb (sizes rs) (pageSize - lineSize) (o .small), lt-ltb (length (st .free)) (pagesFor st 1) h)
-  reason-room _ (no-index e t h) = rw (e, not-one t, le-leb slotCount (length (children (st .image) (st .root))) h)
-  reason-room _ (split e t f h) = rw (e, not-one t, lt-leb slotCount (length (children (st .image) (st .root))) f, le-ltb (length (st .free)) (pagesFor st 2) h)
-  reason-room _ (no-split e t f h) = rw (e, not-one t, lt-leb slotCount (length (children (st .image) (st .root))) f, lt-ltb (length (st .free)) (pagesFor st 2) h)
+  reason-room _ (in-place e) = rw (room-test ins s p e)
+  reason-room _ (copied e o h) = rw (full-test ins s p e, le-leb (length rs) slotCount (o .few), le-leb (sizes rs) (pageSize - lineSize) (o .small), le-ltb (length (st .free)) (pagesFor st 1) h)
+  reason-room _ (no-copy e o h) = rw (full-test ins s p e, le-leb (length rs) slotCount (o .few), le-leb (sizes rs) (pageSize - lineSize) (o .small), lt-ltb (length (st .free)) (pagesFor st 1) h)
+  reason-room _ (no-index e t h) = rw (full-test ins s p e, not-one rs t, le-leb slotCount (length (children (st .image) (st .root))) h)
+  reason-room _ (split e t f h) = rw (full-test ins s p e, not-one rs t, lt-leb slotCount (length (children (st .image) (st .root))) f, le-ltb (length (st .free)) (pagesFor st 2) h)
+  reason-room _ (no-split e t f h) = rw (full-test ins s p e, not-one rs t, lt-leb slotCount (length (children (st .image) (st .root))) f, lt-ltb (length (st .free)) (pagesFor st 2) h)
 
 pub ground-reason : (st : State) (e : Edit) → Reason st e (ground st e)
 unfolding ground

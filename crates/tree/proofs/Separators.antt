@@ -20,20 +20,25 @@ use Rattle.image.proofs.Rising.{rising-le}
 use Rattle.image.proofs.Order.{startOf}
 use Rattle.tree.specs.Edits.{keptSep, firstKey}
 use Rattle.tree.specs.Grounds.{entrySize}
+use Rattle.tree.specs.Moved.{Kept}
 use Rattle.tree.proofs.General.{insertAt-seam}
 
 -- ---- separators and first keys
 
--- "keeps its separator, or takes 0 if first": where the leaf's keys start
-pub kept-low : (ps : List Rec) (k : ℕ) → keptSep (length ps) k ≡ startOf ps 0 k
+-- "keeps its separator, or takes 0 if first"
+pub kept-is : (ps : List Rec) (c : Rec) → Kept ps c (keptSep (length ps) (c .key))
 unfolding keptSep
-kept-low [] k = refl
-kept-low (p ∷ ps) k = refl
+kept-is [] c = record { first = λ e. refl; later = λ h. absurd (not-suc-le-zero h) }
+kept-is (p ∷ ps) c = record { first = λ e. let z : _≡_ {A = ℕ} 0 1 = cc in absurd (omega arith); later = λ h. refl }
 
-pub kept-most : (ps : List Rec) (k : ℕ) → keptSep (length ps) k ≤ k
-unfolding keptSep
-kept-most [] k = omega arith
-kept-most (p ∷ ps) k = omega arith
+-- that is where the leaf's keys start
+pub kept-low : (ps : List Rec) (c : Rec) (k : ℕ) → Kept ps c k → k ≡ startOf ps 0 (c .key)
+kept-low [] c k K = K .first refl
+kept-low (p ∷ ps) c k K = K .later (omega arith)
+
+pub kept-most : (ps : List Rec) (c : Rec) (k : ℕ) → Kept ps c k → k ≤ c .key
+kept-most [] c k K = omega (arith, K .first refl)
+kept-most (p ∷ ps) c k K = omega (arith, K .later (omega arith))
 
 pub low-sep : (ps : List Rec) (k : ℕ) → startOf ps (startOf ps 0 k) k ≡ startOf ps 0 k
 low-sep [] k = refl
@@ -47,6 +52,11 @@ pub first-key : (l : List Rec) (hi : ℕ) → 1 ≤ length l → rising.firstKey
 unfolding firstKey
 first-key [] hi h = absurd (not-suc-le-zero h)
 first-key (r ∷ l) hi h = refl
+
+pub first-of : (l : List Rec) → 1 ≤ length l → (r : Rec) × (more : List Rec) × (l ≡ r ∷ more) × (firstKey l ≡ r .key)
+unfolding firstKey
+first-of [] h = absurd (not-suc-le-zero h)
+first-of (r ∷ l) h = (r, l, refl, refl)
 
 pub first-ok : (l : List Rec) → All RecOk l → firstKey l ≤ topKey
 unfolding firstKey

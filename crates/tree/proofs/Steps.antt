@@ -6,15 +6,16 @@ use mathlib.Core.Logic.{_⊎_, inl, inr}
 use mathlib.Core.Bool.{Bool, true, false, _&&_, or-false}
 use mathlib.Core.List.{List, [], _∷_}
 use native.Mathlib.Omega.{arith}
-use lib.ListN.{length}
+use lib.ListN.{length, getD}
 use lib.Dec.{ltb, leb, leb·suc-suc}
-use borrow.Author.Tests.{lt-ltb, ltb-false, lt-leb}
+use borrow.Author.Tests.{lt-ltb, ltb-true, ltb-false, lt-leb}
 use Rattle.codec.specs.Lists.{pick, All}
 use Rattle.page.specs.Layout.{pageSize, lineSize, slotCount, indexKind, Rec, size, readHead}
 use Rattle.page.specs.Page.{records, RecOk}
 use Rattle.page.specs.Operations.{made, sizes, fill, pageOf}
 use Rattle.page.proofs.Made.{All-made}
 use Rattle.page.proofs.Facts.{records-ok}
+use Rattle.page.proofs.Operations.{fill-stays}
 use Rattle.edit.proofs.General.{by-tests}
 use Rattle.tree.specs.State.{State, Step, done, refused, withPage, withRoot, takePage, taken, filled}
 use Rattle.tree.specs.Edits.{isFull, inPlace, indexed}
@@ -22,7 +23,7 @@ use Rattle.tree.specs.Grounds.{entrySize}
 use Rattle.tree.specs.Good.{hit, count, inside, IsEntry, Entries, Shows}
 use Rattle.tree.proofs.Counts.{hit-self, hit-apart, inside-most, inside-range}
 use Rattle.tree.proofs.Sizes.{size-entry, sizes-entries}
-use Rattle.tree.proofs.Pages.{shows-as, laid-length, laid-start, Lower, lower-trans, place-shows, place-lower, place-old, fill-shows}
+use Rattle.tree.proofs.Pages.{full-exact, shows-as, laid-length, laid-start, Lower, lower-trans, place-shows, place-lower, place-old, fill-shows}
 use Rattle.tree.proofs.States.{page-length, write-length, write-here, write-other, Leads, leads-trans, leads-take, leads-root, leads-write}
 
 -- ---- refused by g, or g is 0 and the state has P
@@ -30,6 +31,10 @@ use Rattle.tree.proofs.States.{page-length, write-length, write-here, w
 abbrev pub Ends : (State → Type 0) → ℕ → Step → Type 0
 Ends P g (done st) = (g ≡ 0) × P st
 Ends P g (refused k) = g ≡ k
+
+pub ends-map : (P Q : State → Type 0) → ((t : State) → P t → Q t) → (g : ℕ) (s : Step) → Ends P g s → Ends Q g s
+ends-map P Q f g (done t) h = (h .0, f t (h .1))
+ends-map P Q f g (refused k) h = h
 
 -- 11 where fewer than n pages are free
 abbrev pub short : ℕ → List ℕ → ℕ
@@ -52,6 +57,8 @@ module _ (P : State → Type 0) where
 pub record Filled (F : List ℕ) (s t : State) (kind q : ℕ) (rs : List Rec) : Type 0 where
   pub shows : Shows (pageOf (t .image) q) kind q (pageSize - sizes rs) rs
   pub other : (x : ℕ) → (x ≡ q → ⊥) → pageOf (t .image) x ≡ pageOf (s .image) x
+  -- "its bytes from 64 to start stay"
+  pub stays : (i : ℕ) → lineSize ≤ i → i < pageSize - sizes rs → getD (pageOf (t .image) q) i 0 ≡ getD (pageOf (s .image) q) i 0
   pub long : length (t .image) ≡ length (s .image)
   pub leads : count q (s .free) ≡ 0 → Leads F s t
 
@@ -60,12 +67,15 @@ pub filled-facts : (n : ℕ) → n ≤ 64 → (F : List ℕ) (st : State) → le
 unfolding filled
 filled-facts n few F st long q page new kind small rs good room slots =
     let g = fill (pageOf (st .image) q) kind q rs in
-    let shown : Shows g kind q (pageSize - sizes rs) rs =
-    fill-shows (pageOf (st .image) q) kind q rs (page-length n (st .image) long q page) small (omega (arith, inside-range n q page)) good room slots in
+    let before = page-length n (st .image) long q page in
+    let own : q < 65536 = omega (arith, inside-range n q page) in
+    let shown : Shows g kind q (pageSize - sizes rs) rs = fill-shows (pageOf (st .image) q) kind q rs before small own good room slots in
     let whole = laid-length g (shown .laid) in
+    let here = write-here n (st .image) long q page g whole in
     record {
-      shows = subst (λ (p : List ℕ). Shows p kind q (pageSize - sizes rs) rs) (sym (write-here n (st .image) long q page g whole)) shown;
+      shows = subst (λ (p : List ℕ). Shows p kind q (pageSize - sizes rs) rs) (sym here) shown;
       other = write-other n (st .image) long q page g whole;
+      stays = λ i low high. ap (λ (p : List ℕ). getD p i 0) here ∙ fill-stays (pageOf (st .image) q) kind q rs before small own good room slots i low (omega (arith, shown .start));
       long = write-length n (st .image) long q page g whole;
       leads = leads-write F n st long q page g whole (λ h. absurd (omega arith));
     }
@@ -79,6 +89,11 @@ pub record Reindexed (F : List ℕ) (s t : State) (i : ℕ) (cs : List Rec) : Ty
   pub pages : (x : ℕ) → hit x (t .root) + count x (t .free) ≤ hit x (s .root) + count x (s .free)
   pub leads : Leads F s t
   pub touch : (1 ≤ count (t .root) F) ⊎ ((t .root ≡ s .root) × Lower (pageOf (s .image) (s .root)) (pageOf (t .image) (s .root)))
+
+-- how its content start went from a to i: in its page, where an index record has room there, or else in the first free page, with all of its records
+pub data Way (s t : State) (a i : ℕ) (cs : List Rec) : Type 0 where
+  in-page : entrySize ≤ a - lineSize → i ≡ a - entrySize → t .root ≡ s .root → s .free ≡ t .free → Way s t a i cs
+  in-new : a - lineSize < entrySize → i ≡ pageSize - entrySize * length cs → s .free ≡ t .root ∷ t .free → Way s t a i cs
 
 pub reindexed-trans : (F : List ℕ) (s t u : State) (i j : ℕ) (cs ds : List Rec) → Reindexed F s t i cs → Reindexed F t u j ds → Reindexed F s u j ds
 reindexed-trans F s t u i j cs ds R S =
@@ -113,8 +128,7 @@ module _ (n : ℕ) (few : n ≤ 64) (F : List ℕ) (st : State) (long : length (
   root-in = omega (arith, apart (st .root), hit-self (st .root))
 
   full : isFull ins (size x) p ≡ ltb (s - lineSize) entrySize
-  unfolding isFull
-  full = rw (I .start, I .recs, size-entry x entry, none ins more) (or-false (ltb (s - lineSize) entrySize))
+  full = full-exact ins (size x) p ∙ rw (I .start, I .recs, size-entry x entry, none ins more) (or-false (ltb (s - lineSize) entrySize))
     where
       none : (b : Bool) → (b ≡ true → length cs < slotCount) → (b && leb slotCount (length cs)) ≡ false
       none true h = lt-leb slotCount (length cs) (h refl)
@@ -168,10 +182,15 @@ module _ (n : ℕ) (few : n ≤ 64) (F : List ℕ) (st : State) (long : length (
         touch = inr (refl, subst (Lower p) (sym here) (place-lower p (I .laid) i x ok room ins slots));
       }
 
-  pub indexed-ends : (P : State → Type 0) (need : ℕ → ℕ) (k : State → Step) → ((t : State) (j : ℕ) → Reindexed F st t j ds → Ends P (short (need j) (t .free)) (k t)) →
+  pub indexed-ways : (P : State → Type 0) (need : ℕ → ℕ) (k : State → Step) → ((t : State) (j : ℕ) → Reindexed F st t j ds → Way st t s j ds → Ends P (short (need j) (t .free)) (k t)) →
       Ends P (short (pick (ltb (s - lineSize) entrySize) (suc (need (pageSize - entrySize * length ds))) (need (s - entrySize))) (st .free)) (indexed ins i x st k)
   unfolding indexed filled
-  indexed-ends P need k h =
+  indexed-ways P need k h =
       rw full
       (by-tests (λ (d : ℕ) (x : Step). Ends P (short d (st .free)) x) (ltb (s - lineSize) entrySize)
-      (λ e. taken-ends P st (need (pageSize - entrySize * length ds)) _ _ refl (λ q f z. h _ _ (copy q f z))) (λ e. h _ _ (place e)))
+      (λ e. taken-ends P st (need (pageSize - entrySize * length ds)) _ _ refl (λ q f z. h _ _ (copy q f z) (in-new (ltb-true (s - lineSize) entrySize e) refl z)))
+      (λ e. h _ _ (place e) (in-page (ltb-false (s - lineSize) entrySize e) refl refl refl)))
+
+  pub indexed-ends : (P : State → Type 0) (need : ℕ → ℕ) (k : State → Step) → ((t : State) (j : ℕ) → Reindexed F st t j ds → Ends P (short (need j) (t .free)) (k t)) →
+      Ends P (short (pick (ltb (s - lineSize) entrySize) (suc (need (pageSize - entrySize * length ds))) (need (s - entrySize))) (st .free)) (indexed ins i x st k)
+  indexed-ends P need k h = indexed-ways P need k (λ t j R W. h t j R)

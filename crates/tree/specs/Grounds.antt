@@ -4,7 +4,7 @@
 -- Assumes nothing.
 use Prim.Native.Nat.{ℕ, _+_, _-_, _*_}
 use mathlib.Core.Path.{_≡_}
-use mathlib.Core.Bool.{Bool, true, false, _&&_}
+use mathlib.Core.Bool.{Bool, true, false, _&&_, _||_}
 use mathlib.Core.List.{List, [], _∷_, _++_}
 use mathlib.Core.Option.{Option, none, some}
 use lib.ListN.{length, getD}
@@ -20,7 +20,6 @@ use Rattle.image.specs.Route.{route}
 use Rattle.edit.specs.EditList.{Edit, insert, update, delete}
 use Rattle.edit.specs.Ledger.{add, replace, applyEdits}
 use Rattle.tree.specs.State.{State, begin}
-use Rattle.tree.specs.Edits.{isFull}
 use Rattle.tree.specs.Whole.{finished, editsFrom}
 
 -- the table of a state
@@ -52,10 +51,11 @@ pagesFor st n = n + pick (ltb (readHead (pageOf (st .image) (st .root)) .start -
 unfoldable pub tooFew : State → ℕ → ℕ
 tooFew st n = pick (ltb (length (st .free)) (pagesFor st n)) pagesOut 0
 
--- a record of size s goes into the leaf p, whose records are then rs: in place, or else to one new page or two
+-- a record of size s goes into the leaf p, whose records are then rs: "If s exceeds start minus 64, or an insert finds 28 records", they go to one new page
+-- if "they are at most 28 and at most 960 bytes", else to two
 unfoldable pub room : State → Bool → ℕ → List ℕ → List Rec → ℕ
 room st ins s p rs =
-    pick (isFull ins s p)
+    pick (ltb (readHead p .start - lineSize) s || (ins && leb slotCount (length (records p))))
     (pick (leb (length rs) slotCount && leb (sizes rs) (pageSize - lineSize)) (tooFew st 1)
     (pick (leb slotCount (length (children (st .image) (st .root)))) indexFull (tooFew st 2)))
     0

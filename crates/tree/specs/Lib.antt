@@ -5,3 +5,4 @@ pub mod Grounds
 pub mod Good
 pub mod NewPages
 pub mod Reasons
+pub mod Moved

@@ -6,15 +6,22 @@ use mathlib.Core.Logic.{_⊎_}
 use mathlib.Core.Bool.{Bool, true, false}
 use mathlib.Core.List.{List}
 use lib.ListN.{length}
-use Rattle.page.specs.Layout.{pageSize, lineSize, slotCount, Rec, recOf, size}
+use Rattle.page.specs.Layout.{pageSize, lineSize, slotCount, Rec, recOf, size, readHead}
 use Rattle.page.specs.Page.{records}
 use Rattle.page.specs.Operations.{sizes}
 use Rattle.image.specs.Image.{children}
 use Rattle.edit.specs.EditList.{Edit, insert, update, delete}
 use Rattle.edit.specs.Ledger.{add, replace}
 use Rattle.tree.specs.State.{State}
-use Rattle.tree.specs.Edits.{isFull}
 use Rattle.tree.specs.Grounds.{tableOf, holds, leafOf, pagesFor}
+
+-- "If s exceeds start minus 64, or an insert finds 28 records": a record of size s has no room in the page p
+abbrev pub Full : Bool → ℕ → List ℕ → Type 0
+Full ins s p = (readHead p .start - lineSize < s) ⊎ ((ins ≡ true) × (slotCount ≤ length (records p)))
+
+-- and when it has
+abbrev pub NotFull : Bool → ℕ → List ℕ → Type 0
+NotFull ins s p = (s ≤ readHead p .start - lineSize) × (ins ≡ true → length (records p) < slotCount)
 
 -- "If they are at most 28 and at most 960 bytes, they are copied to one new page; else split over two."
 pub record OnePage (rs : List Rec) : Type 0 where
@@ -26,12 +33,12 @@ TwoPages rs = (slotCount < length rs) ⊎ (pageSize - lineSize < sizes rs)
 
 -- the ground of a record of size s that goes into the leaf p, whose records are then rs
 pub data Room (st : State) (ins : Bool) (s : ℕ) (p : List ℕ) (rs : List Rec) : ℕ → Type 0 where
-  in-place : isFull ins s p ≡ false → Room st ins s p rs 0
-  copied : isFull ins s p ≡ true → OnePage rs → pagesFor st 1 ≤ length (st .free) → Room st ins s p rs 0
-  no-copy : isFull ins s p ≡ true → OnePage rs → length (st .free) < pagesFor st 1 → Room st ins s p rs 11
-  no-index : isFull ins s p ≡ true → TwoPages rs → slotCount ≤ length (children (st .image) (st .root)) → Room st ins s p rs 10
-  split : isFull ins s p ≡ true → TwoPages rs → length (children (st .image) (st .root)) < slotCount → pagesFor st 2 ≤ length (st .free) → Room st ins s p rs 0
-  no-split : isFull ins s p ≡ true → TwoPages rs → length (children (st .image) (st .root)) < slotCount → length (st .free) < pagesFor st 2 → Room st ins s p rs 11
+  in-place : NotFull ins s p → Room st ins s p rs 0
+  copied : Full ins s p → OnePage rs → pagesFor st 1 ≤ length (st .free) → Room st ins s p rs 0
+  no-copy : Full ins s p → OnePage rs → length (st .free) < pagesFor st 1 → Room st ins s p rs 11
+  no-index : Full ins s p → TwoPages rs → slotCount ≤ length (children (st .image) (st .root)) → Room st ins s p rs 10
+  split : Full ins s p → TwoPages rs → length (children (st .image) (st .root)) < slotCount → pagesFor st 2 ≤ length (st .free) → Room st ins s p rs 0
+  no-split : Full ins s p → TwoPages rs → length (children (st .image) (st .root)) < slotCount → length (st .free) < pagesFor st 2 → Room st ins s p rs 11
 
 -- the ground of an edit: "8 insert of a key present; 9 other edit of a missing key; 10 a 29th index record; 11 too few new pages", or 0
 pub data Reason (st : State) : Edit → ℕ → Type 0 where

@@ -7,12 +7,13 @@ use mathlib.Core.List.{List}
 use native.Mathlib.Omega.{arith}
 use lib.ListN.{length}
 use lib.Dec.{leb, eqb}
-use borrow.Author.Tests.{leb-true}
+use borrow.Author.Tests.{leb-true, eq-eqb}
 use Rattle.codec.specs.Lists.{pick}
 use Rattle.codec.proofs.Tests.{first, second}
-use Rattle.device.specs.Tape.{Op, wellFormed}
+use Rattle.device.specs.Tape.{Op, decode, wellFormed}
+use Rattle.device.specs.Cut.{after}
 use Rattle.device.specs.Counts.{scanned}
-use Rattle.device.specs.Calls.{isImageSize, Ran, refused, unless}
+use Rattle.device.specs.Calls.{isImageSize, Ran, accepted, refused, unless, runCall}
 use Rattle.device.specs.declared.Scan.the-variants.{Commands, Broken}
 
 module _ (test : Bool) (k : ℕ) (old : List ℕ) (ran : Ran) where
@@ -23,6 +24,12 @@ module _ (test : Bool) (k : ℕ) (old : List ℕ) (ran : Ran) where
   pub fails : test ≡ false → unless test k old ran ≡ refused k old
   unfolding unless
   fails e = rw e
+
+-- a run of a well-formed tape is accepted: "Run's work is the image after all stores."
+pub run-accepts : (image work tape : List ℕ) → isImageSize (length image) ≡ true → length work ≡ length image → wellFormed (decode (length image) tape) ≡ true →
+    runCall image work tape ≡ accepted (after image (decode (length image) tape))
+unfolding runCall unless
+run-accepts image work tape size same formed = rw (size, eq-eqb (length work) (length image) same, formed)
 
 -- what a call is said to do, in two parts
 pub said : (call done : Ran) → call ≡ done → (done .answer ≡ call .answer) × (done .work ≡ call .work)

@@ -8,12 +8,13 @@ use mathlib.Core.List.{List, [], _∷_}
 use native.Mathlib.Nat.{not-suc-le-zero}
 use native.Mathlib.Omega.{arith}
 use lib.ListN.{length, take, drop}
-use borrow.Author.Tests.{le-leb, eq-eqb}
+use borrow.Author.Tests.{le-leb}
 use Rattle.codec.specs.Lists.{All, splice}
 use Rattle.codec.proofs.Lists.{drop-splice}
 use Rattle.device.specs.Tape.{tapeBytes, wellFormed, flushCount}
 use Rattle.device.specs.Cut.{after}
-use Rattle.device.specs.Calls.{accepted, unless, runCall}
+use Rattle.device.specs.Calls.{accepted, runCall}
+use Rattle.device.proofs.Calls.{run-accepts}
 use Rattle.device.proofs.Encode.{writable-formed}
 use Rattle.image.specs.PageZero.{logMost}
 use Rattle.image.specs.Image.{sound}
@@ -111,8 +112,8 @@ module _ (a work tape bytes : List ℕ) (c : Commit) (e : transactionCall a work
   formed = ap wellFormed commands-are ∙ writable-formed (length a) (taken .tape) (taken-fits a target was-sound target-edited room)
 
   runs : (buffer : List ℕ) → length buffer ≡ length a → runCall a buffer (take (c .bytes) (transactionCall a work tape bytes .tape)) ≡ accepted (transactionCall a work tape bytes .work)
-  unfolding runCall unless
-  runs buffer same = rw (acceptance .begun .size, eq-eqb (length buffer) (length a) same, formed) (ap accepted leaves)
+  runs buffer same =
+      run-accepts a buffer (take (c .bytes) (transactionCall a work tape bytes .tape)) (acceptance .begun .size) same formed ∙ ap accepted leaves
 
   flushes : c .flushes ≡ flushCount (commandsOn a (c .bytes) (transactionCall a work tape bytes .tape))
   unfolding commitOf

@@ -174,6 +174,12 @@ unfolding fillHead insertHead
 fill-own h [] = refl
 fill-own h (r ∷ rs) = fill-own (insertHead h (length (h .slots)) (size r)) rs
 
+fill-slots : (h : Head) (rs : List Rec) → length (fillHead h rs .slots) ≡ length (h .slots) + length rs
+unfolding fillHead insertHead
+fill-slots h [] = omega arith
+fill-slots h (r ∷ rs) =
+    omega (arith, fill-slots (insertHead h (length (h .slots)) (size r)) rs, length-insertAt (length (h .slots)) (h .start - size r) (h .slots))
+
 recs-placed : (start : ℕ) (rs : List Rec) → recs (placed start rs) ≡ rs
 unfolding placed
 recs-placed start [] = refl
@@ -187,6 +193,14 @@ fill-below (r ∷ rs) start p a n room fits =
     let e : Entry = record { at = start - size r; rec = r } in
     fill-below rs (start - size r) (written start p r) a n (omega arith) (omega (arith, put-length p e (omega arith)))
     ∙ part-splice-below p (start - size r) (recordBytes r) (omega (arith, length-recordBytes r)) a n (omega arith)
+
+fill-keeps : (p : List ℕ) (kind own : ℕ) (rs : List Rec) → length p ≡ pageSize → lineSize + sizes rs ≤ pageSize → length rs ≤ slotCount →
+    part (fill p kind own rs) lineSize (pageSize - sizes rs - lineSize) ≡ part p lineSize (pageSize - sizes rs - lineSize)
+unfolding fill unusedHead
+fill-keeps p kind own rs whole room few =
+    let h = unusedHead kind own in
+    let n : ℕ = pageSize - sizes rs - lineSize in
+    part-seal (fillHead h rs) (fillBytes pageSize p rs) lineSize n (omega (arith, fill-slots h rs)) (omega arith) ∙ fill-below rs pageSize p lineSize n (omega arith) (omega arith)
 
 module _ (p : List ℕ) (kind own : ℕ) (rs : List Rec) (whole : length p ≡ pageSize) (k : kind < 256) (o : own < 65536) where
   unused : Body (unusedHead kind own) p []
@@ -215,11 +229,7 @@ module _ (p : List ℕ) (kind own : ℕ) (rs : List Rec) (whole : length p ≡ p
   -- "its bytes from 64 to start stay"
   pub fill-stays : All RecOk rs → lineSize + sizes rs ≤ pageSize → length rs ≤ slotCount → (i : ℕ) → lineSize ≤ i → i < readHead (fill p kind own rs) .start →
       getD (fill p kind own rs) i 0 ≡ getD p i 0
-  unfolding fill unusedHead
+  unfolding unusedHead
   fill-stays good room few i low high =
-      let h = fillHead (unusedHead kind own) rs in
-      let n : ℕ = pageSize - sizes rs - lineSize in
       let start : readHead (fill p kind own rs) .start ≡ pageSize - sizes rs = ap (λ (x : Head). x .start) (fill-page good room few .head) ∙ fill-start (unusedHead kind own) rs in
-      let stays : part (fill p kind own rs) lineSize n ≡ part p lineSize n =
-      part-seal h (fillBytes pageSize p rs) lineSize n (fill-is good room few .body .head .few) (omega arith) ∙ fill-below rs pageSize p lineSize n (omega arith) (omega arith) in
-      agree-part p (fill p kind own rs) lineSize n stays i low (omega arith)
+      agree-part p (fill p kind own rs) lineSize (pageSize - sizes rs - lineSize) (fill-keeps p kind own rs whole room few) i low (omega arith)

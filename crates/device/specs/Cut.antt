@@ -134,6 +134,7 @@ pub record Flushing (xs ys : List Op) : Type 0 where
   pub flushes : All IsFlush ys
   pub covers : Sealed xs ys
 
+-- if it is a store, it stores what stands in the image w
 abbrev pub Writes : List ℕ → Op → Type 0
 Writes w (store p vs) = (p + length vs ≤ length w) × (part w p (length vs) ≡ vs)
 Writes w (flush l) = Unit {0}

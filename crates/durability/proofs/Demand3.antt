@@ -21,9 +21,9 @@ use Rattle.edit.proofs.Counts.{ledger-count, table-last, table-next}
 use Rattle.journal.specs.Changes.{changedPages}
 use Rattle.journal.specs.Tape.{Taken, roomInLog, takenFor}
 use Rattle.journal.specs.Edited.{Edited}
-use Rattle.journal.proofs.Taken.{txn-before, txn-between, txn-after}
 use Rattle.journal.specs.declared.Commit.{Commit}
 use Rattle.journal.specs.Holds.{Holds}
+use Rattle.journal.proofs.Taken.{txn-before, txn-between, txn-after}
 use Rattle.transaction.specs.Calls.{isAccepted}
 use Rattle.transaction.specs.declared.Transacted.the-variants as transacted
 use Rattle.transaction.proofs.Demand2.{target, target-edited, target-table, room, commands-are}

@@ -21,9 +21,9 @@ use Rattle.edit.specs.Ledger.{Ledger, opened, Feed, tableAt}
 use Rattle.journal.specs.Recovery.{recoveryTape}
 use Rattle.journal.specs.declared.CommitPlace.{CommitPlace}
 use Rattle.journal.specs.declared.CommitPlace.the-variants.{Header, Root, Log}
+use Rattle.journal.specs.declared.Commit.{Commit}
 use Rattle.transaction.specs.Calls as transaction
 use Rattle.transaction.specs.Calls.{commandsOn}
-use Rattle.journal.specs.declared.Commit.{Commit}
 use Rattle.transaction.specs.declared.Transacted.{Transacted}
 use Rattle.transaction.specs.declared.Transacted.the-variants as transacted
 use Rattle.recovery.specs.Calls as recovery

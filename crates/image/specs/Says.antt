@@ -7,10 +7,10 @@ use mathlib.Core.List.{List, [], _∷_}
 use mathlib.Core.Bool.{true, false}
 use mathlib.Core.Option.{none, some}
 use lib.ListN.{length}
-use Rattle.page.specs.Layout.{Rec}
 use Rattle.codec.specs.Lists.{part}
 use Rattle.device.specs.Calls.{refusal}
 use Rattle.device.specs.declared.Answer.the-variants.{Accepted, Refused}
+use Rattle.page.specs.Layout.{Rec}
 use Rattle.image.specs.Table.{table, find}
 use Rattle.image.specs.Calls.{checkCall, keyOk}
 use Rattle.image.specs.declared.Lookup.{Lookup}
@@ -18,10 +18,13 @@ use Rattle.image.specs.declared.Lookup.the-variants as lookups
 use Rattle.image.specs.declared.Next.{Next}
 use Rattle.image.specs.declared.Next.the-variants as nexts
 
+-- ---- records of a table
+
 abbrev pub Member : Rec → List Rec → Type 0
 Member r [] = ⊥
 Member r (x ∷ l) = (r ≡ x) ⊎ Member r l
 
+-- "the smallest key above it": j, above k in the table l
 pub record Smallest (k j : ℕ) (l : List Rec) : Type 0 where
   pub rec : Rec
   pub member : Member rec l
@@ -29,8 +32,11 @@ pub record Smallest (k j : ℕ) (l : List Rec) : Type 0 where
   pub over : k < j
   pub least : (r : Rec) → Member r l → k < r .key → j ≤ r .key
 
+-- "or none": no key is above k
 abbrev pub AtMost : ℕ → List Rec → Type 0
 AtMost k l = (r : Rec) → Member r l → r .key ≤ k
+
+-- ---- answers
 
 -- what a lookup's answer says of the image and its table
 abbrev pub LookupSays : List ℕ → ℕ → Lookup → Type 0

@@ -18,6 +18,7 @@ use Rattle.device.specs.Tape.{Op, store, flush}
 use Rattle.device.specs.Cut.{after, touches, Writes}
 use Rattle.device.proofs.Cuts.{length-after, after-append}
 use Rattle.device.proofs.Segments.{run-other, closed-append}
+use Rattle.device.proofs.Writing.{writes-at, writes-after, writes-move, flushes-write, touches-both, touches-left, touches-right, untouched-first, untouched-rest}
 use Rattle.page.specs.Layout.{pageSize, lineSize}
 use Rattle.image.specs.PageZero.{pageCount, isPage, rootOf, logMost, markBytes, noMark}
 use Rattle.image.specs.Image.{sound}
@@ -34,7 +35,6 @@ use Rattle.journal.specs.Tape.{newHeaders, joinLines, byLog}
 use Rattle.journal.specs.Edited.{Edited}
 use Rattle.journal.specs.Commit.{commitStore, commitLine}
 use Rattle.journal.specs.Holds.{replay, Waits, tapeOf, Holds}
-use Rattle.device.proofs.Writing.{writes-at, writes-after, writes-move, flushes-write, touches-both, touches-left, touches-right, untouched-first, untouched-rest}
 use Rattle.journal.proofs.Headers.{Lines, lines-agree, header-flushing, logged-inside, headers-outside}
 use Rattle.journal.proofs.Standing.{page-small, line-root, line-other, length-noMark, length-mark}
 use Rattle.journal.proofs.Replay.{waits-replayable, waits-run}

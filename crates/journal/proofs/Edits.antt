@@ -16,6 +16,7 @@ use Rattle.codec.proofs.Lists.{length-part}
 use Rattle.codec.proofs.Agree.{or-left, or-right, either, agree-part}
 use Rattle.device.specs.Tape.{Op, store}
 use Rattle.device.specs.Cut.{touches, Writes}
+use Rattle.device.proofs.Writing.{touches-in, touches-past}
 use Rattle.page.specs.Layout.{pageSize, lineSize}
 use Rattle.image.specs.PageZero.{pageCount, isPage, rootOf, noMark}
 use Rattle.image.specs.Image.{reached, among, sound}
@@ -26,7 +27,6 @@ use Rattle.journal.specs.Log.{ownPage, headerStores}
 use Rattle.journal.specs.Recovery.{loggedOk}
 use Rattle.journal.specs.Tape.{newHeaders}
 use Rattle.journal.specs.Edited.{Edited}
-use Rattle.device.proofs.Writing.{touches-in, touches-past}
 use Rattle.journal.proofs.Headers.{Lines}
 use Rattle.journal.proofs.StageA.{freeByte, stageA-covers}
 use Rattle.journal.proofs.Changed.{InBoth, reached-page, reached-own, changed-both, changed-distinct, changed-all}

@@ -12,13 +12,13 @@ use Rattle.codec.proofs.Tests.{first, second}
 use Rattle.codec.proofs.Lists.{splice-sets, length-splice, length-part}
 use Rattle.codec.proofs.Agree.{part-agree}
 use Rattle.device.specs.Cut.{after, lineOf, touches, Flushing}
+use Rattle.device.proofs.Writing.{flushing-none, flushing-next, after-store, after-none, touches-out, touches-none}
 use Rattle.page.specs.Layout.{pageSize, lineSize}
 use Rattle.image.specs.PageZero.{pageCount, isPage}
 use Rattle.image.specs.Image.{distinct}
 use Rattle.image.proofs.Zero.{isPage-true}
 use Rattle.journal.specs.Log.{pageLines, ownPage, headerStores, headerFlushes}
 use Rattle.journal.specs.Recovery.{linesFrom, loggedOk, withHeaders}
-use Rattle.device.proofs.Writing.{flushing-none, flushing-next, after-store, after-none, touches-out, touches-none}
 
 -- ---- what the headers are
 

@@ -12,12 +12,12 @@ use Rattle.codec.specs.Lists.{part, splice, All}
 use Rattle.codec.proofs.Lists.{splice-sets, sets-append, sets-apart}
 use Rattle.codec.proofs.Agree.{part-sets, part-agree}
 use Rattle.device.specs.Cut.{after, lineOf, touches, Closed, Flushing, Writes}
+use Rattle.device.proofs.Writing.{flushing-none, flushing-next, flushing-closed, flushing-touches, flushing-after, flushes-write, after-store, after-none, touches-out, touches-none}
 use Rattle.page.specs.Layout.{lineSize}
 use Rattle.image.proofs.General.{All-append}
 use Rattle.journal.specs.Log.{logStores, logFlushes, logTape}
 use Rattle.journal.specs.Tape.{joinLines}
 use Rattle.journal.specs.Recovery.{linesFrom, logged}
-use Rattle.device.proofs.Writing.{flushing-none, flushing-next, flushing-closed, flushing-touches, flushing-after, flushes-write, after-store, after-none, touches-out, touches-none}
 use Rattle.journal.proofs.Headers.{Lines}
 
 -- ---- from line l on

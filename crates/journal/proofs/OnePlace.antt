@@ -17,6 +17,7 @@ use Rattle.codec.proofs.Agree.{agree-part}
 use Rattle.device.specs.Tape.{Op, store, flush}
 use Rattle.device.specs.Cut.{after, lineOf, touches, Writes}
 use Rattle.device.proofs.Cuts.{after-append}
+use Rattle.device.proofs.Writing.{writes-after, touches-left, touches-right, untouched-first, touches-out, touches-none, after-store, after-none}
 use Rattle.page.specs.Layout.{pageSize}
 use Rattle.image.specs.PageZero.{rootOf, noMark}
 use Rattle.image.specs.Image.{sound}
@@ -27,7 +28,6 @@ use Rattle.journal.specs.Log.{headerStores}
 use Rattle.journal.specs.Tape.{Taken, newHeaders, byHeader, byRoot}
 use Rattle.journal.specs.Edited.{Edited}
 use Rattle.journal.specs.Commit.{commitStore, commitLine}
-use Rattle.device.proofs.Writing.{writes-after, touches-left, touches-right, untouched-first, touches-out, touches-none, after-store, after-none}
 use Rattle.journal.proofs.Standing.{line-root}
 use Rattle.journal.proofs.Replay.{holds-sound, sound-tape, sound-replay}
 use Rattle.journal.proofs.StageA.{stageA-closed, stageA-writes, stageA-dead}

@@ -14,6 +14,7 @@ use Rattle.device.specs.Tape.{Op, store, flush, malformed}
 use Rattle.device.specs.Cut.{after, lineOf, cutImage, touches, Closed, To, Flushing}
 use Rattle.device.proofs.Cuts.{length-after, after-append, length-cut, one-store}
 use Rattle.device.proofs.Segments.{run-other, cut-untouched, cut-early, cut-late, closed-append}
+use Rattle.device.proofs.Writing.{to-flushing, flushing-closed, flushing-after, after-store, after-none}
 use Rattle.page.specs.Layout.{Rec}
 use Rattle.image.specs.Image.{sound}
 use Rattle.image.specs.Table.{table}
@@ -22,7 +23,6 @@ use Rattle.journal.specs.Changes.{changedPages}
 use Rattle.journal.specs.Tape.{Taken}
 use Rattle.journal.specs.Commit.{commitStore, commitLine}
 use Rattle.journal.specs.Holds.{replay, tapeOf, Holds}
-use Rattle.device.proofs.Writing.{to-flushing, flushing-closed, flushing-after, after-store, after-none}
 use Rattle.journal.proofs.Replay.{holds-dead, recovery-run, recovery-cut, recovery-closed}
 
 -- the transaction x on the image a commits by the store o to line l, and its table is then t

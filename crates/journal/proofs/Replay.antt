@@ -17,9 +17,10 @@ use Rattle.codec.proofs.Numbers.{length-bytesOf}
 use Rattle.codec.proofs.Agree.{part-sets, part-agree}
 use Rattle.device.specs.Tape.{Op, store, flush}
 use Rattle.device.specs.Cut.{after, cutImage, touches, Closed, To}
+use Rattle.device.specs.Calls.{isImageSize}
 use Rattle.device.proofs.Cuts.{length-after, after-append, length-cut}
 use Rattle.device.proofs.Segments.{run-other, cut-untouched, cut-early, cut-late, cut-all, closed-append}
-use Rattle.device.specs.Calls.{isImageSize}
+use Rattle.device.proofs.Writing.{flushing-closed, flushing-touches, flushing-after, to-flushing, cut-line, after-none, after-store, closed-none, sets-stands}
 use Rattle.page.specs.Layout.{Rec}
 use Rattle.image.specs.PageZero.{noMark, pageZero}
 use Rattle.image.specs.Image.{sound}
@@ -33,7 +34,6 @@ use Rattle.image.proofs.Frame.{frame}
 use Rattle.journal.specs.Log.{headerStores, headerFlushes, ending, replayTape}
 use Rattle.journal.specs.Recovery.{logged, replayFrom, recoveryTape, replayable}
 use Rattle.journal.specs.Holds.{replay, Waits, tapeOf, Holds}
-use Rattle.device.proofs.Writing.{flushing-closed, flushing-touches, flushing-after, to-flushing, cut-line, after-none, after-store, closed-none, sets-stands}
 use Rattle.journal.proofs.Headers.{header-flushing}
 use Rattle.journal.proofs.Standing.{Standing, settle, settle-sets, waits-long, logged-outside, replay-after, length-replay, standing-waits, standing-replay}
 

@@ -17,6 +17,7 @@ use Rattle.codec.proofs.Lists.{length-part}
 use Rattle.codec.proofs.Agree.{length-part-le, agree-part, part-agree}
 use Rattle.device.specs.Tape.{Op, store, flush, malformed}
 use Rattle.device.specs.Cut.{after, flushed, touches, Closed, Flushing, Writes}
+use Rattle.device.proofs.Writing.{flushing-none, flushing-flush, flushing-past, flushed-first, flushing-closed, flushing-touches, writes-at, flushes-write, touches-out, touches-none, untouched-first, untouched-rest}
 use Rattle.page.specs.Layout.{pageSize, lineSize}
 use Rattle.image.specs.PageZero.{rootOf}
 use Rattle.image.specs.Image.{reached, among}
@@ -24,7 +25,6 @@ use Rattle.image.specs.Live.{live}
 use Rattle.image.proofs.General.{All-append}
 use Rattle.journal.specs.Changes.{wordSize, pageWords, lineWords, freeWord, wordStores, flushesFrom, flushesOf, stageA}
 use Rattle.journal.specs.Edited.{Edited}
-use Rattle.device.proofs.Writing.{flushing-none, flushing-flush, flushing-past, flushed-first, flushing-closed, flushing-touches, writes-at, flushes-write, touches-out, touches-none, untouched-first, untouched-rest}
 
 -- ---- the flushes of a list of stores
 

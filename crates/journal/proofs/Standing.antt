@@ -17,6 +17,7 @@ use Rattle.device.specs.Tape.{Op, store}
 use Rattle.device.specs.Cut.{after, touches}
 use Rattle.device.proofs.Cuts.{length-after, after-append}
 use Rattle.device.proofs.Segments.{run-over}
+use Rattle.device.proofs.Writing.{after-store, after-none, touches-left, touches-right, untouched-first}
 use Rattle.page.specs.Layout.{pageSize}
 use Rattle.image.specs.PageZero.{pageCount, isPage, rootOf, markBytes, noMark, wordsPast}
 use Rattle.image.proofs.General.{part-part, part-front, part-past}
@@ -24,7 +25,6 @@ use Rattle.image.proofs.Zero.{Size, isPage-true, Line, Marked, waiting-facts, f
 use Rattle.journal.specs.Log.{headerStores}
 use Rattle.journal.specs.Recovery.{logged, withHeaders, replayed, replayFrom}
 use Rattle.journal.specs.Holds.{replay, Waits}
-use Rattle.device.proofs.Writing.{after-store, after-none, touches-left, touches-right, untouched-first}
 use Rattle.journal.proofs.Headers.{Lines, Inside, logged-inside, lines-from, lines-agree, headers-outside, headers-after}
 
 -- ---- line 0 by its words

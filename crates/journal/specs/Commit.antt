@@ -2,6 +2,9 @@
 -- Assumes nothing.
 use Prim.Native.Nat.{ℕ, _*_, _≤_}
 use mathlib.Core.List.{List, [], _∷_}
+use mathlib.Core.Path.{_≡_}
+use mathlib.Core.Bool.{true}
+use lib.ListN.{length}
 use Rattle.codec.specs.Numbers.{bytesOf}
 use Rattle.device.specs.Tape.{Op, store}
 use Rattle.page.specs.Layout.{pageSize}
@@ -10,9 +13,6 @@ use Rattle.journal.specs.Changes.{headerLine, changedPages, sameRoot}
 use Rattle.journal.specs.Log.{pageLines}
 use Rattle.journal.specs.declared.CommitPlace.{CommitPlace}
 use Rattle.journal.specs.declared.CommitPlace.the-variants.{Header, Root, Log}
-use mathlib.Core.Path.{_≡_}
-use mathlib.Core.Bool.{true}
-use lib.ListN.{length}
 
 -- "The commit store is the one changed place's store, or the mark's first store.": to the edited image w, with k changed headers
 unfoldable pub commitStore : List ℕ → ℕ → CommitPlace → Op

@@ -4,13 +4,13 @@ use Prim.Native.Nat.{ℕ, zero}
 use mathlib.Core.Path.{_≡_}
 use mathlib.Core.Bool.{true}
 use mathlib.Core.List.{List}
-use Rattle.image.specs.PageZero.{pageCount, pageZero}
-use Rattle.image.specs.declared.PageZero.the-variants.{Waiting}
-use Rattle.journal.specs.Recovery.{logged, loggedOk, replayFrom, recoveryTape, replayable}
 use Rattle.device.specs.Tape.{Op}
 use Rattle.page.specs.Layout.{Rec}
+use Rattle.image.specs.PageZero.{pageCount, pageZero}
+use Rattle.image.specs.declared.PageZero.the-variants.{Waiting}
 use Rattle.image.specs.Image.{sound}
 use Rattle.image.specs.Table.{table}
+use Rattle.journal.specs.Recovery.{logged, loggedOk, replayFrom, recoveryTape, replayable}
 
 -- the replayed image
 abbrev pub replay : List ℕ → List ℕ

@@ -2,11 +2,11 @@
 -- Assumes nothing.
 use Prim.Native.Nat.{ℕ, zero, suc, _+_, _*_, _-_, _/_, _%_, _≤_, _<_}
 use mathlib.Core.List.{List, [], _∷_, _++_}
-use lib.Dec.{eqb}
-use Rattle.codec.specs.Lists.{pick, All}
 use mathlib.Core.Path.{_≡_}
 use mathlib.Core.Logic.{_⊎_}
+use lib.Dec.{eqb}
 use lib.ListN.{replicate}
+use Rattle.codec.specs.Lists.{pick, All}
 
 -- the bytes of a space and of the digit 0
 abbrev pub space : ℕ
@@ -37,9 +37,12 @@ valueFrom n (c ∷ cs) = valueFrom (10 * n + (c - digitZero)) cs
 abbrev pub value : List ℕ → ℕ
 value cs = valueFrom 0 cs
 
+-- ---- "right-justified, no leading zeros", said without numbers
+
 abbrev pub Digit : ℕ → Type 0
 Digit c = (digitZero ≤ c) × (c < digitZero + 10)
 
+-- spaces, then digits, of which the first is no 0 unless it is the only one
 pub record Justified (cs : List ℕ) : Type 0 where
   pub spaces : ℕ
   pub first : ℕ

@@ -21,14 +21,14 @@ use Rattle.edit.proofs.General.{by-test}
 use Rattle.edit.proofs.Parsing.{list-proper, list-fault, fault-list}
 use Rattle.journal.specs.Changes.{changedPages}
 use Rattle.journal.specs.Tape.{roomInLog, takenFor}
+use Rattle.journal.specs.declared.Commit.{Commit}
 use Rattle.tree.specs.State.{State}
 use Rattle.tree.specs.Whole.{Outcome, finished, stopped, editsOn, editedImage}
-use Rattle.transaction.specs.Calls.{Result, refusedWith, acceptedWith, committed, outcomeOf, listOf, checkedOf, transactionCall}
-use Rattle.journal.specs.declared.Commit.{Commit}
-use Rattle.transaction.specs.declared.Transacted.the-variants.{Accepted, Refused}
-use Rattle.transaction.specs.Answers.{Begun, Done, Answers, bad-size, bad-work, bad-image, bad-list, bad-edit, no-log, no-tape, accepted}
 use Rattle.tree.proofs.Runs.{edits-refused, grounds-refuse}
 use Rattle.tree.proofs.Numbers.{edits-numbered}
+use Rattle.transaction.specs.Calls.{Result, refusedWith, acceptedWith, committed, outcomeOf, listOf, checkedOf, transactionCall}
+use Rattle.transaction.specs.declared.Transacted.the-variants.{Accepted, Refused}
+use Rattle.transaction.specs.Answers.{Begun, Done, Answers, bad-size, bad-work, bad-image, bad-list, bad-edit, no-log, no-tape, accepted}
 
 -- ---- the cases, in the order of document 01
 

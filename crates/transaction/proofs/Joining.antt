@@ -26,13 +26,13 @@ use Rattle.tree.proofs.Runs.{begin-good, edits-run}
 use Rattle.tree.proofs.Accepted.{edits-accepted}
 use Rattle.tree_edit.specs.Steps as steps
 use Rattle.tree_edit.specs.Asked.{CanMark, Spared}
+use Rattle.tree_edit.specs.declared.Tree.{Tree}
+use Rattle.tree_edit.specs.declared.Outcome.{Outcome}
+use Rattle.tree_edit.specs.declared.Outcome.the-variants.{Finished, Stopped}
 use Rattle.tree_edit.proofs.Marked.{good-marks}
 use Rattle.tree_edit.proofs.Places.{good-none}
 use Rattle.tree_edit.proofs.Free.{begin-state, unmarked-counts}
 use Rattle.tape_write.specs.Calls.{Images, Marks, Lent, reachedIn}
-use Rattle.tree_edit.specs.declared.Tree.{Tree}
-use Rattle.tree_edit.specs.declared.Outcome.{Outcome}
-use Rattle.tree_edit.specs.declared.Outcome.the-variants.{Finished, Stopped}
 
 -- ---- a sound image
 

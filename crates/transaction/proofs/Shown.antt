@@ -14,15 +14,15 @@ use Rattle.device.specs.declared.Answer.the-variants as answers
 use Rattle.image.specs.Calls.{checkCall}
 use Rattle.edit.specs.EditList.{Edit, Listed, listed, faulty, editsOf, editList}
 use Rattle.edit.specs.Judged.{judgedOf}
+use Rattle.edit.specs.declared.Judged.the-variants as judges
 use Rattle.journal.specs.Changes.{changedPages}
 use Rattle.journal.specs.Tape.{roomInLog, takenFor}
 use Rattle.tree.specs.State.{State}
 use Rattle.tree.specs.Whole.{finished, stopped, editsOn, editedImage}
 use Rattle.tape_write.specs.Calls.{commitCall}
-use Rattle.transaction.specs.Calls.{Result, refusedWith, acceptedWith, committed, outcomeOf, listOf, transactionCall}
-use Rattle.edit.specs.declared.Judged.the-variants as judges
 use Rattle.tape_write.specs.declared.Written.{Written}
 use Rattle.tape_write.specs.declared.Written.the-variants as writes
+use Rattle.transaction.specs.Calls.{Result, refusedWith, acceptedWith, committed, outcomeOf, listOf, transactionCall}
 use Rattle.transaction.specs.declared.Transacted.the-variants.{Accepted, Refused}
 use Rattle.transaction.specs.Answers.{Answers, bad-size, bad-work, bad-image}
 use Rattle.transaction.proofs.Answers.{begun-call, answers-call}

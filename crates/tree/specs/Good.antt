@@ -15,6 +15,8 @@ use Rattle.page.specs.Operations.{sizes, pageOf}
 use Rattle.image.specs.Facts.{Leaves}
 use Rattle.tree.specs.State.{State}
 
+-- ---- pages counted: that pages are distinct, in range and not taken is one inequality for each page
+
 -- 1 if p is the page x, else 0
 unfoldable pub hit : ℕ → ℕ → ℕ
 hit x p = pick (eqb x p) 1 0
@@ -31,6 +33,8 @@ named x cs = count x (map childOf cs)
 unfoldable pub inside : ℕ → ℕ → ℕ
 inside n x = pick (isPage n x) 1 0
 
+-- ---- pages and records
+
 -- g is laid out, of kind k and with the number n, the content start s and the records rs
 pub record Shows (g : List ℕ) (k n s : ℕ) (rs : List Rec) : Type 0 where
   pub laid : laidOut g ≡ true
@@ -39,6 +43,7 @@ pub record Shows (g : List ℕ) (k n s : ℕ) (rs : List Rec) : Type 0 where
   pub start : readHead g .start ≡ s
   pub recs : records g ≡ rs
 
+-- index records: "its value a 2-byte page number"
 abbrev pub IsEntry : Rec → Type 0
 IsEntry c = length (c .value) ≡ 2
 
@@ -50,6 +55,8 @@ pub record Fits (l : List Rec) : Type 0 where
   pub some : 1 ≤ length l
   pub few : length l ≤ slotCount
   pub room : lineSize + sizes l ≤ pageSize
+
+-- ---- states
 
 -- the state of an image with n pages, at most 64: its index and leaves are sound, and root, leaves and free pages are distinct and in range
 pub record Good (n : ℕ) (st : State) : Type 0 where

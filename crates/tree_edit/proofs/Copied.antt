@@ -12,8 +12,8 @@ use Rattle.page.specs.Layout.{pageSize, leafKind, Rec}
 use Rattle.page.specs.Page.{records, laidOut, RecOk}
 use Rattle.page.specs.Operations.{between, fill, pageOf, putPage}
 use Rattle.page.proofs.Made.{All-made, length-made, between-all}
-use Rattle.page_edit.specs.Filling.{CanFill}
 use Rattle.page.proofs.Facts.{records-ok}
+use Rattle.page_edit.specs.Filling.{CanFill}
 use Rattle.image.specs.PageZero.{pageCount}
 use Rattle.tree.specs.State.{State, done, refused, filled}
 use Rattle.tree.specs.Edits.{indexRec, indexed, keptSep, copied}

@@ -10,7 +10,6 @@ use lib.ListN.{length, take, drop, length-drop, take-append-drop}
 use lib.Seq.{take-length}
 use lib.Dec.{eqb}
 use borrow.Author.Tests.{le-leb, lt-leb}
-use Rattle.image.proofs.General.{All-left}
 use Rattle.codec.specs.Lists.{pick, All}
 use Rattle.page.specs.Layout.{pageSize, slotCount, leafKind, Rec}
 use Rattle.page.specs.Page.{records, RecOk}
@@ -18,6 +17,7 @@ use Rattle.page.specs.Operations.{sizes, between, fill, pageOf, putPage}
 use Rattle.page_edit.specs.Filling.{CanFill}
 use Rattle.image.specs.PageZero.{pageCount}
 use Rattle.image.specs.Image.{children}
+use Rattle.image.proofs.General.{All-left}
 use Rattle.edit.proofs.General.{all-right}
 use Rattle.tree.specs.State.{State, refused, filled}
 use Rattle.tree.specs.Edits.{keptSep, splitPoint, firstKey, split}

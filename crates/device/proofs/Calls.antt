@@ -1,19 +1,19 @@
 -- The calls' definitions, test by test.
 -- Assumes nothing.
-use Prim.Native.Nat.{ℕ, _%_, _≤_}
+use Prim.Native.Nat.{ℕ, _/_, _%_, _≤_}
 use mathlib.Core.Path.{_≡_, refl, sym, ap}
 use mathlib.Core.Bool.{Bool, true, false, _&&_}
 use mathlib.Core.List.{List}
 use native.Mathlib.Omega.{arith}
-use lib.ListN.{length}
+use lib.ListN.{length, getD}
 use lib.Dec.{leb, eqb}
-use borrow.Author.Tests.{leb-true, eq-eqb}
+use borrow.Author.Tests.{leb-true, le-leb, eq-eqb}
 use Rattle.codec.specs.Lists.{pick}
 use Rattle.codec.proofs.Tests.{first, second}
 use Rattle.device.specs.Tape.{Op, decode, wellFormed}
-use Rattle.device.specs.Cut.{after}
+use Rattle.device.specs.Cut.{after, cutImage}
 use Rattle.device.specs.Counts.{scanned}
-use Rattle.device.specs.Calls.{isImageSize, Ran, accepted, refused, unless, runCall}
+use Rattle.device.specs.Calls.{isImageSize, Ran, accepted, refused, unless, runCall, cutTape, cutCall}
 use Rattle.device.specs.declared.Scan.the-variants.{Commands, Broken}
 
 module _ (test : Bool) (k : ℕ) (old : List ℕ) (ran : Ran) where
@@ -30,6 +30,14 @@ pub run-accepts : (image work tape : List ℕ) → isImageSize (length image) �
     runCall image work tape ≡ accepted (after image (decode (length image) tape))
 unfolding runCall unless
 run-accepts image work tape size same formed = rw (size, eq-eqb (length work) (length image) same, formed)
+
+-- and so is a cut, of no more commands than there are: "Cut's work keeps, per line, as many pending stores as its choice byte says"
+pub cut-accepts : (image work tape choices : List ℕ) (c : ℕ) → isImageSize (length image) ≡ true → length work ≡ length image → length choices ≡ length image / 64 →
+    wellFormed (decode (length image) tape) ≡ true → c ≤ length (decode (length image) tape) →
+    cutCall image work tape c choices ≡ accepted (cutImage image (λ l. getD choices l 0) c (decode (length image) tape))
+unfolding cutCall cutTape unless
+cut-accepts image work tape choices c size same bytes formed few =
+    rw (size, eq-eqb (length work) (length image) same, eq-eqb (length choices) (length image / 64) bytes, formed, le-leb c (length (decode (length image) tape)) few)
 
 -- what a call is said to do, in two parts
 pub said : (call done : Ran) → call ≡ done → (done .answer ≡ call .answer) × (done .work ≡ call .work)

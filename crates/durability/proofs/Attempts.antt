@@ -33,7 +33,7 @@ module _ (t : List Rec) (img : List ℕ) (h : Holds t img) where
   holds-accepted work tape w r = (_, ap (λ (x : Result). x .answer) (accepts img (holds-size img h) (h .isReplayable) (h .isSound) work tape w r))
 
   -- an accepted recovery's bytes say its commands
-  commands-are : (work tape : List ℕ) (e : Redone) → recoverCall img work tape .answer ≡ Accepted e → commandsOn img (e .bytes) (recoverCall img work tape .tape) ≡ tapeOf img
+  pub commands-are : (work tape : List ℕ) (e : Redone) → recoverCall img work tape .answer ≡ Accepted e → commandsOn img (e .bytes) (recoverCall img work tape .tape) ≡ tapeOf img
   commands-are work tape e q =
       let r = accepted-tape img (holds-size img h) (h .isReplayable) (h .isSound) work tape e q in
       ap (λ (b : List ℕ). decode (length img) (take (e .bytes) b)) (r .1)

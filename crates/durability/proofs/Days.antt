@@ -13,7 +13,7 @@ use Rattle.edit.specs.Ledger.{Ledger, opened, applyEdits, fed, Feed, ledgerAfte
 use Rattle.edit.proofs.Counts.{ledger-count, table-after, ledger-append, accepted-append, table-last, table-next}
 use Rattle.transaction.specs.Calls.{isAccepted}
 use Rattle.durability.specs.Demand.{Survives, HoldsCount, played, feedOf, feeds, acceptedIn, history}
-use Rattle.durability.specs.Days.{Day, DayRuns, dayEnd, Days, daysEnd, Decides, Decided, survivors, acceptedDays, survivedDays, DaysHold}
+use Rattle.durability.specs.Days.{Day, DayRuns, dayEnd, Days, daysEnd, Decides, Decided, DaysAllowed, survivors, acceptedDays, survivedDays, DaysHold}
 use Rattle.durability.proofs.Demand3.{accepted-feeds, count-accepted, demand-3}
 
 -- ---- one day
@@ -94,8 +94,8 @@ module _ (a : List ℕ) (s : sound a ≡ true) (y : Day) (r : DayRuns a y) where
 -- ---- any number of days
 
 pub days-hold : (ys : List Day) (a : List ℕ) → sound a ≡ true → Days a ys → DaysHold a ys
-unfolding Days daysEnd Decided survivors acceptedDays survivedDays ledgerAfter acceptedOf
-days-hold [] a s h = record { survived = []; decided = tt; isSound = s; isTable = refl; isCount = omega arith }
+unfolding Days daysEnd Decided DaysAllowed survivors acceptedDays survivedDays ledgerAfter acceptedOf
+days-hold [] a s h = record { survived = []; decided = tt; isSound = s; isTable = refl; onlyRoom = tt; isCount = omega arith }
 days-hold (y ∷ ys) a s h =
     let o = day-holds a s y (h .0) in
     let m = days-hold ys (dayEnd a y) (o .isSound) (h .1) in
@@ -106,6 +106,7 @@ days-hold (y ∷ ys) a s h =
       decided = (o .decides, m .decided);
       isSound = m .isSound;
       isTable = m .isTable ∙ table-on a s y (h .0) o gs;
+      onlyRoom = (claim a s y (h .0) .onlyRoom, m .onlyRoom);
       isCount = omega (
         arith,
         ledger-count (table a) (feeds a (y .calls) ++ (g ∷ gs)),

@@ -1,6 +1,7 @@
 pub mod Recovered
 pub mod Transactions
 pub mod Attempts
+pub mod Cuts
 pub mod Committed
 pub mod Demand3
 pub mod Days

@@ -23,7 +23,7 @@ module _ (a : List ℕ) (k : Call) (d : Commit) (e : onImage a k .answer ≡ Acc
   made = demand-2 a (k .work) (k .tape) (k .edits) d e
 
   -- what it leaves is the work image
-  leaves-work : imageAfter a k ≡ onImage a k .work
+  pub leaves-work : imageAfter a k ≡ onImage a k .work
   unfolding leftBy
   leaves-work = ap (λ (r : Transacted). leftBy a r (onImage a k .tape)) e ∙ made .leaves
 

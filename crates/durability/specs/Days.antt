@@ -18,7 +18,7 @@ use Rattle.transaction.specs.declared.Transacted.the-variants as transacted
 use Rattle.recovery.specs.Calls as recovery
 use Rattle.recovery.specs.declared.Redone.{Redone}
 use Rattle.recovery.specs.declared.Recovered.the-variants as recovered
-use Rattle.durability.specs.Demand.{Call, onImage, played, acceptedIn, feeds, Attempt, Issued, Flushed, commands, last}
+use Rattle.durability.specs.Demand.{Call, onImage, played, acceptedIn, feeds, Attempt, AllAllowed, Issued, Flushed, commands, failed, last}
 
 -- ---- a day
 
@@ -37,9 +37,12 @@ pub record Day : Type 0 where
   pub tape : List ℕ
   pub redone : Redone
 
--- the commands of the transaction that the failure cuts, and the image before the last recovery
+-- the commands of the transaction that the failure cuts, the image that it leaves, and the image before the last recovery
 abbrev pub cutCommands : List ℕ → Day → List Op
 cutCommands a y = commands a (y .calls) (y .next) (y .stop) (y .choices) (y .attempts) (y .commit)
+
+abbrev pub failedOf : List ℕ → Day → List ℕ
+failedOf a y = failed a (y .calls) (y .next) (y .stop) (y .choices) (y .attempts) (y .commit)
 
 abbrev pub lastOf : List ℕ → Day → List ℕ
 lastOf a y = last a (y .calls) (y .next) (y .stop) (y .choices) (y .attempts) (y .commit)
@@ -91,6 +94,11 @@ unfoldable pub survivedDays : List Bool → ℕ
 survivedDays [] = 0
 survivedDays (b ∷ bs) = pick b 1 0 + survivedDays bs
 
+-- "no recovery in the list is refused but with 2 or 13", on any day
+unfoldable pub DaysAllowed : List ℕ → List Day → Type 0
+DaysAllowed a [] = Unit {0}
+DaysAllowed a (y ∷ ys) = AllAllowed (failedOf a y) (y .attempts) × DaysAllowed (dayEnd a y) ys
+
 -- ---- the claim
 
 -- the store at the end is sound, and holds exactly the transactions that survived
@@ -99,4 +107,5 @@ pub record DaysHold (a : List ℕ) (ys : List Day) : Type 0 where
   pub decided : Decided a ys survived
   pub isSound : sound (daysEnd a ys) ≡ true
   pub isTable : table (daysEnd a ys) ≡ ledgerAfter (opened (table a)) (survivors a ys survived) .table
+  pub onlyRoom : DaysAllowed a ys
   pub isCount : ledgerAfter (opened (table a)) (survivors a ys survived) .count ≡ acceptedDays a ys + survivedDays survived

@@ -108,7 +108,7 @@ module _ (a work tape bytes : List ℕ) (c : Commit) (e : transactionCall a work
   leaves : after a (commandsOn a (c .bytes) (transactionCall a work tape bytes .tape)) ≡ transactionCall a work tape bytes .work
   leaves = ap (after a) commands-are ∙ taken-run a target was-sound target-edited room ∙ sym work-is
 
-  formed : wellFormed (commandsOn a (c .bytes) (transactionCall a work tape bytes .tape)) ≡ true
+  pub formed : wellFormed (commandsOn a (c .bytes) (transactionCall a work tape bytes .tape)) ≡ true
   formed = ap wellFormed commands-are ∙ writable-formed (length a) (taken .tape) (taken-fits a target was-sound target-edited room)
 
   runs : (buffer : List ℕ) → length buffer ≡ length a → runCall a buffer (take (c .bytes) (transactionCall a work tape bytes .tape)) ≡ accepted (transactionCall a work tape bytes .work)

@@ -235,6 +235,7 @@ module _ (n : ℕ) (F : List ℕ) (H : Here n F) where
           (fresh-sub v left [] rs N) false (length pre) left (N .entries .0) (left-ok p f e sep K) (pre ++ left ∷ post) (made-seam pre c left post) (λ z. absurd (false≢true z))
           (omega (arith, few-children)) (To rs) (λ j. 0) done (λ t j R W. (short-none (t .free), (fresh-after v left [] rs N t j R, inl (one, copied-to t j R W))))
 
+    -- the separator is read off the definition, and `search` then asks for the fact of it
     pub copied-ends : Ends (λ (t : State). After n F H rs t × MovedTo st t pre c post rs) (tooFew st 1) (copied st (length pre) (c .key) rs)
     unfolding copied tooFew pagesFor
-    copied-ends = taken-ends (To rs) st (pick (ltb (s - lineSize) entrySize) 1 0) _ _ (omega arith) (λ p f e. copy-ends _ (kept-is pre c) p f e)
+    copied-ends = taken-ends (To rs) st (pick (ltb (s - lineSize) entrySize) 1 0) _ _ (omega arith) (λ p f e. copy-ends _ (search (kept-is pre c)) p f e)

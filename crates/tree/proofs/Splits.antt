@@ -36,7 +36,8 @@ use Rattle.tree.proofs.Tree.{Here, good-entries}
 use Rattle.tree.proofs.Steps.{Ends, short, taken-ends, Filled, Reindexed}
 use Rattle.tree.proofs.Moves.{After}
 use Rattle.tree.proofs.IndexTakes.{indexed-two, TwoSteps, two-steps, two-ways}
-use Rattle.tree.proofs.Copies.{new-leaf, new-records, still-new, low, free-apart, new-filled, Fresh, root-page, fresh-index, fresh-apart, fresh-sub, fresh-still, fresh-after, own-slot, new-page, left-child, left-ok, To, copied-ends}
+use Rattle.tree.proofs.Copies.{new-leaf, new-records, still-new, low, free-apart, new-filled, own-slot, new-page, left-child, left-ok, To, copied-ends}
+use Rattle.tree.proofs.Copies.{Fresh, root-page, fresh-index, fresh-apart, fresh-sub, fresh-still, fresh-after}
 
 -- the ground of a full leaf, whose records with the edit made are rs
 abbrev pub fullGround : State → List Rec → ℕ
@@ -115,7 +116,10 @@ module _ (n : ℕ) (F : List ℕ) (H : Here n F) (rs : List Rec) (up : Rising (s
         let child = left-child n F H p (q ∷ f) e sep K in
         record {
           root = refl;
-          leads = leads-trans F st u v (leads-take F st p (q ∷ f) e) (leads-trans F u w v (leads-take F u q f refl) (leads-trans F w v1 v (A .leads (omega (arith, left-page .3, ap (count p) e, hit-self p))) (B .leads (omega (arith, new-right .3, ap (count q) e, hit-self q)))));
+          leads =
+              leads-trans F st u v (leads-take F st p (q ∷ f) e)
+              (leads-trans F u w v (leads-take F u q f refl)
+              (leads-trans F w v1 v (A .leads (omega (arith, left-page .3, ap (count p) e, hit-self p))) (B .leads (omega (arith, new-right .3, ap (count q) e, hit-self q)))));
           others = λ x h.
               B .other x (λ z. omega (arith, ap (λ (k : ℕ). count k (st .free)) z, new-right))
               ∙ A .other x (λ z. omega (arith, ap (λ (k : ℕ). count k (st .free)) z, left-page .3));

@@ -138,23 +138,23 @@ module _ (n : ℕ) (few : n ≤ 64) (F : List ℕ) (st : State) (long : length (
       none true h = lt-leb slotCount (length cs) (h refl)
       none false h = refl
 
-  -- in a new page
-  abbrev inNew : ℕ → List ℕ → State
-  inNew q f = withRoot q (filled indexKind q (made ins i x (records p)) (record { image = st .image; root = st .root; free = f }))
+  -- in a new page, filled with the records rs
+  abbrev inNew : List Rec → ℕ → List ℕ → State
+  inNew rs q f = withRoot q (filled indexKind q rs (record { image = st .image; root = st .root; free = f }))
 
-  copy : (q : ℕ) (f : List ℕ) → st .free ≡ q ∷ f → Reindexed F st (inNew q f) (pageSize - entrySize * length ds) ds × (indexSlots (inNew q f) ≡ downFrom (length ds) pageSize)
+  copy : (rs : List Rec) (q : ℕ) (f : List ℕ) → rs ≡ made ins i x (records p) → st .free ≡ q ∷ f →
+      Reindexed F st (inNew rs q f) (pageSize - entrySize * length ds) ds × (indexSlots (inNew rs q f) ≡ downFrom (length ds) pageSize)
   unfolding filled
-  copy q f e =
+  copy rs q f holds e =
       let u : State = record { image = st .image; root = st .root; free = f } in
-      let rs = made ins i x (records p) in
-      let same : rs ≡ ds = ap (made ins i x) (I .recs) ∙ is in
+      let same : rs ≡ ds = holds ∙ ap (made ins i x) (I .recs) ∙ is in
       let all : Entries ds = subst Entries is (All-made IsEntry ins i x cs entry E) in
       let total : sizes rs ≡ entrySize * length ds = ap sizes same ∙ sizes-entries ds all in
       let here : count q (st .free) ≡ 1 + count q f = ap (count q) e ∙ omega (arith, hit-self q) in
       let new : 1 ≤ count q F = omega (arith, sub q) in
       let v = filled indexKind q rs u in
       let A : Filled F u v indexKind q rs =
-      filled-facts n few F u long q (omega (arith, apart q)) new indexKind (omega arith) rs (All-made RecOk ins i x (records p) ok (records-ok p (I .laid)))
+      filled-facts n few F u long q (omega (arith, apart q)) new indexKind (omega arith) rs (rw holds (All-made RecOk ins i x (records p) ok (records-ok p (I .laid))))
       (omega arith) (omega (arith, ap length same)) in (
         record {
           index = shows-as (A .shows) (ap (λ (k : ℕ). pageSize - k) total) same;
@@ -202,7 +202,7 @@ module _ (n : ℕ) (few : n ≤ 64) (F : List ℕ) (st : State) (long : length (
   indexed-ways P need k h =
       rw full
       (by-tests (λ (d : ℕ) (x : Step). Ends P (short d (st .free)) x) (ltb (s - lineSize) entrySize)
-      (λ e. taken-ends P st (need (pageSize - entrySize * length ds)) _ _ refl (λ q f z. let c = copy q f z in h _ _ (c .0) (in-new (ltb-true (s - lineSize) entrySize e) refl z (c .1))))
+      (λ e. taken-ends P st (need (pageSize - entrySize * length ds)) _ _ refl (λ q f z. let c = copy _ q f (search) z in h _ _ (c .0) (in-new (ltb-true (s - lineSize) entrySize e) refl z (c .1))))
       (λ e. let c = place e in h _ _ (c .0) (in-page (ltb-false (s - lineSize) entrySize e) refl refl refl (c .1))))
 
   pub indexed-ends : (P : State → Type 0) (need : ℕ → ℕ) (k : State → Step) → ((t : State) (j : ℕ) → Reindexed F st t j ds → Ends P (short (need j) (t .free)) (k t)) →

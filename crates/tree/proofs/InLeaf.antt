@@ -38,7 +38,7 @@ use Rattle.tree.proofs.States.{write-length, write-here, write-other, l
 use Rattle.tree.proofs.Tree.{Here, leaf-here, Loss, loss-pages, loss-good, loss-table}
 use Rattle.tree.proofs.Steps.{Ends, ends-map}
 use Rattle.tree.proofs.Moves.{After, siblings-apart, leaf-apart, index-shape, rewritten}
-use Rattle.tree.proofs.Copies.{fullGround, moved-ends}
+use Rattle.tree.proofs.Splits.{fullGround, moved-ends}
 
 nothing : (l : List Rec) → length l ≡ 0 → l ≡ []
 nothing [] h = refl

@@ -10,7 +10,9 @@ pub mod Tree
 pub mod Steps
 pub mod Moves
 pub mod Separators
+pub mod IndexTakes
 pub mod Copies
+pub mod Splits
 pub mod InLeaf
 pub mod Edits
 pub mod Runs

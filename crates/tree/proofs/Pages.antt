@@ -1,30 +1,33 @@
--- What an edit in place, a delete and a fill leave of a page: kind, number, content start and records; and that an edit leaves the bytes
--- from the content start on.
+-- What an edit in place, a delete and a fill leave of a page: kind, number, content start and records, and where the records lie; and that an edit leaves the
+-- bytes from the content start on.
 -- Assumes nothing.
 use Prim.Native.Nat.{ℕ, _+_, _-_, _≤_, _<_}
 use mathlib.Core.Path.{_≡_, refl, sym, ap, _∙_, subst}
 use mathlib.Core.Logic.{_⊎_, inl, inr}
 use mathlib.Core.Bool.{Bool, true, false, _&&_, _||_, or-true}
-use mathlib.Core.List.{List}
+use mathlib.Core.List.{List, [], _∷_, map}
 use native.Mathlib.Omega.{arith}
-use lib.ListN.{length, drop}
+use lib.ListN.{length, set, drop}
 use lib.Seq.{drop-drop}
 use lib.Dec.{ltb, leb}
 use borrow.Author.Tests.{ltb-true, ltb-false, lt-ltb, le-ltb, leb-true, leb-false, le-leb, lt-leb}
-use Rattle.codec.specs.Lists.{removeAt, All}
+use Rattle.codec.specs.Lists.{insertAt, removeAt, All}
 use Rattle.codec.proofs.Lists.{drop-splice, length-removeAt}
 use Rattle.codec.proofs.Tests.{first, second}
 use Rattle.page.specs.Layout.{pageSize, lineSize, slotCount, Rec, size, recordBytes, Head, readHead, unusedHead}
-use Rattle.page.specs.Page.{records, laidOut, pageOk, RecOk, Page}
-use Rattle.page.specs.Operations.{seal, written, insertHead, updateHead, deleteHead, insert, update, delete, fillHead, fill, sizes, made}
+use Rattle.page.specs.Page.{records, laidOut, pageOk, RecOk, Page, Entry}
+use Rattle.page.specs.Operations.{seal, written, insertHead, updateHead, deleteHead, insert, update, delete, fillHead, fill, placed, sizes, made}
 use Rattle.page.proofs.Records.{length-recordBytes, size-least}
 use Rattle.page.proofs.Facts.{ok-is, pageOk-true}
 use Rattle.page.proofs.Writes.{drop-seal}
-use Rattle.page.proofs.Operations.{insert-page, update-page, delete-page, fill-page, fill-kind, fill-own, fill-start}
+use Rattle.page.proofs.Operations.{insert-page, update-page, delete-page, fill-is, fill-page, fill-kind, fill-own, fill-start}
 use Rattle.edit.proofs.General.{neither, not-both}
 use Rattle.tree.specs.Edits.{isFull, inPlace}
-use Rattle.tree.specs.Good.{Shows}
+use Rattle.tree.specs.Grounds.{entrySize}
+use Rattle.tree.specs.Good.{Entries, Shows}
 use Rattle.tree.specs.Reasons.{Full, NotFull}
+use Rattle.tree.specs.Moved.{downFrom}
+use Rattle.tree.proofs.Sizes.{size-entry}
 
 -- ---- what a page shows
 
@@ -127,6 +130,11 @@ module _ (ins : Bool) (s : ℕ) (p : List ℕ) where
 
 -- ---- a record put into its page
 
+-- the slots with an edit made: o put in as the i-th, or in place of the i-th
+abbrev pub slotMade : Bool → ℕ → ℕ → List ℕ → List ℕ
+slotMade true i o os = insertAt i o os
+slotMade false i o os = set os i o
+
 module _ (p : List ℕ) (laid : laidOut p ≡ true) (i : ℕ) (r : Rec) (good : RecOk r) (room : lineSize + size r ≤ readHead p .start) where
   -- under any header whose slots fit the line, the bytes from start on stay
   above-seal : (h : Head) → length (h .slots) ≤ slotCount → drop (readHead p .start) (seal h (written (readHead p .start) p r)) ≡ drop (readHead p .start) p
@@ -139,10 +147,10 @@ module _ (p : List ℕ) (laid : laidOut p ≡ true) (i : ℕ) (r : Rec) (good : 
 
   place-page : (ins : Bool) → (ins ≡ true → length (records p) < slotCount) →
       (h : Head) × Page (inPlace ins i r p) h (made ins i r (records p)) × (h .kind ≡ readHead p .kind) × (h .own ≡ readHead p .own) × (h .start ≡ readHead p .start - size r)
-      × (inPlace ins i r p ≡ seal h (written (readHead p .start) p r))
+      × (inPlace ins i r p ≡ seal h (written (readHead p .start) p r)) × (h .slots ≡ slotMade ins i (readHead p .start - size r) (readHead p .slots))
   unfolding inPlace made insertHead updateHead insert update
-  place-page true few = (insertHead (readHead p) i (size r), insert-page p laid i r good room (few refl), refl, refl, refl, refl)
-  place-page false few = (updateHead (readHead p) i (size r), update-page p laid i r good room, refl, refl, refl, refl)
+  place-page true few = (insertHead (readHead p) i (size r), insert-page p laid i r good room (few refl), refl, refl, refl, refl, refl)
+  place-page false few = (updateHead (readHead p) i (size r), update-page p laid i r good room, refl, refl, refl, refl, refl)
 
   module _ (ins : Bool) (few : ins ≡ true → length (records p) < slotCount) where
     pub place-shows : Shows (inPlace ins i r p) (readHead p .kind) (readHead p .own) (readHead p .start - size r) (made ins i r (records p))
@@ -150,6 +158,9 @@ module _ (p : List ℕ) (laid : laidOut p ≡ true) (i : ℕ) (r : Rec) (good : 
         let t = place-page ins few in
         let s = shows-page (inPlace ins i r p) (t .0) (made ins i r (records p)) (t .1) in
         record { laid = s .laid; kind = s .kind ∙ t .2; own = s .own ∙ t .3; start = s .start ∙ t .4; recs = s .recs }
+
+    pub place-slots : readHead (inPlace ins i r p) .slots ≡ slotMade ins i (readHead p .start - size r) (readHead p .slots)
+    place-slots = let t = place-page ins few in ap (λ (h : Head). h .slots) (t .1 .head) ∙ t .6
 
     pub place-lower : Lower p (inPlace ins i r p)
     place-lower = inl (omega (arith, place-shows .start, size-least r))
@@ -196,3 +207,15 @@ fill-shows p kind own rs whole k o good room few =
     let h = unusedHead kind own in
     let s = shows-page (fill p kind own rs) (fillHead h rs) rs (fill-page p kind own rs whole k o good room few) in
     record { laid = s .laid; kind = s .kind ∙ fill-kind h rs; own = s .own ∙ fill-own h rs; start = s .start ∙ fill-start h rs; recs = s .recs }
+
+-- where its records lie
+pub fill-slots : (p : List ℕ) (kind own : ℕ) (rs : List Rec) → length p ≡ pageSize → kind < 256 → own < 65536 → All RecOk rs → lineSize + sizes rs ≤ pageSize → length rs ≤ slotCount →
+    readHead (fill p kind own rs) .slots ≡ map (λ (e : Entry). e .at) (placed pageSize rs)
+fill-slots p kind own rs whole k o good room few =
+    ap (λ (h : Head). h .slots) (fill-page p kind own rs whole k o good room few .head) ∙ fill-is p kind own rs whole k o good room few .body .listed
+
+-- those of index records
+pub placed-down : (cs : List Rec) → Entries cs → (e : ℕ) → map (λ (x : Entry). x .at) (placed e cs) ≡ downFrom (length cs) e
+unfolding placed downFrom
+placed-down [] E e = refl
+placed-down (c ∷ cs) E e = rw (size-entry c (E .0)) (ap (λ (l : List ℕ). (e - entrySize) ∷ l) (placed-down cs (E .1) (e - entrySize)))

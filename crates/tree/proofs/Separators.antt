@@ -72,7 +72,7 @@ unfolding made
 inserted-seam pre d e post = insertAt-seam pre d e post
 
 -- the pages that two index records need, one after the other: one where they have no room together, and never more
-pub two-entries : (s n : ℕ) → lineSize ≤ s → n < slotCount →
+pub two-entries : (s n : ℕ) → lineSize ≤ s → n ≤ slotCount →
     pick (ltb (s - lineSize) entrySize) (suc (pick (ltb (pageSize - entrySize * n - lineSize) entrySize) 1 0)) (pick (ltb (s - entrySize - lineSize) entrySize) 1 0)
     ≡ pick (ltb (s - lineSize) (entrySize * 2)) 1 0
 two-entries s n low few = go (ltb (s - lineSize) entrySize) refl (ltb (s - lineSize) (entrySize * 2)) refl

@@ -1,11 +1,12 @@
 -- What an edit makes of the index and of the free pages: a record put into its leaf, in place or, if the leaf is full, by a copy or a split (document 01, 'Edits').
 -- Assumes nothing.
-use Prim.Native.Nat.{ℕ, _-_, _*_, _≤_, _<_}
+use Prim.Native.Nat.{ℕ, zero, suc, _-_, _*_, _≤_, _<_}
 use mathlib.Core.Path.{_≡_}
 use mathlib.Core.Logic.{_⊎_}
 use mathlib.Core.Bool.{Bool, true, false}
 use mathlib.Core.List.{List, [], _∷_, _++_}
-use lib.ListN.{length, getD, take}
+use lib.ListN.{length, getD, take, drop}
+use Rattle.codec.specs.Lists.{insertAt}
 use Rattle.codec.specs.Numbers.{bytesOf}
 use Rattle.page.specs.Layout.{pageSize, lineSize, leafKind, Rec, recOf, size, readHead}
 use Rattle.page.specs.Page.{records}
@@ -21,16 +22,31 @@ use Rattle.tree.specs.Reasons.{Full, NotFull, OnePage, TwoPages}
 
 -- ---- from the state st to the state t, where c is the leaf's index record, pre and post those before and after it, and rs the leaf's records with the edit made
 
--- the content start of the index
+-- the content start of the index, and its slots
 abbrev pub indexStart : State → ℕ
 indexStart st = readHead (pageOf (st .image) (st .root)) .start
 
--- "left, right, then index": the leaf's new pages are the first free ones. The index takes a record for each in its page, if that has room for them; else the next free
--- page is the index's own, and is the new root, filled from the end down
-pub data Takes (st t : State) (new : List ℕ) : Type 0 where
-  index-stays : entrySize * length new ≤ indexStart st - lineSize → st .free ≡ new ++ t .free → t .root ≡ st .root → indexStart t ≡ indexStart st - entrySize * length new → Takes st t new
+abbrev pub indexSlots : State → List ℕ
+indexSlots st = readHead (pageOf (st .image) (st .root)) .slots
+
+-- the offsets of n index records written one after the other, each just below the one before it, the first just below e
+unfoldable pub downFrom : ℕ → ℕ → List ℕ
+downFrom zero e = []
+downFrom (suc n) e = (e - entrySize) ∷ downFrom n (e - entrySize)
+
+-- where the records of a copied index lie. It takes n new ones, "left first", each by the whole rule. Where the old page has room for all but the last of them, the last makes the copy, and all lie
+-- in key order from the end down. Where it has no room for the left of two, that one makes the copy, and the right one, in slot i + 1, then lies lowest, out of key order
+pub data InCopy (st t : State) (i n : ℕ) : Type 0 where
+  last-copies : entrySize * (n - 1) ≤ indexStart st - lineSize → indexSlots t ≡ downFrom (length (children (t .image) (t .root))) pageSize → InCopy st t i n
+  left-copies : indexStart st - lineSize < entrySize * (n - 1) → indexSlots t ≡ insertAt (suc i) (indexStart t) (downFrom (length (children (t .image) (t .root)) - 1) pageSize) → InCopy st t i n
+
+-- "left, right, then index": the leaf's new pages are the first free ones. The index, whose slot i is the leaf's own, takes a record for each. If its page has room for them, they lie there from
+-- start down, "left first", in place of slot i, and the other slots stay. Else the next free page is the index's own, and is the new root, filled from the end down
+pub data Takes (st t : State) (i : ℕ) (new : List ℕ) : Type 0 where
+  index-stays : entrySize * length new ≤ indexStart st - lineSize → st .free ≡ new ++ t .free → t .root ≡ st .root → indexStart t ≡ indexStart st - entrySize * length new →
+      indexSlots t ≡ take i (indexSlots st) ++ (downFrom (length new) (indexStart st) ++ drop (suc i) (indexSlots st)) → Takes st t i new
   index-copied : indexStart st - lineSize < entrySize * length new → st .free ≡ new ++ (t .root ∷ t .free) →
-      indexStart t ≡ pageSize - entrySize * length (children (t .image) (t .root)) → Takes st t new
+      indexStart t ≡ pageSize - entrySize * length (children (t .image) (t .root)) → InCopy st t i (length new) → Takes st t i new
 
 -- "keeps its separator, or takes 0 if first"
 pub record Kept (pre : List Rec) (c : Rec) (sep : ℕ) : Type 0 where
@@ -47,7 +63,7 @@ pub record CopiedTo (st t : State) (pre : List Rec) (c : Rec) (post rs : List Re
   pub left : ℕ
   pub sep : ℕ
   pub kept : Kept pre c sep
-  pub pages : Takes st t (left ∷ [])
+  pub pages : Takes st t (length pre) (left ∷ [])
   pub index : children (t .image) (t .root) ≡ pre ++ recOf sep (bytesOf 2 left) ∷ post
   pub leaf : NewLeaf st t left rs
 
@@ -64,7 +80,7 @@ pub record SplitOver (st t : State) (pre : List Rec) (c : Rec) (post rs : List R
   -- "The left takes the first m, m smallest with twice their bytes at least the total."
   pub enough : sizes rs ≤ 2 * sizes firsts
   pub fewest : (j : ℕ) → j < length firsts → 2 * sizes (take j rs) < sizes rs
-  pub pages : Takes st t (left ∷ right ∷ [])
+  pub pages : Takes st t (length pre) (left ∷ right ∷ [])
   pub index : children (t .image) (t .root) ≡ pre ++ recOf sep (bytesOf 2 left) ∷ recOf (smallest .key) (bytesOf 2 right) ∷ post
   pub leftLeaf : NewLeaf st t left firsts
   pub rightLeaf : NewLeaf st t right (smallest ∷ more)

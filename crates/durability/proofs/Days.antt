@@ -1,7 +1,7 @@
 -- After any list of days, each with a power failure, the store holds exactly the transactions that survived: demand 3, day by day.
 -- Assumes nothing.
 use Prim.Native.Nat.{ℕ, suc}
-use mathlib.Core.Path.{_≡_, refl, sym, ap, ap₂, _∙_}
+use mathlib.Core.Path.{_≡_, refl, sym, ap, _∙_}
 use mathlib.Core.Logic.{_⊎_, inl, inr}
 use mathlib.Core.Bool.{Bool, true, false}
 use mathlib.Core.List.{List, [], _∷_, _++_}
@@ -10,11 +10,10 @@ use Rattle.image.specs.Image.{sound}
 use Rattle.image.specs.Table.{table}
 use Rattle.edit.specs.EditList.{Edit, editsOf, editList}
 use Rattle.edit.specs.Ledger.{Ledger, opened, applyEdits, fed, Feed, ledgerAfter, tableAt, acceptedOf, editsMade}
-use Rattle.edit.proofs.Counts.{ledger-count, table-after, ledger-append, accepted-append, table-last, table-next}
-use Rattle.transaction.specs.Calls.{isAccepted}
-use Rattle.durability.specs.Demand.{Survives, HoldsCount, played, feedOf, feeds, acceptedIn, history}
+use Rattle.edit.proofs.Counts.{ledger-count, table-after, ledger-append, accepted-append}
+use Rattle.durability.specs.Demand.{Survives, HoldsCount, feeds, acceptedIn, history}
 use Rattle.durability.specs.Days.{Day, DayRuns, dayEnd, Days, daysEnd, Decides, Decided, DaysAllowed, survivors, acceptedDays, survivedDays, DaysHold}
-use Rattle.durability.proofs.Demand3.{accepted-feeds, count-accepted, demand-3}
+use Rattle.durability.proofs.Demand3.{accepted-feeds, table-at-n, table-at-next, demand-3}
 
 -- ---- one day
 
@@ -46,20 +45,8 @@ module _ (a : List ℕ) (s : sound a ≡ true) (y : Day) (r : DayRuns a y) where
   unfolding dayEnd
   holds = claim .completes (y .work) (y .tape) (y .redone) (r .recovers)
 
-  -- the ledger's tables at n and at n + 1
-  table-n : tableAt (acceptedIn a (y .calls)) (opened (table a)) all ≡ fed false es ledgerBefore .table
-  unfolding fed
-  table-n =
-      ap (λ (j : ℕ). tableAt j (opened (table a)) all) (sym (count-accepted a (y .calls)))
-      ∙ table-last (opened (table a)) fs (feedOf (played a (y .calls)) (y .next) ∷ [])
-
-  table-more : tableAt (suc (acceptedIn a (y .calls))) (opened (table a)) all ≡ fed true es ledgerBefore .table
-  unfolding fed isAccepted
-  table-more =
-      ap₂ (λ (j : ℕ) (b : Bool). tableAt (suc j) (opened (table a)) (fs ++ (record { accepted = b; edits = es } ∷ []))) (sym (count-accepted a (y .calls))) (ap isAccepted (r .accepts))
-      ∙ table-next (opened (table a)) fs es
-
   pub day-holds : DayHolds
+  unfolding fed
   day-holds = go (claim .oneOf)
     where
       at : (j : ℕ) → claim .held ≡ j → table (dayEnd a y) ≡ tableAt j (opened (table a)) all
@@ -71,14 +58,14 @@ module _ (a : List ℕ) (s : sound a ≡ true) (y : Day) (r : DayRuns a y) where
             survived = false;
             decides = record { beforeIssue = λ z. refl; afterFlush = λ z. absurd (omega (arith, claim .afterFlush z)) };
             isSound = holds .isSound;
-            isTable = at (acceptedIn a (y .calls)) e ∙ table-n;
+            isTable = at (acceptedIn a (y .calls)) e ∙ table-at-n a (y .calls) (y .next);
           }
       go (inr e) =
           record {
             survived = true;
             decides = record { beforeIssue = λ z. absurd (omega (arith, claim .beforeIssue z)); afterFlush = λ z. refl };
             isSound = holds .isSound;
-            isTable = at (suc (acceptedIn a (y .calls))) e ∙ table-more;
+            isTable = at (suc (acceptedIn a (y .calls))) e ∙ table-at-next a (y .calls) (y .next) (y .commit) (r .accepts);
           }
 
   -- more feeds, from the day's end

@@ -43,6 +43,21 @@ accepted-feeds a (k ∷ ks) = ap (λ (n : ℕ). pick (isAccepted (onImage a k .a
 pub count-accepted : (a : List ℕ) (ks : List Call) → ledgerAfter (opened (table a)) (feeds a ks) .count ≡ acceptedIn a ks
 count-accepted a ks = ledger-count (table a) (feeds a ks) ∙ accepted-feeds a ks
 
+-- the ledger's tables at n, whatever it is fed next, and at n + 1, where the next transaction is accepted
+module _ (a : List ℕ) (ks : List Call) (k : Call) where
+  abbrev fedAll : List Feed
+  fedAll = feeds a ks ++ (feedOf (played a ks) k ∷ [])
+
+  pub table-at-n : tableAt (acceptedIn a ks) (opened (table a)) fedAll ≡ ledgerAfter (opened (table a)) (feeds a ks) .table
+  table-at-n =
+      ap (λ (j : ℕ). tableAt j (opened (table a)) fedAll) (sym (count-accepted a ks)) ∙ table-last (opened (table a)) (feeds a ks) (feedOf (played a ks) k ∷ [])
+
+  pub table-at-next : (d : Commit) → onImage (played a ks) k .answer ≡ transacted.Accepted d →
+      tableAt (suc (acceptedIn a ks)) (opened (table a)) fedAll ≡ applyEdits (editsOf (editList (k .edits))) (ledgerAfter (opened (table a)) (feeds a ks) .table)
+  table-at-next d e =
+      ap₂ (λ (j : ℕ) (g : Feed). tableAt (suc j) (opened (table a)) (feeds a ks ++ (g ∷ []))) (sym (count-accepted a ks)) (accepted-feed (played a ks) k d e)
+      ∙ table-next (opened (table a)) (feeds a ks) (editsOf (editList (k .edits)))
+
 -- ---- every cut
 
 module _ (a : List ℕ) (ks : List Call) (k : Call) (c : ℕ) (f : ℕ → ℕ) (xs : List Attempt) (d : Commit) (s : sound a ≡ true)
@@ -75,16 +90,13 @@ module _ (a : List ℕ) (ks : List Call) (k : Call) (c : ℕ) (f : ℕ → ℕ) 
   -- the ledger's tables at n and at n + 1
   table-n : table img ≡ tableAt n (ledger a ks k c f xs d) (history a ks k c f xs d)
   table-n =
-      sym (played-table ks a s (opened (table a)) refl)
-      ∙ sym (table-last (opened (table a)) (feeds a ks) (feedOf img k ∷ []))
-      ∙ ap (λ (j : ℕ). tableAt j (opened (table a)) (history a ks k c f xs d)) (count-accepted a ks)
+      sym (played-table ks a s (opened (table a)) refl) ∙ sym (table-at-n a ks k)
 
   table-more : table w ≡ tableAt (suc n) (ledger a ks k c f xs d) (history a ks k c f xs d)
   table-more =
       target-table img (k .work) (k .tape) (k .edits) d e
       ∙ ap (applyEdits (editsOf (editList (k .edits)))) (sym (played-table ks a s (opened (table a)) refl))
-      ∙ sym (table-next (opened (table a)) (feeds a ks) (editsOf (editList (k .edits))))
-      ∙ ap₂ (λ (j : ℕ) (g : Feed). tableAt (suc j) (opened (table a)) (feeds a ks ++ (g ∷ []))) (count-accepted a ks) (sym (accepted-feed img k d e))
+      ∙ sym (table-at-next a ks k d e)
 
   -- the commit store stands where it was put
   at : (z : CommitStands (d .place) cs) × (length (z .before) ≡ x .commitAt)

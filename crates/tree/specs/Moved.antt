@@ -105,7 +105,7 @@ abbrev pub PutIn : State → State → List Rec → Rec → List Rec → Bool �
 PutIn st t pre c post ins s rs =
     (NotFull ins s (pageOf (st .image) (childOf c)) × PlacedIn st t (childOf c) s rs) ⊎ (Full ins s (pageOf (st .image) (childOf c)) × MovedTo st t pre c post rs)
 
--- what each kind of edit does there
+-- what each kind of edit does there; of a delete only that it takes no page (what it makes of leaf and index: `dropped`, and the table's law)
 abbrev pub Does : State → State → List Rec → Rec → List Rec → Edit → Type 0
 Does st t pre c post (insert k v) = PutIn st t pre c post true (size (recOf k v)) (add k v (records (pageOf (st .image) (childOf c))))
 Does st t pre c post (update k v) = PutIn st t pre c post false (size (recOf k v)) (replace k v (records (pageOf (st .image) (childOf c))))

@@ -1,85 +1,105 @@
 /*
- * A store of 8 pages, three quotes of a curve, and a shift of the whole curve
- * in one transaction. Build it at the root of the repository:
+ * A store of 8 pages: the start, three quotes of a curve, a shift of the whole
+ * curve in one transaction, and a transaction that is refused. Build it at the
+ * root of the repository:
  *
- *   gcc -Iinclude examples/quote.c target/staticlib/libstore.a -o quote
+ *   gcc -Iinclude examples/quote.c target/staticlib/libstore.a -o target/quote
  */
-#include "quote_store.h"
-
-#include <stdio.h>
-#include <stdlib.h>
-#include <string.h>
+#include "common.h"
 
 #define PAGES 8
 #define MATURITIES 3
 
-/* The image is what the device holds; work and tape are room for a call. */
+/* The image is the device's memory; work and tape are room for a call. */
 static uint8_t image[QUOTE_IMAGE_SIZE(PAGES)];
 static uint8_t work[QUOTE_IMAGE_SIZE(PAGES)];
 static uint8_t tape[QUOTE_TAPE_SIZE(PAGES)];
 
-static void stop_if_refused(const char *call, uint8_t number)
+static const uint64_t maturities[MATURITIES] = {2, 5, 10};
+
+/* Waits until all stores to this line are durable: on an x86 processor, clwb and
+ * sfence. Plain memory has nothing to wait for. */
+static void flush(const uint8_t *line)
 {
-    if (number == QUOTE_ACCEPTED)
-        return;
-    printf("%s says no: %d\n", call, number);
-    exit(1);
+    (void)line;
 }
 
-/* Adds an edit to a list and says where the next one goes. */
-static uint8_t *put_edit(uint8_t *at, uint8_t kind, uint64_t key, const char *value)
+/* One command: says how many bytes of the tape it takes. A real device stores
+ * the 8 bytes, or the 64, so that a power failure leaves none or all of them. */
+static size_t carry_out(const uint8_t *command)
 {
-    size_t length = strlen(value);
-    at[0] = kind;
-    at[1] = (uint8_t)length;
-    for (int i = 0; i < 8; i += 1)
-        at[2 + i] = (uint8_t)(key >> 8 * i);
-    memcpy(at + QUOTE_EDIT_HEAD, value, length);
-    return at + QUOTE_EDIT_HEAD + length;
+    size_t place = command[2] + (size_t)command[3] * 256;
+    size_t size = command[0] == QUOTE_WORD_STORE ? QUOTE_WORD_SIZE : QUOTE_LINE_SIZE;
+    if (command[0] == QUOTE_FLUSH) {
+        flush(image + QUOTE_LINE_SIZE * place);
+        return QUOTE_COMMAND_HEAD;
+    }
+    memcpy(image + size * place, command + QUOTE_COMMAND_HEAD, size);
+    return QUOTE_COMMAND_HEAD + size;
 }
 
-/* All edits or none. The device carries out the tape; here a simulated one. */
-static void commit(const uint8_t *edits, size_t length)
+/* The device carries out the commands of a call, and then holds what work does. */
+static void play(size_t bytes)
 {
+    for (size_t at = 0; at < bytes;)
+        at += carry_out(tape + at);
+    if (memcmp(image, work, sizeof image) != 0) {
+        fprintf(stderr, "the device went another way\n");
+        exit(1);
+    }
+}
+
+/* What a program does first, also after a power failure. */
+static void start(void)
+{
+    uint64_t answer[QUOTE_RECOVER_NUMBERS];
+    stop_if_refused("recover", quote_recover(image, sizeof image, work, sizeof work, tape,
+                                             sizeof tape, answer, QUOTE_RECOVER_NUMBERS));
+    play((size_t)answer[QUOTE_RECOVER_BYTES]);
+    printf("started: %d tape bytes\n", (int)answer[QUOTE_RECOVER_BYTES]);
+}
+
+/* One edit of this kind for each maturity, in one transaction: all or none. */
+static void commit_curve(uint8_t kind, const char *const *prices)
+{
+    uint8_t edits[QUOTE_LONGEST_LIST], *end = edits;
     uint64_t answer[QUOTE_TRANSACTION_NUMBERS];
-    stop_if_refused("transaction", quote_transaction(image, sizeof image, work, sizeof work, tape,
-                                                     sizeof tape, edits, length, answer,
-                                                     QUOTE_TRANSACTION_NUMBERS));
-    size_t bytes = (size_t)answer[3];
-    stop_if_refused("run", quote_run(image, sizeof image, work, sizeof work, tape, bytes));
-    memcpy(image, work, sizeof image);
-    printf("committed: %zu tape bytes, %d flushes\n", bytes, (int)answer[4]);
+    for (int i = 0; i < MATURITIES; i += 1)
+        end = put_edit(end, kind, maturities[i], prices[i]);
+    uint8_t number = quote_transaction(image, sizeof image, work, sizeof work, tape, sizeof tape,
+                                       edits, (size_t)(end - edits), answer,
+                                       QUOTE_TRANSACTION_NUMBERS);
+    if (number != QUOTE_ACCEPTED) {
+        printf("refused at edit %d: %d, %s\n", (int)answer[QUOTE_TRANSACTION_EDIT], number,
+               words_of(number));
+        return;
+    }
+    play((size_t)answer[QUOTE_TRANSACTION_BYTES]);
+    printf("committed: %d tape bytes, %d flushes\n", (int)answer[QUOTE_TRANSACTION_BYTES],
+           (int)answer[QUOTE_TRANSACTION_FLUSHES]);
 }
 
+/* The value is read in place. */
 static void print_quote(uint64_t key)
 {
     uint64_t answer[QUOTE_LOOKUP_NUMBERS];
     stop_if_refused("lookup", quote_lookup(image, sizeof image, key, answer, QUOTE_LOOKUP_NUMBERS));
-    if (answer[0] == 0)
-        printf("%d: no quote\n", (int)key);
+    if (answer[QUOTE_LOOKUP_FOUND] == 0)
+        printf("%" PRIu64 ": no quote\n", key);
     else
-        printf("%d: %.*s\n", (int)key, (int)answer[2], (const char *)image + answer[1]);
-}
-
-/* One edit of this kind for each maturity, in one transaction. */
-static void commit_curve(uint8_t kind, const char *const *prices)
-{
-    static const uint64_t keys[MATURITIES] = {2, 5, 10};
-    uint8_t edits[QUOTE_LONGEST_LIST], *end = edits;
-    for (int i = 0; i < MATURITIES; i += 1)
-        end = put_edit(end, kind, keys[i], prices[i]);
-    commit(edits, (size_t)(end - edits));
+        printf("%" PRIu64 ": %.*s\n", key, (int)answer[QUOTE_LOOKUP_LENGTH],
+               (const char *)image + answer[QUOTE_LOOKUP_OFFSET]);
 }
 
 static void print_all(void)
 {
     uint64_t next[QUOTE_NEXT_KEY_NUMBERS] = {1, 0};
     for (;;) {
-        stop_if_refused("next key", quote_next_key(image, sizeof image, next[1], next,
-                                                   QUOTE_NEXT_KEY_NUMBERS));
-        if (next[0] == 0)
+        stop_if_refused("next key", quote_next_key(image, sizeof image, next[QUOTE_NEXT_KEY_KEY],
+                                                   next, QUOTE_NEXT_KEY_NUMBERS));
+        if (next[QUOTE_NEXT_KEY_FOUND] == 0)
             return;
-        print_quote(next[1]);
+        print_quote(next[QUOTE_NEXT_KEY_KEY]);
     }
 }
 
@@ -88,9 +108,11 @@ int main(void)
     static const char *const old[MATURITIES] = {"101.25", "99.50", "97.75"};
     static const char *const shifted[MATURITIES] = {"101.20", "99.375", "97.50"};
     stop_if_refused("format", quote_format(image, sizeof image));
+    start();
     commit_curve(QUOTE_INSERT, old);
     print_quote(5);
     commit_curve(QUOTE_UPDATE, shifted);
+    commit_curve(QUOTE_INSERT, old);
     print_all();
     print_quote(30);
     return 0;

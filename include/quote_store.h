@@ -9,12 +9,14 @@
  *   and has no state of its own: threads may call it at once, each with buffers
  *   that no other thread writes meanwhile. A call takes up to 96 KiB of stack
  *   (quote_recover; the others 32).
- *   What the caller owes, and nothing else:
+ *   What the caller owes a call, and nothing else:
  *   - a pointer leads to as many bytes (or numbers) as its length says. It is
  *     not NULL, also where the length is 0; it need not be aligned, but for an
  *     array of numbers, which is aligned as uint64_t;
  *   - a buffer that the call writes overlaps no other buffer of the call. Two
  *     that it only reads (const here) may overlap.
+ *   What it owes the store (each tape carried out whole, once and in order, one
+ *   writer at a time) is in docs/USING.md.
  *
  * Answers
  *   Each call returns QUOTE_ACCEPTED (0), or the number of its refusal. A
@@ -22,17 +24,35 @@
  *   all other buffers but those of which the call says otherwise. Refusals are
  *   tried in the order in which a call lists them here, and the first that
  *   applies is the answer.
- *   Numbers besides come in a lent array `answer`. They are written at its
- *   front, and only if it has room for all of them; the rest of the array
- *   stays. A shorter array is no fault.
+ *   Numbers besides come in a lent array `answer`, which has room for
+ *   `answer_length` numbers. They are written at its front, and only if it has
+ *   room for all of them; the rest of the array stays. A shorter array is no
+ *   fault.
+ *
+ * What is proved, and what is not
+ *   Proved of the library's code, for every length and content of the buffers:
+ *   the number that a call returns, the numbers in `answer` and every byte of
+ *   the buffers afterwards are what the call's definition says; it reads and
+ *   writes nothing else, and ends. Proved of the definitions: an accepted
+ *   transaction makes exactly its edits, and no power failure leaves half of
+ *   one. docs/STATEMENTS.md has both in full. So each size, limit, kind, place
+ *   and refusal below is one that the proofs speak of; that this file copies
+ *   them right is tested (wrapper/c).
+ *   Not proved: QUOTE_TAPE_SIZE and QUOTE_RECOVERY_TAPE_SIZE, which are argued
+ *   below and which every test keeps to, and the stack that a call takes, which
+ *   was measured and is tested.
  *
  * How a program goes on
  *   The image is the persistent memory, or a copy of it. No call but
  *   quote_format writes it. A transaction leaves the new image in `work` and,
  *   on `tape`, the commands that make the old image into the new one so that a
  *   power failure between any two of them does no harm. The program has the
- *   device carry them out in order, and takes `work` for its image. After a
- *   power failure it calls quote_recover and does the same.
+ *   device carry them out in order, all of them before the next call's. The
+ *   edits are durable once that is done. If the image is the memory itself, it
+ *   then holds what `work` does; if it is a copy, `work` is the next one. After
+ *   a power failure the program calls quote_recover and does the same.
+ *   examples/quote.c and examples/crash.c are such programs; docs/USING.md says
+ *   how long a call takes, and what to do when a store is full.
  *
  * Link with target/staticlib/libstore.a, which `rt staticlib store` makes.
  */
@@ -77,29 +97,37 @@ enum quote_edit {
 
 /*
  * A tape is commands end to end. A command is its kind (1 byte), a zero byte,
- * its place (2 bytes, low byte first), and what it stores.
+ * its place (2 bytes, low byte first), and what it stores. What a device does
+ * with the commands, one after the other:
+ *   WORD_STORE  stores 8 bytes at 8 times its place. A power failure leaves all
+ *               of the old bytes there or all of the new ones.
+ *   LINE_STORE  stores 64 bytes at 64 times its place, whole in the same way.
+ *   FLUSH       does not end before all earlier stores to its line are durable.
+ * A store may become durable before it is flushed, but none before an earlier
+ * one to the same line. Nothing else is asked of a device: docs/USING.md.
  */
 enum quote_command {
     QUOTE_WORD_STORE = 1, /* place: number of the word; 8 bytes follow */
     QUOTE_LINE_STORE = 2, /* place: number of the line; 64 bytes follow */
     QUOTE_FLUSH = 3       /* place: number of the line; nothing follows */
 };
+#define QUOTE_COMMAND_HEAD 4 /* the bytes before what is stored */
 
 /*
  * A tape of this size is never too short, for a transaction on so many pages:
- * 100 bytes a line. Why: the tape first stores words of pages 1 to N-1, each at
- * most once (12 bytes), and flushes each line so stored once (4 bytes), so at
- * most 8 * 12 + 4 = 100 bytes for each of those 16 * (N-1) lines. Then it
- * commits. Without the log that is at most 72 bytes. With k headers logged,
- * each header takes 2 * (68 + 4) = 144 bytes, the mark, its clearing and their
- * flushes 32, the root word 12. A logged header's line has no word stores, so
- * these 144 replace 100, and 44 * k + 44 is left, with k of 15 at most: 704
- * bytes. The 1,600 bytes counted for page 0, where no word stores are, hold
- * either.
+ * 100 bytes a line, 16 lines a page. It is not proved. Why it is so: the tape
+ * first stores words of pages 1 to N-1, each at most once (12 bytes), and
+ * flushes each line so stored once (4 bytes), so at most 8 * 12 + 4 = 100 bytes
+ * for each of those 16 * (N-1) lines. Then it commits. Without the log that is
+ * at most 72 bytes. With k headers logged, each header takes 2 * (68 + 4) = 144
+ * bytes, the mark, its clearing and their flushes 32, the root word 12. A logged
+ * header's line has no word stores, so these 144 replace 100, and 44 * k + 44 is
+ * left, with k of 15 at most: 704 bytes. The 1,600 bytes counted for page 0,
+ * where no word stores are, hold either.
  */
 #define QUOTE_TAPE_SIZE(pages) ((size_t)(pages) * 1600)
 
-/* The same for a recovery: 72 bytes a header, for 15, then 28. */
+/* The same for a recovery, not proved either: 72 bytes a header, for 15, then 28. */
 #define QUOTE_RECOVERY_TAPE_SIZE 1108
 
 /* The length of `choices` for an image of so many pages: one byte a line. */
@@ -112,13 +140,13 @@ enum quote_answer {
     QUOTE_WORK_SIZE_WRONG = 2,  /* the work buffer's length is not the image's */
     QUOTE_MARK_WAITS = 3,       /* a power failure left a commit half done: recover first */
     QUOTE_UNSOUND = 4,          /* the image is not that of a store */
-    QUOTE_BAD_LIST = 5,         /* no edit, a seventeenth, one cut short, an unknown kind, or a delete with a length */
+    QUOTE_BAD_LIST = 5,         /* no edit (edit 0), a seventeenth (edit 16), one cut short, an unknown kind, or a delete with a length */
     QUOTE_KEY_RANGE = 6,        /* the key is 0 or above QUOTE_LAST_KEY */
     QUOTE_LONG_VALUE = 7,       /* the value has more than 200 bytes */
     QUOTE_KEY_PRESENT = 8,      /* insert of a key that the store has */
     QUOTE_KEY_MISSING = 9,      /* update or delete of a key that it has not */
     QUOTE_INDEX_FULL = 10,      /* the edit would need a 29th leaf */
-    QUOTE_PAGES_OUT = 11,       /* the edit needs more new pages than are free */
+    QUOTE_PAGES_OUT = 11,       /* an insert or update needs more new pages than are free */
     QUOTE_LOG_FULL = 12,        /* the edits change more than 15 headers */
     QUOTE_TAPE_SHORT = 13,      /* the tape has too few bytes */
     QUOTE_BAD_TAPE = 14,        /* the tape has a malformed command, or a place outside the image */
@@ -133,11 +161,31 @@ enum quote_place {
     QUOTE_PLACE_LOG = 3     /* the mark, with the headers in the log */
 };
 
-/* How many numbers each call answers. */
-#define QUOTE_LOOKUP_NUMBERS 3
-#define QUOTE_NEXT_KEY_NUMBERS 2
-#define QUOTE_TRANSACTION_NUMBERS 5
-#define QUOTE_RECOVER_NUMBERS 2
+/* Where each number of a call stands in `answer`, and how many there are. */
+enum quote_lookup_answer {
+    QUOTE_LOOKUP_FOUND,  /* 1, or 0 if the store has no such key */
+    QUOTE_LOOKUP_OFFSET, /* of the value in the image */
+    QUOTE_LOOKUP_LENGTH, /* of the value */
+    QUOTE_LOOKUP_NUMBERS
+};
+enum quote_next_key_answer {
+    QUOTE_NEXT_KEY_FOUND, /* 1, or 0 if there is no larger key */
+    QUOTE_NEXT_KEY_KEY,
+    QUOTE_NEXT_KEY_NUMBERS
+};
+enum quote_transaction_answer {
+    QUOTE_TRANSACTION_EDIT,    /* refused: the edit at fault, from 0 */
+    QUOTE_TRANSACTION_PLACE,   /* of the commit (enum quote_place) */
+    QUOTE_TRANSACTION_PAGE,    /* whose header that is, or 0 */
+    QUOTE_TRANSACTION_BYTES,   /* of the tape that are used */
+    QUOTE_TRANSACTION_FLUSHES, /* among the commands */
+    QUOTE_TRANSACTION_NUMBERS
+};
+enum quote_recover_answer {
+    QUOTE_RECOVER_BYTES,   /* of the tape that are used */
+    QUOTE_RECOVER_FLUSHES, /* among the commands */
+    QUOTE_RECOVER_NUMBERS
+};
 
 /*
  * Format: writes a fresh store, which has no quotes.
@@ -242,7 +290,8 @@ uint8_t quote_run(const uint8_t *image, size_t image_length, uint8_t *work,
  *   tape    read, whole, as in quote_run.
  *   choices read: a byte for each line of the image (QUOTE_CHOICES_SIZE).
  *   refuses IMAGE_SIZE_WRONG; WORK_SIZE_WRONG; BAD_CHOICES; BAD_TAPE; PAST_END
- *           if c is above the number of commands.
+ *           if c is above the number of commands, so that c may be raised until
+ *           then.
  */
 uint8_t quote_cut(const uint8_t *image, size_t image_length, uint8_t *work,
                   size_t work_length, const uint8_t *tape, size_t tape_length,

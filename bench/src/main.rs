@@ -12,6 +12,7 @@ fn main() {
     device::check();
     image::check();
     transaction::check();
+    println!("Processor: {}.", measure::processor());
     println!(
         "Times in nanoseconds a call: medians of {} repetitions,",
         measure::REPETITIONS

@@ -75,6 +75,17 @@ fn median(mut times: Vec<f64>) -> f64 {
     times[times.len() / 2]
 }
 
+/// The processor that times are taken on, as the system names it.
+pub fn processor() -> String {
+    let text = std::fs::read_to_string("/proc/cpuinfo").unwrap_or_default();
+    let name = text
+        .lines()
+        .find_map(|line| line.strip_prefix("model name"));
+    let name = name.map(|rest| rest.trim_start_matches([' ', '\t', ':']));
+    let count = std::thread::available_parallelism().map_or(1, |count| count.get());
+    format!("{}; {count} of them", name.unwrap_or("unknown"))
+}
+
 pub fn heading(first: &str) {
     println!();
     println!(

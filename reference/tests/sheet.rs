@@ -121,14 +121,6 @@ fn examples() {
     assert!(found >= 4, "only {found} forms in examples/");
 }
 
-/// The script at the root writes the listing and nothing else.
-#[test]
-fn script() {
-    let form = std::fs::read(root().join("examples/curve.txt")).expect("the form can be read");
-    let wrote = output(Command::new(root().join("sheet")), &[&form]);
-    assert_eq!(wrote, sheet(&form));
-}
-
 #[test]
 fn empty_input() {
     assert_eq!(run(b""), format!("{HEADING}{}", totals(0, 0, 0)));

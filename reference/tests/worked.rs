@@ -63,7 +63,7 @@ fn also_proved_recovery(image: &[u8], answer: &Result<Recovered, Refusal>, left:
 fn send(image: &mut Vec<u8>, edits: &[Edit]) -> Result<(Accepted, Vec<Command>), Refusal> {
     let (mut work, mut tape) = buffers(image);
     let answer = transaction(image, &mut work, &mut tape, &list(edits));
-        also_proved(image, &list(edits), &answer, [&work, &tape]);
+    also_proved(image, &list(edits), &answer, [&work, &tape]);
     let answer = answer?;
     assert!(tape[answer.bytes..].iter().all(|&byte| byte == 0xdd));
     tape.truncate(answer.bytes);
@@ -81,7 +81,7 @@ fn send(image: &mut Vec<u8>, edits: &[Edit]) -> Result<(Accepted, Vec<Command>),
 fn send_recovery(image: &[u8]) -> Result<Recovered, Refusal> {
     let (mut work, mut tape) = buffers(image);
     let answer = recover(image, &mut work, &mut tape);
-        also_proved_recovery(image, &answer, [&work, &tape]);
+    also_proved_recovery(image, &answer, [&work, &tape]);
     answer
 }
 

@@ -60,8 +60,9 @@ static void lookup_finds(void)
     struct bytes image = two_quotes();
     uint64_t answer[4] = {7, 7, 7, 7};
     EXPECT(quote_lookup(image.at, image.length, 101, answer, 4) == QUOTE_ACCEPTED);
-    EXPECT(answer[0] == 1 && answer[2] == 8 && answer[3] == 7);
-    EXPECT(memcmp(image.at + answer[1], "pppppppp", 8) == 0);
+    EXPECT(answer[QUOTE_LOOKUP_FOUND] == 1 && answer[QUOTE_LOOKUP_LENGTH] == 8);
+    EXPECT(memcmp(image.at + answer[QUOTE_LOOKUP_OFFSET], "pppppppp", 8) == 0);
+    EXPECT(answer[QUOTE_LOOKUP_NUMBERS] == 7);
     EXPECT(quote_lookup(image.at, image.length, 105, answer, 3) == QUOTE_ACCEPTED);
     EXPECT(answer[0] == 1 && answer[1] <= image.length && answer[2] == 0);
     EXPECT(quote_lookup(image.at, image.length, 102, answer, 3) == QUOTE_ACCEPTED);
@@ -92,9 +93,11 @@ static void next_key_leads_through(void)
         {0, 1, 101}, {100, 1, 101}, {101, 1, 105}, {105, 0, 0}, {UINT64_MAX, 0, 0}};
     struct bytes image = two_quotes();
     for (size_t i = 0; i < sizeof wanted / sizeof *wanted; i += 1) {
-        uint64_t answer[2] = {7, 7};
-        EXPECT(quote_next_key(image.at, image.length, wanted[i][0], answer, 2) == QUOTE_ACCEPTED);
-        EXPECT(answer[0] == wanted[i][1] && answer[1] == wanted[i][2]);
+        uint64_t answer[3] = {7, 7, 7};
+        EXPECT(quote_next_key(image.at, image.length, wanted[i][0], answer, 3) == QUOTE_ACCEPTED);
+        EXPECT(answer[QUOTE_NEXT_KEY_FOUND] == wanted[i][1]);
+        EXPECT(answer[QUOTE_NEXT_KEY_KEY] == wanted[i][2]);
+        EXPECT(answer[QUOTE_NEXT_KEY_NUMBERS] == 7);
     }
     give_back(image);
 }
@@ -115,11 +118,13 @@ static uint8_t worked_row(struct bytes work, struct bytes tape, uint64_t *answer
 
 static void transaction_answers(void)
 {
-    uint64_t answer[5] = {7, 7, 7, 7, 7};
+    uint64_t answer[6] = {7, 7, 7, 7, 7, 7};
     struct bytes work = lend(8192), tape = lend(112), other = lend_filled(111, 77);
-    EXPECT(worked_row(work, tape, answer, 5) == QUOTE_ACCEPTED);
-    EXPECT(answer[0] == 0 && answer[1] == QUOTE_PLACE_HEADER && answer[2] == 2);
-    EXPECT(answer[3] == 112 && answer[4] == 2);
+    EXPECT(worked_row(work, tape, answer, 6) == QUOTE_ACCEPTED);
+    EXPECT(answer[QUOTE_TRANSACTION_EDIT] == 0 && answer[QUOTE_TRANSACTION_PAGE] == 2);
+    EXPECT(answer[QUOTE_TRANSACTION_PLACE] == QUOTE_PLACE_HEADER);
+    EXPECT(answer[QUOTE_TRANSACTION_BYTES] == 112 && answer[QUOTE_TRANSACTION_FLUSHES] == 2);
+    EXPECT(answer[QUOTE_TRANSACTION_NUMBERS] == 7);
     EXPECT(tape.at[0] == QUOTE_WORD_STORE && tape.at[36] == QUOTE_FLUSH);
     EXPECT(tape.at[40] == QUOTE_LINE_STORE && tape.at[108] == QUOTE_FLUSH);
     EXPECT(quote_check(work.at, work.length) == QUOTE_ACCEPTED);
@@ -133,6 +138,43 @@ static void transaction_answers(void)
     give_back(work);
     give_back(tape);
     give_back(other);
+}
+
+/* The place at which an update of the quotes from one key to another commits. */
+static uint64_t place_of_update(struct bytes *image, uint64_t from, uint64_t to)
+{
+    uint8_t room[QUOTE_LONGEST_LIST] = {0};
+    size_t length = 0;
+    for (uint64_t key = from; key <= to; key += 1, length += QUOTE_EDIT_HEAD + 200)
+        put_head(room + length, QUOTE_UPDATE, 200, key);
+    uint64_t answer[QUOTE_TRANSACTION_NUMBERS];
+    struct bytes work = lend(image->length), tape = lend(QUOTE_TAPE_SIZE(16));
+    struct bytes list = lend_copy(room, length);
+    EXPECT(quote_transaction(image->at, image->length, work.at, work.length, tape.at, tape.length,
+                             list.at, list.length, answer, 5) == QUOTE_ACCEPTED);
+    give_back(list);
+    give_back(tape);
+    give_back(*image);
+    *image = work;
+    return answer[QUOTE_TRANSACTION_PLACE];
+}
+
+/* Each copy of a leaf adds a record to the index, which is copied once it is
+ * full: the root word. Quotes in several leaves: the log. */
+static void commit_places(void)
+{
+    struct bytes image = fresh(16);
+    for (uint64_t key = 1; key <= 8; key += 1)
+        EXPECT(apply_one(&image, one_edit(QUOTE_INSERT, key, 200, 'v')) == QUOTE_ACCEPTED);
+    uint64_t came[4] = {0, 0, 0, 0};
+    for (uint64_t i = 0; i < 300; i += 1)
+        came[place_of_update(&image, 1 + i % 8, 1 + i % 8)] += 1;
+    EXPECT(came[QUOTE_PLACE_HEADER] > 0 && came[QUOTE_PLACE_ROOT] > 0);
+    EXPECT(came[QUOTE_PLACE_LOG] == 0 && came[0] == 0);
+    for (int i = 0; i < 8; i += 1)
+        came[place_of_update(&image, 1, 8)] += 1;
+    EXPECT(came[QUOTE_PLACE_LOG] > 0);
+    give_back(image);
 }
 
 struct head {
@@ -260,7 +302,7 @@ static void recovery_finishes_a_commit(size_t pages)
     memcpy(image.at, "\1\1\1", 3);              /* a mark: one header, root 1 */
     memcpy(image.at + 64, image.at + 1024, 64); /* that header */
     EXPECT(recover(image, work, tape, answer) == QUOTE_ACCEPTED);
-    EXPECT(answer[0] == 88 && answer[1] == 2);
+    EXPECT(answer[QUOTE_RECOVER_BYTES] == 88 && answer[QUOTE_RECOVER_FLUSHES] == 2);
     EXPECT(quote_check(work.at, work.length) == QUOTE_ACCEPTED);
     EXPECT(recover(image, work, short_tape, answer) == QUOTE_TAPE_SHORT);
     EXPECT(same(work, image) && all_are(short_tape, 77));
@@ -339,6 +381,7 @@ int main(void)
     lookup_refuses();
     next_key_leads_through();
     transaction_answers();
+    commit_places();
     lists_are_refused();
     seventeenth_edit_is_refused();
     full_stores_refuse();

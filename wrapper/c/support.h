@@ -98,7 +98,7 @@ static inline uint8_t apply(struct bytes *image, struct bytes list, uint64_t *ed
     uint8_t number = quote_transaction(image->at, image->length, work.at, work.length, tape.at,
                                        tape.length, list.at, list.length, answer,
                                        QUOTE_TRANSACTION_NUMBERS);
-    *edit = answer[0];
+    *edit = answer[QUOTE_TRANSACTION_EDIT];
     if (number == QUOTE_ACCEPTED) {
         struct bytes old = *image;
         *image = work;

@@ -36,7 +36,7 @@ pub fn format(image: &mut [u8]) -> Result<(), Refusal> {
 /// ```
 /// use quote_store::{calls, Refusal, Store};
 ///
-/// let mut image = Store::fresh(8)?.into_image();
+/// let mut image = Store::fresh(8)?.image().to_vec();
 /// assert_eq!(calls::check(&image), Ok(()));
 /// image[40] = 1;
 /// assert_eq!(calls::check(&image), Err(Refusal::Unsound));
@@ -111,7 +111,7 @@ pub fn next_key(image: &[u8], key: u64) -> Result<Option<u64>, Refusal> {
 /// ```
 /// use quote_store::{calls, encode, tape_length, Edit, Store};
 ///
-/// let image = Store::fresh(8)?.into_image();
+/// let image = Store::fresh(8)?.image().to_vec();
 /// let mut work = image.clone();
 /// let mut tape = vec![0; tape_length(image.len())];
 /// let edits = encode(&[Edit::Insert { key: 101, value: b"101.25" }]);
@@ -157,7 +157,7 @@ pub fn transaction(
 /// ```
 /// use quote_store::{calls, Refusal, Store};
 ///
-/// let mut image = Store::fresh(8)?.into_image();
+/// let mut image = Store::fresh(8)?.image().to_vec();
 /// // A mark that says: one header logged, root page 1. And that header.
 /// image[..8].copy_from_slice(&[1, 1, 1, 0, 0, 0, 0, 0]);
 /// image.copy_within(1024..1024 + 64, 64);
@@ -217,8 +217,11 @@ pub fn run(image: &[u8], work: &mut [u8], tape: &[u8]) -> Result<(), Refusal> {
     judged(number, 0)
 }
 
-/// The same device when the power fails after c commands: each line keeps as
-/// many of its stores not yet flushed as its choice says.
+/// The same device when the power fails after c commands. Stores whose line was
+/// flushed are kept. Of the others, each line keeps as many as its choice says,
+/// the earliest first, or all if there are fewer. A choice is a byte for each
+/// line of the image ([`LINE`](crate::LINE)). `c` may be raised until
+/// [`Refusal::PastEnd`] to find the number of commands.
 ///
 /// ```
 /// use quote_store::calls;

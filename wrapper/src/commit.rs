@@ -29,7 +29,7 @@ pub enum CommitPlace {
 /// let mut store = Store::fresh(8)?;
 /// let commit = store.apply(&[Edit::Insert { key: 101, value: &[1; 8] }])?;
 /// assert_eq!((commit.bytes, commit.flushes), (112, 2));
-/// assert_eq!(store.tape().len(), 112);
+/// assert_eq!(store.take_tape().len(), 112);
 /// # Ok::<(), quote_store::Refusal>(())
 /// ```
 #[derive(Clone, Copy, Debug, PartialEq, Eq)]
@@ -63,7 +63,7 @@ impl Commit {
 /// ```
 /// use quote_store::{calls, Recovery, Store};
 ///
-/// let image = Store::fresh(8)?.into_image();
+/// let image = Store::fresh(8)?.image().to_vec();
 /// let mut work = image.clone();
 /// let recovery = calls::recover(&image, &mut work, &mut [])?;
 /// assert_eq!(recovery, Recovery { bytes: 0, flushes: 0 });

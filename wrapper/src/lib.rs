@@ -5,6 +5,8 @@
 //! [`Store`] holds everything in memory of its own and is the place to begin.
 //! [`calls`] has each call of the proved library on buffers that the program
 //! lends, for a program whose image is the persistent memory itself.
+//! docs/USING.md in the repository says what a device must do with the commands
+//! and how long calls take; its README has the limits and the words.
 //!
 //! ```
 //! use quote_store::{Edit, Store};
@@ -22,6 +24,33 @@
 //! assert_eq!(store.get(101), Some(&b"101.50"[..]));
 //! # Ok::<(), quote_store::Refusal>(())
 //! ```
+//!
+//! # When a store is full
+//!
+//! A store with too few free pages refuses inserts, and in time updates too,
+//! with [`Refusal::PagesOut`]. Its quotes then move to a larger one. By rising
+//! keys alone leaves stay half full; of each 28 quotes the first 15 and then the
+//! others fill them, if values have 16 bytes at most:
+//!
+//! ```
+//! use quote_store::{Edit, Refusal, Store};
+//!
+//! let mut small = Store::fresh(8)?;
+//! let value = b"101.25";
+//! let full = (1..).find_map(|key| small.apply(&[Edit::Insert { key, value }]).err());
+//! assert_eq!(full, Some(Refusal::PagesOut { edit: 0 }));
+//!
+//! let mut large = Store::fresh(64)?;
+//! for first in [true, false] {
+//!     let quotes = small.iter().enumerate().filter(|(i, _)| (i % 28 < 15) == first);
+//!     let edits: Vec<Edit> = quotes.map(|(_, (key, value))| Edit::Insert { key, value }).collect();
+//!     for edits in edits.chunks(16) {
+//!         large.apply(edits)?;
+//!     }
+//! }
+//! assert!(large.iter().eq(small.iter()));
+//! # Ok::<(), Refusal>(())
+//! ```
 
 pub mod calls;
 mod commit;
@@ -33,6 +62,11 @@ pub use commit::{Commit, CommitPlace, Recovery};
 pub use edit::{encode, Edit};
 pub use refusal::Refusal;
 pub use store::{Iter, Store};
+
+/// The program of the README runs as it stands there.
+#[cfg(doctest)]
+#[doc = include_str!("../../README.md")]
+struct Readme;
 
 /// The bytes of a page; an image has 8 to 64 of them.
 ///
@@ -47,7 +81,7 @@ pub const PAGE: usize = 1024;
 /// ```
 /// use quote_store::{calls, Refusal, Store, LAST_KEY};
 ///
-/// let image = Store::fresh(8)?.into_image();
+/// let image = Store::fresh(8)?.image().to_vec();
 /// assert_eq!(calls::lookup(&image, LAST_KEY), Ok(None));
 /// assert_eq!(calls::lookup(&image, LAST_KEY + 1), Err(Refusal::KeyRange { edit: 0 }));
 /// # Ok::<(), Refusal>(())
@@ -70,7 +104,7 @@ pub const LONGEST_VALUE: usize = 200;
 
 /// A tape of this length is never too short for a transaction on an image of
 /// this length: 100 bytes a line. `include/quote_store.h` says why, beside
-/// QUOTE_TAPE_SIZE. It holds a recovery too.
+/// QUOTE_TAPE_SIZE; it is not proved. It holds a recovery too.
 ///
 /// ```
 /// assert_eq!(quote_store::tape_length(8 * quote_store::PAGE), 12_800);
@@ -79,5 +113,15 @@ pub const fn tape_length(image_length: usize) -> usize {
     image_length / LINE * 100
 }
 
-/// The bytes of a line, the unit of a flush.
-const LINE: usize = 64;
+/// The bytes of a line, the unit of a flush; a page has 16.
+///
+/// ```
+/// use quote_store::{calls, LINE, PAGE};
+///
+/// // No line keeps a store that was not flushed.
+/// let (image, mut work) = ([0; 8 * PAGE], [9; 8 * PAGE]);
+/// calls::cut(&image, &mut work, &[], 0, &[0; 8 * PAGE / LINE])?;
+/// assert_eq!(work, image);
+/// # Ok::<(), quote_store::Refusal>(())
+/// ```
+pub const LINE: usize = 64;

@@ -24,21 +24,42 @@ use std::fmt;
 /// ```
 #[derive(Clone, Copy, Debug, PartialEq, Eq, Hash)]
 pub enum Refusal {
+    /// 1: the image is not 8 to 64 whole pages.
     ImageSize,
+    /// 2: the work buffer is not as long as the image.
     WorkSize,
+    /// 3: a power failure cut a commit; [`Store::open`](crate::Store::open) or
+    /// [`calls::recover`](crate::calls::recover) finishes it.
     MarkWaits,
+    /// 4: the image is not that of a store.
     Unsound,
+    /// 5: no edit, a seventeenth, or one that is malformed.
     BadList { edit: usize },
+    /// 6: the key is 0 or above [`LAST_KEY`](crate::LAST_KEY).
     KeyRange { edit: usize },
+    /// 7: the value is above [`LONGEST_VALUE`](crate::LONGEST_VALUE).
     LongValue { edit: usize },
+    /// 8: an insert of a key that the store has.
     KeyPresent { edit: usize },
+    /// 9: an update or delete of a key that it has not.
     KeyMissing { edit: usize },
+    /// 10: an insert, or an update with a longer value, needs a 29th leaf.
+    /// Delete quotes, or keep two stores.
     IndexFull { edit: usize },
+    /// 11: an insert or update needs more free pages than there are. Delete
+    /// quotes, or move to a larger store, as [the package](crate) shows.
     PagesOut { edit: usize },
+    /// 12: the edits change more than 15 slot headers. Make them in two
+    /// transactions.
     LogFull,
+    /// 13: the tape is too short, which one of
+    /// [`tape_length`](crate::tape_length) never is.
     TapeShort,
+    /// 14: the tape has a malformed command, or a place outside the image.
     BadTape,
+    /// 15: the cut comes after more commands than the tape has.
     PastEnd,
+    /// 16: the choices are not one byte for each line of the image.
     BadChoices,
 }
 

@@ -7,32 +7,43 @@ const MOST_PAGES: usize = 64;
 
 /// A store in memory of its own. Its image is always sound.
 ///
-/// A program with a device plays [`tape`](Store::tape) on it after each
-/// accepted call; after a power failure it reads the device and
-/// [`open`](Store::open)s what it finds.
+/// What [`open`](Store::open) and [`apply`](Store::apply) do to the image, a
+/// device is to do too: their commands wait in the store, in order, until
+/// [`take_tape`](Store::take_tape) hands them out. [`get`](Store::get),
+/// [`next_key`](Store::next_key) and [`iter`](Store::iter) show the edits at
+/// once; they are durable when the device has carried out the commands. After a
+/// power failure the program reads the device and opens what it finds.
 ///
 /// ```
 /// use quote_store::{calls, Edit, Store};
 ///
 /// let mut store = Store::fresh(8)?;
-/// let mut device = store.image().to_vec();
+/// let before = store.image().to_vec();
+/// let mut device = before.clone();
 /// store.apply(&[Edit::Insert { key: 101, value: b"101.25" }])?;
 ///
-/// let before = device.clone();
-/// calls::run(&before, &mut device, store.tape())?;
+/// calls::run(&before, &mut device, &store.take_tape())?;
 /// assert_eq!(Store::open(&device)?.get(101), Some(&b"101.25"[..]));
 /// # Ok::<(), quote_store::Refusal>(())
 /// ```
-#[derive(Clone)]
+///
+/// A device has one store at a time. A new device first takes the image of a
+/// fresh store, whole, before any edit. Where a device fails while it carries out
+/// commands, the program drops the store and opens what the device holds, as
+/// after a power failure; edits whose commands were not taken are lost then. A
+/// store can't be cloned, since its commands are to be carried out once.
 pub struct Store {
     image: Vec<u8>,
+    /// Room for the calls.
     work: Vec<u8>,
-    tape: Vec<u8>,
-    used: usize,
+    room: Vec<u8>,
+    /// The commands that wait for the device.
+    waiting: Vec<u8>,
 }
 
 impl Store {
-    /// A store of so many pages, 8 to 64, without quotes.
+    /// A store of so many pages, 8 to 64, without quotes. No commands wait: its
+    /// [`image`](Store::image) is for the device to take whole.
     ///
     /// ```
     /// use quote_store::{Refusal, Store};
@@ -49,8 +60,8 @@ impl Store {
     }
 
     /// The store with this image. If a power failure cut a commit, it is
-    /// finished, and [`tape`](Store::tape) has the commands that do the same to
-    /// the device.
+    /// finished, and the commands that do the same to the device wait before
+    /// those of later calls.
     ///
     /// ```
     /// use quote_store::{calls, Edit, Refusal, Store};
@@ -61,14 +72,16 @@ impl Store {
     ///     store.apply(&[Edit::Insert { key, value: b"price 01" }])?;
     /// }
     /// let before = store.image().to_vec();
+    /// let _ = store.take_tape(); // carried out: the device holds `before`
     /// store.apply(&[
     ///     Edit::Update { key: 1, value: b"price 02" },
     ///     Edit::Update { key: 29, value: b"price 02" },
     /// ])?;
+    /// let tape = store.take_tape();
     ///
     /// // The power fails after c commands: both quotes are new, or neither is.
     /// let (mut device, mut c, mut waited) = (before.clone(), 0, 0);
-    /// while calls::cut(&before, &mut device, store.tape(), c, &[1; 128]).is_ok() {
+    /// while calls::cut(&before, &mut device, &tape, c, &[1; 128]).is_ok() {
     ///     if calls::check(&device) == Err(Refusal::MarkWaits) {
     ///         waited += 1;
     ///     }
@@ -78,6 +91,28 @@ impl Store {
     /// }
     /// assert!(waited > 0);
     /// # Ok::<(), quote_store::Refusal>(())
+    /// ```
+    ///
+    /// The recovery's commands are not lost where the next call comes before
+    /// they are taken:
+    ///
+    /// ```
+    /// use quote_store::{calls, Edit, Refusal, Store};
+    ///
+    /// // A commit waits: a mark that says one header logged, root page 1; and that header.
+    /// let mut cut = Store::fresh(8)?.image().to_vec();
+    /// cut[..8].copy_from_slice(&[1, 1, 1, 0, 0, 0, 0, 0]);
+    /// cut.copy_within(1024..1024 + 64, 64);
+    /// assert_eq!(calls::check(&cut), Err(Refusal::MarkWaits));
+    ///
+    /// let mut store = Store::open(&cut)?;
+    /// store.apply(&[Edit::Insert { key: 101, value: b"101.25" }])?;
+    ///
+    /// let mut device = cut.clone();
+    /// calls::run(&cut, &mut device, &store.take_tape())?;
+    /// assert_eq!(calls::check(&device), Ok(()));
+    /// assert!(device == store.image());
+    /// # Ok::<(), Refusal>(())
     /// ```
     pub fn open(image: &[u8]) -> Result<Store, Refusal> {
         match calls::check(image) {
@@ -91,21 +126,21 @@ impl Store {
     fn around(image: Vec<u8>) -> Store {
         Store {
             work: vec![0; image.len()],
-            tape: vec![0; tape_length(image.len())],
-            used: 0,
+            room: vec![0; tape_length(image.len())],
+            waiting: Vec::new(),
             image,
         }
     }
 
     fn recovered(mut self) -> Result<Store, Refusal> {
-        let recovery = calls::recover(&self.image, &mut self.work, &mut self.tape)?;
+        let recovery = calls::recover(&self.image, &mut self.work, &mut self.room)?;
         self.carried_out(recovery.bytes);
         Ok(self)
     }
 
     /// "On acceptance, [work is] the image after all the tape's stores."
     fn carried_out(&mut self, bytes: usize) {
-        self.used = bytes;
+        self.waiting.extend(&self.room[..bytes]);
         std::mem::swap(&mut self.image, &mut self.work);
     }
 
@@ -165,8 +200,8 @@ impl Store {
         }
     }
 
-    /// Makes all edits, or none. Accepted, [`tape`](Store::tape) has the
-    /// commands that do the same to the device.
+    /// Makes all edits, or none. Accepted, the commands that do the same to the
+    /// device wait behind those that wait already; refused, nothing is added.
     ///
     /// ```
     /// use quote_store::{Edit, Refusal, Store};
@@ -180,33 +215,55 @@ impl Store {
     /// # Ok::<(), Refusal>(())
     /// ```
     pub fn apply(&mut self, edits: &[Edit]) -> Result<Commit, Refusal> {
-        self.used = 0;
         let edits = encode(edits);
-        let commit = calls::transaction(&self.image, &mut self.work, &mut self.tape, &edits)?;
+        let commit = calls::transaction(&self.image, &mut self.work, &mut self.room, &edits)?;
         self.carried_out(commit.bytes);
         Ok(commit)
     }
 
-    /// The commands of the last [`apply`](Store::apply) or
-    /// [`open`](Store::open), for the device to carry out in order; none if
-    /// there is nothing to do, or it was refused.
+    /// Takes the commands that wait, for the device to carry out in order: those
+    /// of every accepted call since the last taking, none twice. A power failure
+    /// within them leaves the transactions of some first calls, each whole. The
+    /// bytes of a command are in docs/USING.md.
+    ///
+    /// Commands gather without bound until they are taken: a program takes them
+    /// after each call, or after a few, and one without a device drops them.
     ///
     /// ```
     /// use quote_store::{Edit, Store};
     ///
     /// let mut store = Store::fresh(8)?;
-    /// assert!(store.tape().is_empty());
+    /// assert!(store.take_tape().is_empty());
     /// store.apply(&[Edit::Insert { key: 101, value: b"101.25" }])?;
+    /// store.apply(&[Edit::Delete { key: 101 }])?;
+    /// let tape = store.take_tape();
     /// // The first command stores a word, the last one flushes line 32, page 2's header.
-    /// assert_eq!(store.tape()[0], 1);
-    /// assert!(store.tape().ends_with(&[3, 0, 32, 0]));
+    /// assert_eq!(tape[0], 1);
+    /// assert!(tape.ends_with(&[3, 0, 32, 0]));
+    /// assert_eq!(store.waiting(), 0);
     /// # Ok::<(), quote_store::Refusal>(())
     /// ```
-    pub fn tape(&self) -> &[u8] {
-        &self.tape[..self.used]
+    #[must_use = "what is not carried out by the device is lost to it"]
+    pub fn take_tape(&mut self) -> Vec<u8> {
+        std::mem::take(&mut self.waiting)
     }
 
-    /// The image, as the device holds it once it has carried out the tape.
+    /// How many bytes of commands wait.
+    ///
+    /// ```
+    /// use quote_store::{Edit, Store};
+    ///
+    /// let mut store = Store::fresh(8)?;
+    /// let commit = store.apply(&[Edit::Insert { key: 101, value: b"101.25" }])?;
+    /// assert_eq!(store.waiting(), commit.bytes);
+    /// # Ok::<(), quote_store::Refusal>(())
+    /// ```
+    pub fn waiting(&self) -> usize {
+        self.waiting.len()
+    }
+
+    /// The image, as the device holds it once it has carried out the commands
+    /// that wait. A device that takes it whole is not to carry them out too.
     ///
     /// ```
     /// use quote_store::{calls, Store, PAGE};
@@ -218,19 +275,6 @@ impl Store {
     /// ```
     pub fn image(&self) -> &[u8] {
         &self.image
-    }
-
-    /// The image, and nothing else of the store.
-    ///
-    /// ```
-    /// use quote_store::Store;
-    ///
-    /// let image = Store::fresh(8)?.into_image();
-    /// assert!(Store::open(&image).is_ok());
-    /// # Ok::<(), quote_store::Refusal>(())
-    /// ```
-    pub fn into_image(self) -> Vec<u8> {
-        self.image
     }
 }
 

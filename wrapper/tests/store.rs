@@ -1,7 +1,7 @@
 //! The `Store` type against a plain map, and through power failures.
 
 use cases::random::Random;
-use quote_store::{calls, Edit, Refusal, Store, LAST_KEY};
+use quote_store::{calls, Edit, Refusal, Store, LAST_KEY, LINE};
 use std::collections::BTreeMap;
 
 const SEED: u64 = 20_240_612;
@@ -40,22 +40,44 @@ fn played(image: &[u8], tape: &[u8]) -> Vec<u8> {
     device
 }
 
-/// The power fails after each of the tape's commands, with each line keeping
-/// none, one or all of its stores. Gives how often a commit had to be finished.
+/// How many stores not yet flushed a line keeps.
+type Choice = fn(usize) -> u8;
+
+/// None, one or all; or those of every other line.
+const CHOICES: [Choice; 5] = [
+    |_| 0,
+    |_| 1,
+    |_| 255,
+    |line| if line % 2 == 0 { 255 } else { 0 },
+    |line| if line % 2 == 1 { 255 } else { 0 },
+];
+
+/// The power fails after each of the tape's commands: first the old table is
+/// there, at the end the new one, and never the old one after the new one. Gives
+/// how often a commit had to be finished.
 fn every_cut(before: &[u8], tape: &[u8], old: &Map, new: &Map) -> usize {
-    let (mut cut, mut recovered) = (0, 0);
-    while let Some(device) = after_cut(before, tape, cut / 3, [0, 1, 255][cut % 3]) {
-        recovered += usize::from(opens_to_either(&device, old, new));
-        cut += 1;
+    let mut recovered = 0;
+    for choice in CHOICES {
+        let (mut c, mut left_old, mut at_new) = (0, false, false);
+        while let Some(device) = after_cut(before, tape, c, choice) {
+            let found = Store::open(&device).expect("no cut is refused");
+            let at_old = holds(&found, old);
+            at_new = holds(&found, new);
+            assert!(at_old || c > 0);
+            assert!(at_new || (at_old && !left_old));
+            left_old |= !at_old;
+            recovered += usize::from(device_follows(&device, found));
+            c += 1;
+        }
+        assert!(at_new && c > 1);
     }
-    assert!(cut > 3);
     recovered
 }
 
 /// What the device holds after c commands; none if the tape has fewer.
-fn after_cut(before: &[u8], tape: &[u8], c: usize, choice: u8) -> Option<Vec<u8>> {
+fn after_cut(before: &[u8], tape: &[u8], c: usize, choice: Choice) -> Option<Vec<u8>> {
     let mut device = vec![0; before.len()];
-    let choices = vec![choice; before.len() / 64];
+    let choices: Vec<u8> = (0..before.len() / LINE).map(choice).collect();
     match calls::cut(before, &mut device, tape, c, &choices) {
         Ok(()) => Some(device),
         Err(refusal) => {
@@ -65,13 +87,17 @@ fn after_cut(before: &[u8], tape: &[u8], c: usize, choice: u8) -> Option<Vec<u8>
     }
 }
 
-/// What is opened holds one of the two tables. Gives whether a commit had to be
-/// finished.
-fn opens_to_either(device: &[u8], old: &Map, new: &Map) -> bool {
-    let found = Store::open(device).expect("no cut is refused");
-    assert!(holds(&found, old) || holds(&found, new));
-    assert!(played(device, found.tape()) == found.image());
-    !found.tape().is_empty()
+/// The device comes to the store that was opened on it, and so if a transaction
+/// is made before the tape is taken. Gives whether a commit had to be finished.
+fn device_follows(device: &[u8], mut found: Store) -> bool {
+    let (image, recovery) = (found.image().to_vec(), found.waiting());
+    let value = DATA;
+    found.apply(&[Edit::Insert { key: 61, value }]).unwrap();
+    let tape = found.take_tape();
+    assert!(played(device, &tape[..recovery]) == image);
+    assert!(played(device, &tape) == found.image());
+    assert_eq!(found.get(61), Some(DATA));
+    recovery > 0
 }
 
 #[test]
@@ -89,9 +115,10 @@ fn store_is_the_map_through_power_failures() {
             .collect();
         match store.apply(&edits) {
             Ok(commit) => {
-                assert_eq!(commit.bytes, store.tape().len());
-                assert!(played(&before, store.tape()) == store.image());
-                recovered += every_cut(&before, store.tape(), &old, &map);
+                let tape = store.take_tape();
+                assert_eq!(commit.bytes, tape.len());
+                assert!(played(&before, &tape) == store.image());
+                recovered += every_cut(&before, &tape, &old, &map);
                 accepted += 1;
             }
             Err(refusal) => panic!("{refusal}"),
@@ -110,6 +137,7 @@ fn a_refused_list_changes_nothing() {
         value: b"99.50",
     };
     store.apply(&[good]).unwrap();
+    assert!(!store.take_tape().is_empty());
     let image = store.image().to_vec();
     let long = [0; 1000];
     let other = Edit::Insert { key: 2, value: b"" };
@@ -137,8 +165,27 @@ fn a_refused_list_changes_nothing() {
     ];
     for (edits, refusal) in lists {
         assert_eq!(store.apply(edits), Err(refusal));
-        assert!(store.image() == image && store.tape().is_empty());
+        assert!(store.image() == image && store.take_tape().is_empty());
     }
+}
+
+/// Commands wait until they are taken, in the order of the calls; a refused call
+/// takes none away.
+#[test]
+fn commands_gather_until_they_are_taken() {
+    let mut store = Store::fresh(8).unwrap();
+    let fresh = store.image().to_vec();
+    let value = b"99.50";
+    let mut bytes = 0;
+    for key in 1..60 {
+        let edits = [Edit::Insert { key, value }];
+        bytes += store.apply(&edits).unwrap().bytes;
+        assert!(store.apply(&edits).is_err());
+    }
+    let tape = store.take_tape();
+    assert_eq!(tape.len(), bytes);
+    assert!(played(&fresh, &tape) == store.image());
+    assert!(store.take_tape().is_empty());
 }
 
 /// The lengths that a byte can't hold, and those about the limit.
@@ -172,7 +219,7 @@ fn fresh_stores_of_other_lengths_are_refused() {
 fn unsound_images_are_refused() {
     assert_eq!(Store::open(&[0; 8192]).unwrap_err(), Refusal::Unsound);
     // A mark that waits over a log that is none.
-    let mut image = Store::fresh(8).unwrap().into_image();
+    let mut image = Store::fresh(8).unwrap().image().to_vec();
     image[..3].copy_from_slice(&[1, 1, 1]);
     assert_eq!(calls::check(&image), Err(Refusal::MarkWaits));
     assert_eq!(Store::open(&image).unwrap_err(), Refusal::Unsound);

@@ -11,7 +11,7 @@ mod store;
 
 use bench::books::{five_hundred, neighbours, one, spread};
 use bench::chart::{Chart, Panel};
-use bench::measure::taking_turns;
+use bench::measure::{processor, taking_turns};
 use cases::images::Built;
 use folder::Folder;
 use lmdb::Lmdb;
@@ -73,6 +73,7 @@ fn main() {
         lmdb::version(),
         folder.base()
     );
+    println!("Processor: {}.", processor());
     println!("Processor time a call: medians of {REPETITIONS} turns of {CALLS} calls, the systems taking");
     println!("turns.");
     let rows = measure(&book, &quotes, &mut systems);

@@ -113,8 +113,11 @@ impl Folder {
         folder
     }
 
+    /// Signals are as a terminal would have them: a gate that runs in the
+    /// background hands on that some are ignored.
     fn script(&self) -> Command {
-        let mut command = Command::new(self.path.join("sheet"));
+        let mut command = Command::new("env");
+        command.arg("--default-signal").arg(self.path.join("sheet"));
         let path = std::env::var("PATH").expect("there is a PATH");
         command.env(
             "PATH",
@@ -276,7 +279,7 @@ fn program_without_a_listing() {
 #[test]
 fn no_kit() {
     let folder = Folder::with_rt("kit", "");
-    folder.make("rm bin/rt && for c in cat dirname find head readlink sh; do ln -s \"$(command -v $c)\" bin; done");
+    folder.make("rm bin/rt && for c in cat dirname env find head readlink sh; do ln -s \"$(command -v $c)\" bin; done");
     let mut command = folder.script();
     command.env("PATH", folder.path.join("bin"));
     ended(command, b"").refused(1, "rt, the command of the Rattle kit");

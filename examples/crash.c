@@ -53,20 +53,29 @@ static size_t make_curve(uint8_t kind, int bond, int shift, uint64_t *answer)
     return (size_t)answer[QUOTE_TRANSACTION_BYTES];
 }
 
-/* Whether the quotes of bond 0 in work are those of the curve so shifted. */
-static int holds_curve(int shift)
+/* Whether the quotes of a bond in work are those of the curve so shifted. */
+static int holds_bond(int bond, int shift)
 {
     for (int i = 0; i < MATURITIES; i += 1) {
         uint64_t answer[QUOTE_LOOKUP_NUMBERS];
         char price[PRICE];
         put_price(price, i, shift);
-        stop_if_refused("lookup", quote_lookup(work, sizeof work, key_of(i, 0), answer,
+        stop_if_refused("lookup", quote_lookup(work, sizeof work, key_of(i, bond), answer,
                                                QUOTE_LOOKUP_NUMBERS));
         if (answer[QUOTE_LOOKUP_FOUND] == 0 || answer[QUOTE_LOOKUP_LENGTH] != strlen(price) ||
             memcmp(work + answer[QUOTE_LOOKUP_OFFSET], price, strlen(price)) != 0)
             return 0;
     }
     return 1;
+}
+
+/* Whether bond 0 is so shifted, and the others are as they were. */
+static int holds_curve(int shift)
+{
+    int holds = holds_bond(0, shift);
+    for (int bond = 1; bond < BONDS; bond += 1)
+        holds = holds && holds_bond(bond, 0);
+    return holds;
 }
 
 /* Of its stores not yet flushed, each line keeps none, one, or all; or those of

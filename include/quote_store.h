@@ -7,8 +7,8 @@
  *   Every buffer is lent by the caller for the time of the call, as a pointer
  *   and a length. The store keeps no pointer, allocates nothing, opens nothing
  *   and has no state of its own: threads may call it at once, each with buffers
- *   that no other thread writes meanwhile. A call takes up to 96 KiB of stack
- *   (quote_recover; the others 32).
+ *   that no other thread writes meanwhile. A call takes up to 96 KiB of stack,
+ *   quote_recover the most.
  *   What the caller owes a call, and nothing else:
  *   - a pointer leads to as many bytes (or numbers) as its length says. It is
  *     not NULL, also where the length is 0; it need not be aligned, but for an
@@ -39,8 +39,7 @@
  *   and refusal below is one that the proofs speak of; that this file copies
  *   them right is tested (wrapper/c).
  *   Not proved: QUOTE_TAPE_SIZE and QUOTE_RECOVERY_TAPE_SIZE, which are argued
- *   below and which every test keeps to, and the stack that a call takes, which
- *   was measured and is tested.
+ *   below and tested, and the stack that a call takes, which is tested.
  *
  * How a program goes on
  *   The image is the persistent memory, or a copy of it. No call but

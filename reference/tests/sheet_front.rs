@@ -6,7 +6,7 @@ use reference::sheet::sheet;
 use std::io::Write;
 use std::os::unix::process::ExitStatusExt;
 use std::path::PathBuf;
-use std::process::{Child, Command, Stdio};
+use std::process::{Child, ChildStdin, Command, Stdio};
 use std::thread::sleep;
 use std::time::{Duration, Instant};
 
@@ -20,17 +20,16 @@ fn example(name: &str) -> Vec<u8> {
 
 // ---- running it
 
-fn start(command: &mut Command, form: &[u8]) -> Child {
+/// The script, and its standard input.
+fn start(command: &mut Command) -> (Child, ChildStdin) {
     let mut child = command
         .stdin(Stdio::piped())
         .stdout(Stdio::piped())
         .stderr(Stdio::piped())
         .spawn()
         .expect("the script starts");
-    let mut input = child.stdin.take().expect("its standard input is a pipe");
-    // where it is refused, nobody reads the form
-    let _ = input.write_all(form);
-    child
+    let input = child.stdin.take().expect("its standard input is a pipe");
+    (child, input)
 }
 
 /// How a run of the script ended.
@@ -41,8 +40,11 @@ struct Ended {
 }
 
 fn ended(mut command: Command, form: &[u8]) -> Ended {
-    let done = start(&mut command, form).wait_with_output();
-    let done = done.expect("the script ends");
+    let (child, mut input) = start(&mut command);
+    // where it is refused, nobody reads the form
+    let _ = input.write_all(form);
+    drop(input);
+    let done = child.wait_with_output().expect("the script ends");
     Ended {
         status: done.status.code(),
         wrote: done.stdout,
@@ -180,6 +182,8 @@ fn arguments_are_refused() {
         "('examples/curve.txt'), and reads the form from standard input",
     );
     assert!(option.wrote.is_empty() && name.wrote.is_empty());
+    // which a shell's echo would read as the end of the line
+    ended(script(&["a\\cb"]), b"").refused(2, "('a\\cb'), and reads");
 }
 
 // ---- input and output
@@ -225,7 +229,8 @@ fn output_that_cannot_be_written() {
 // ---- the first build
 
 /// What the stand-in says for two crates, and the program that is there.
-const BUILDS: &str = "echo 'fn codec::copy: proved'
+const BUILDS: &str = "[ -z \"${CDPATH-}\" ] || exit 1
+echo 'fn codec::copy: proved'
 echo 'a note' >&2
 echo 'rt: codec proved (2 s)'
 echo 'rt: sheet proved (3 s)'
@@ -236,7 +241,9 @@ echo \"$@\" >asked";
 #[test]
 fn first_build_has_a_line_a_crate() {
     let (folder, form) = (Folder::with_rt("build", BUILDS), example("curve.txt"));
-    let run = ended(folder.script(), &form);
+    let mut command = folder.script();
+    command.env("CDPATH", "/");
+    let run = ended(command, &form);
     run.listed(&form);
     let said: Vec<&str> = run.said.lines().collect();
     assert_eq!(said.len(), 3, "{}", run.said);
@@ -247,10 +254,32 @@ fn first_build_has_a_line_a_crate() {
     assert_eq!(folder.file("asked"), "check sheet\n");
     let log = folder.file("target/sheet.log");
     assert!(log.starts_with("fn codec::copy: proved\na note\nrt: codec proved (2 s)\n"));
-    // it is built once
-    let again = ended(folder.script(), &form);
-    again.listed(&form);
-    assert_eq!(again.said, "");
+}
+
+/// It is built once, and again after a change of a crate.
+#[test]
+fn built_again_after_a_change() {
+    let (folder, form) = (Folder::with_rt("again", BUILDS), example("curve.txt"));
+    let lines = || {
+        let run = ended(folder.script(), &form);
+        run.listed(&form);
+        run.said.lines().count()
+    };
+    assert_eq!((lines(), lines()), (3, 0));
+    folder.make("sleep 0.1; touch crates/new");
+    assert_eq!((lines(), lines()), (3, 0));
+}
+
+/// What is changed while the program is built is not in it.
+#[test]
+fn change_during_the_build() {
+    let changes = format!("sleep 0.1; [ -e crates/new ] || touch crates/new\n{BUILDS}");
+    let (folder, form) = (Folder::with_rt("change", &changes), example("curve.txt"));
+    for lines in [3, 3, 0] {
+        let run = ended(folder.script(), &form);
+        run.listed(&form);
+        assert_eq!(run.said.lines().count(), lines, "{}", run.said);
+    }
 }
 
 #[test]
@@ -266,6 +295,16 @@ fn build_that_fails() {
     assert!(folder.file("target/sheet.log").starts_with("why\n"));
 }
 
+/// An older program does not stand for one that could not be built, whatever
+/// the last line of `rt` looks like.
+#[test]
+fn build_that_fails_beside_an_older_program() {
+    let folder = Folder::with_rt("older", "printf 'not proved'; exit 1");
+    folder.make("mkdir -p target/bin; cp \"$ROOT/target/bin/sheet\" target/bin; sleep 0.1; touch crates/new");
+    let run = ended(folder.script(), &example("curve.txt"));
+    assert_eq!((run.status, run.wrote.len()), (Some(1), 0), "{}", run.said);
+}
+
 /// What stands for the program writes nothing.
 #[test]
 fn program_without_a_listing() {
@@ -279,7 +318,7 @@ fn program_without_a_listing() {
 #[test]
 fn no_kit() {
     let folder = Folder::with_rt("kit", "");
-    folder.make("rm bin/rt && for c in cat dirname env find head readlink sh; do ln -s \"$(command -v $c)\" bin; done");
+    folder.make("rm bin/rt && for c in cat dirname env find head readlink setsid sh; do ln -s \"$(command -v $c)\" bin; done");
     let mut command = folder.script();
     command.env("PATH", folder.path.join("bin"));
     ended(command, b"").refused(1, "rt, the command of the Rattle kit");
@@ -294,24 +333,46 @@ fn folder_that_cannot_be_written() {
     assert!(!folder.path.join("asked").exists());
 }
 
+const SIGNALS: [(&str, i32); 4] = [("HUP", 1), ("INT", 2), ("QUIT", 3), ("TERM", 15)];
+
+/// The script ends by the signal that it is sent.
+fn send(signal: (&str, i32), folder: &Folder, mut child: Child) {
+    folder.make(&format!("kill -s {} {}", signal.0, child.id()));
+    let status = child.wait().expect("the script ends");
+    assert_eq!(status.signal(), Some(signal.1));
+    sleep(Duration::from_millis(200));
+}
+
 /// The stand-in starts a program that goes on for a minute.
 #[test]
 fn stopped_it_stops_the_build() {
     let goes_on =
         "(i=0; while [ $i -lt 600 ]; do echo >>beats; sleep 0.1; i=$((i + 1)); done) & wait";
-    for (signal, number) in [("TERM", 15), ("INT", 2), ("HUP", 1)] {
-        let folder = Folder::with_rt(signal, goes_on);
-        let mut child = start(&mut folder.script(), b"");
+    for signal in SIGNALS {
+        let folder = Folder::with_rt(&format!("build-{}", signal.0), goes_on);
+        let (child, _input) = start(&mut folder.script());
         let until = Instant::now() + Duration::from_secs(20);
         while folder.file("beats").is_empty() && Instant::now() < until {
             sleep(Duration::from_millis(20));
         }
-        folder.make(&format!("kill -s {signal} {}", child.id()));
-        let status = child.wait().expect("the script ends");
-        assert_eq!(status.signal(), Some(number));
-        sleep(Duration::from_millis(200));
+        send(signal, &folder, child);
         let beats = folder.file("beats").len();
         sleep(Duration::from_millis(500));
-        assert!(beats > 0 && folder.file("beats").len() == beats, "{signal}");
+        let now = folder.file("beats").len();
+        assert!(beats > 0 && now == beats, "{}", signal.0);
+    }
+}
+
+/// A form whose end does not come: afterwards nobody reads it any more.
+#[test]
+fn stopped_it_stops_the_reading() {
+    for signal in SIGNALS {
+        let folder = Folder::with_rt(&format!("read-{}", signal.0), BUILDS);
+        ended(folder.script(), b"").listed(b"");
+        let (child, mut input) = start(&mut folder.script());
+        input.write_all(b" 1").expect("the form is read");
+        sleep(Duration::from_millis(300));
+        send(signal, &folder, child);
+        assert!(input.write_all(b" ").is_err(), "{}", signal.0);
     }
 }

@@ -220,7 +220,8 @@ static void lists_are_refused(void)
         {QUOTE_BAD_LIST, 0, 0, 1, {{0, 0, 1}, {0, 0, 0}}},
         {QUOTE_BAD_LIST, 0, 0, 1, {{QUOTE_DELETE, 1, 101}, {0, 0, 0}}},
         {QUOTE_BAD_LIST, 0, 1, 1, {{QUOTE_INSERT, 8, 1}, {0, 0, 0}}},
-        {QUOTE_LONG_VALUE, 0, 201, 1, {{QUOTE_INSERT, 201, 1}, {0, 0, 0}}},
+        {QUOTE_LONG_VALUE, 0, 201, 1, {{QUOTE_INSERT, QUOTE_LONGEST_VALUE + 1, 1}, {0, 0, 0}}},
+        {QUOTE_KEY_MISSING, 0, 0, 1, {{QUOTE_UPDATE, QUOTE_LONGEST_VALUE, 1}, {0, 0, 0}}},
         {QUOTE_LONG_VALUE, 1, 0, 2, {{QUOTE_INSERT, 0, 1}, {QUOTE_UPDATE, 255, 2}}},
         {QUOTE_KEY_RANGE, 0, 0, 1, {{QUOTE_INSERT, 0, 0}, {0, 0, 0}}},
         {QUOTE_KEY_RANGE, 1, 0, 2, {{QUOTE_INSERT, 0, 1}, {QUOTE_DELETE, 0, QUOTE_LAST_KEY + 1}}},
@@ -238,16 +239,16 @@ static void lists_are_refused(void)
 /* Sixteen edits are accepted; any byte more is a seventeenth. */
 static void seventeenth_edit_is_refused(void)
 {
-    uint8_t room[17 * QUOTE_EDIT_HEAD];
-    for (uint64_t i = 0; i < 17; i += 1)
+    uint8_t room[(QUOTE_MOST_EDITS + 1) * QUOTE_EDIT_HEAD];
+    for (uint64_t i = 0; i <= QUOTE_MOST_EDITS; i += 1)
         put_head(room + QUOTE_EDIT_HEAD * i, QUOTE_INSERT, 0, 1 + i);
     struct bytes image = fresh(8);
-    for (size_t length = sizeof room; length >= 16 * QUOTE_EDIT_HEAD; length -= 1) {
+    for (size_t length = sizeof room; length >= QUOTE_MOST_EDITS * QUOTE_EDIT_HEAD; length -= 1) {
         struct bytes list = lend_copy(room, length);
         uint64_t edit;
-        int good = length == 16 * QUOTE_EDIT_HEAD;
+        int good = length == QUOTE_MOST_EDITS * QUOTE_EDIT_HEAD;
         EXPECT(apply(&image, list, &edit) == (good ? QUOTE_ACCEPTED : QUOTE_BAD_LIST));
-        EXPECT(edit == (good ? 0 : 16));
+        EXPECT(edit == (good ? 0 : QUOTE_MOST_EDITS));
         give_back(list);
     }
     give_back(image);
@@ -290,6 +291,34 @@ static uint8_t recover(struct bytes image, struct bytes work, struct bytes tape,
 {
     return quote_recover(image.at, image.length, work.at, work.length, tape.at, tape.length,
                          answer, QUOTE_RECOVER_NUMBERS);
+}
+
+/* The longest: 15 headers and another root, in a tape of exactly the size that
+ * the header gives. The logged headers are those that are there, of leaves of
+ * three quotes; the root word is a wrong one. */
+static void longest_recovery(void)
+{
+    uint64_t found[QUOTE_LOOKUP_NUMBERS], answer[QUOTE_RECOVER_NUMBERS + 1] = {7, 7, 7};
+    struct bytes image = fresh(64), work = lend(image.length);
+    struct bytes tape = lend(QUOTE_RECOVERY_TAPE_SIZE);
+    EXPECT(fill(&image, 200) == QUOTE_INDEX_FULL);
+    struct bytes whole = lend_copy(image.at, image.length);
+    for (uint64_t i = 0; i < 15; i += 1) {
+        EXPECT(quote_lookup(whole.at, whole.length, 10 + 30 * i, found, 3) == QUOTE_ACCEPTED);
+        memcpy(image.at + 64 * (1 + i), whole.at + found[QUOTE_LOOKUP_OFFSET] / 1024 * 1024, 64);
+    }
+    memcpy(image.at, "\1\17", 2);
+    memcpy(image.at + 2, whole.at + 8, 2);
+    image.at[8] = whole.at[8] == 1 ? 2 : 1;
+    EXPECT(quote_recover(image.at, image.length, work.at, work.length, tape.at, tape.length,
+                         answer, QUOTE_RECOVER_NUMBERS + 1) == QUOTE_ACCEPTED);
+    EXPECT(answer[QUOTE_RECOVER_BYTES] == QUOTE_RECOVERY_TAPE_SIZE);
+    EXPECT(answer[QUOTE_RECOVER_FLUSHES] == 16 && answer[QUOTE_RECOVER_NUMBERS] == 7);
+    EXPECT(memcmp(work.at, whole.at, 64) == 0);
+    give_back(image);
+    give_back(work);
+    give_back(tape);
+    give_back(whole);
 }
 
 static void recovery_finishes_a_commit(size_t pages)
@@ -385,6 +414,7 @@ int main(void)
     lists_are_refused();
     seventeenth_edit_is_refused();
     full_stores_refuse();
+    longest_recovery();
     recovery_finishes_a_commit(QUOTE_LEAST_PAGES);
     recovery_finishes_a_commit(QUOTE_MOST_PAGES);
     run_carries_out();

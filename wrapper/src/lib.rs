@@ -28,9 +28,10 @@
 //! # When a store is full
 //!
 //! A store with too few free pages refuses inserts, and in time updates too,
-//! with [`Refusal::PagesOut`]. Its quotes then move to a larger one. By rising
-//! keys alone leaves stay half full; of each 28 quotes the first 15 and then the
-//! others fill them, if values have 16 bytes at most:
+//! with [`Refusal::PagesOut`]. Its quotes then move to a larger one. In one
+//! pass by rising keys leaves stay half full; two passes fill them, where the
+//! first takes 15 of each 28 quotes. (28 is how many quotes fit a leaf, 15 is
+//! 28 / 2 + 1; with longer values they are fewer.)
 //!
 //! ```
 //! use quote_store::{Edit, Refusal, Store};
@@ -44,7 +45,7 @@
 //! for first in [true, false] {
 //!     let quotes = small.iter().enumerate().filter(|(i, _)| (i % 28 < 15) == first);
 //!     let edits: Vec<Edit> = quotes.map(|(_, (key, value))| Edit::Insert { key, value }).collect();
-//!     for edits in edits.chunks(16) {
+//!     for edits in edits.chunks(15) {
 //!         large.apply(edits)?;
 //!     }
 //! }

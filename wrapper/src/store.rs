@@ -23,7 +23,7 @@ const MOST_PAGES: usize = 64;
 /// store.apply(&[Edit::Insert { key: 101, value: b"101.25" }])?;
 ///
 /// calls::run(&before, &mut device, &store.take_tape())?;
-/// assert_eq!(Store::open(&device)?.get(101), Some(&b"101.25"[..]));
+/// assert!(device == store.image());
 /// # Ok::<(), quote_store::Refusal>(())
 /// ```
 ///

@@ -103,16 +103,18 @@ fn full_store_refuses_updates() {
     store.apply(&[update(1000, 8)]).unwrap();
 }
 
-/// How many of 100 shifts of k neighbours, with values as long as the old ones,
-/// are refused with 11 where every leaf is full to the last byte, so that each
-/// update copies it, and so many pages are free.
+/// How many of 100 shifts of k quotes, with values as long as the old ones, are
+/// refused with 11 where every leaf is full to the last byte, so that each
+/// update copies it, and so many pages are free: shifts of neighbours, or of one
+/// quote a leaf.
 fn refused_shifts(free: usize, k: usize) -> usize {
     let mut store = fullest(2 + 28 + free, 176);
     let keys = keys(&store);
     assert_eq!(keys.len(), 28 * 5);
     let mut refused = 0;
     for turn in 0..100 {
-        let at = |i| keys[(7 * turn + i) % keys.len()];
+        let step = [1, 5][turn % 2];
+        let at = |i| keys[(7 * turn + step * i) % keys.len()];
         let edits: Vec<Edit> = (0..k).map(|i| update(at(i), 176)).collect();
         match store.apply(&edits) {
             Ok(_) => {}
@@ -157,22 +159,21 @@ fn fifteen_headers() {
     }
 }
 
-/// The fullest store moves to another in the order that the package's
-/// documentation gives, and by rising keys does not.
+/// "In two passes: where c quotes fit a leaf, the first pass takes c / 2 + 1 of
+/// each c": the fullest store moves so, and by rising keys does not.
 #[test]
 fn moving_fills_leaves() {
-    let from = fullest(64, 16);
-    let keys = keys(&from);
-    assert_eq!(keys.len(), 784);
-    let (first, rest): (Vec<_>, Vec<_>) = (0..keys.len()).partition(|i| i % 28 < 15);
-    let mut to = Store::fresh(64).unwrap();
-    for part in [first, rest] {
-        for some in part.chunks(16) {
-            let edits: Vec<Edit> = some.iter().map(|i| insert(keys[*i], 16)).collect();
+    for (length, c) in [(16, 28), (24, 24), (50, 13), (100, 8), (200, 4)] {
+        let from = fullest(64, length);
+        let keys = keys(&from);
+        assert_eq!(keys.len(), 28 * c);
+        let (first, rest): (Vec<_>, Vec<_>) = (0..keys.len()).partition(|i| i % c < c / 2 + 1);
+        let mut to = Store::fresh(64).unwrap();
+        for some in first.chunks(15).chain(rest.chunks(15)) {
+            let edits: Vec<Edit> = some.iter().map(|i| insert(keys[*i], length)).collect();
             to.apply(&edits).unwrap();
         }
+        assert!(to.iter().eq(from.iter()));
+        assert_eq!(fill(64, length, keys.into_iter()).1, INDEX_FULL);
     }
-    assert!(to.iter().eq(from.iter()));
-    let (store, refusal) = fill(64, 16, keys.into_iter());
-    assert_eq!((store.iter().count(), refusal), (433, INDEX_FULL));
 }

@@ -52,24 +52,23 @@ const CHOICES: [Choice; 5] = [
     |line| if line % 2 == 1 { 255 } else { 0 },
 ];
 
-/// The power fails after each of the tape's commands: first the old table is
-/// there, at the end the new one, and never the old one after the new one. Gives
-/// how often a commit had to be finished.
-fn every_cut(before: &[u8], tape: &[u8], old: &Map, new: &Map) -> usize {
+/// The power fails after each of the tape's commands: at first the first of
+/// these tables is there, at the end the last one, and none comes back once it
+/// was left. Gives how often a commit had to be finished.
+fn every_cut(before: &[u8], tape: &[u8], tables: &[&Map]) -> usize {
     let mut recovered = 0;
     for choice in CHOICES {
-        let (mut c, mut left_old, mut at_new) = (0, false, false);
+        let (mut c, mut left, mut ends) = (0, 0, false);
         while let Some(device) = after_cut(before, tape, c, choice) {
             let found = Store::open(&device).expect("no cut is refused");
-            let at_old = holds(&found, old);
-            at_new = holds(&found, new);
-            assert!(at_old || c > 0);
-            assert!(at_new || (at_old && !left_old));
-            left_old |= !at_old;
+            let more = tables[left..].iter().position(|map| holds(&found, map));
+            left += more.expect("it holds one of the tables");
+            assert!(left == 0 || c > 0);
+            ends = holds(&found, tables[tables.len() - 1]);
             recovered += usize::from(device_follows(&device, found));
             c += 1;
         }
-        assert!(at_new && c > 1);
+        assert!(ends && c > 1);
     }
     recovered
 }
@@ -118,7 +117,7 @@ fn store_is_the_map_through_power_failures() {
                 let tape = store.take_tape();
                 assert_eq!(commit.bytes, tape.len());
                 assert!(played(&before, &tape) == store.image());
-                recovered += every_cut(&before, &tape, &old, &map);
+                recovered += every_cut(&before, &tape, &[&old, &map]);
                 accepted += 1;
             }
             Err(refusal) => panic!("{refusal}"),
@@ -167,6 +166,36 @@ fn a_refused_list_changes_nothing() {
         assert_eq!(store.apply(edits), Err(refusal));
         assert!(store.image() == image && store.take_tape().is_empty());
     }
+}
+
+/// "A power failure among them leaves some first transactions, each whole": a
+/// recovery and two transactions, taken together.
+#[test]
+fn cut_among_the_commands_of_several_calls() {
+    let (mut store, mut map) = (Store::fresh(16).unwrap(), Map::new());
+    let insert = |key| Edit::Insert { key, value: DATA };
+    for key in 1..=60 {
+        store.apply(&[insert(key)]).unwrap();
+        map.insert(key, DATA);
+    }
+    let (before, _) = (store.image().to_vec(), store.take_tape());
+    let shift = [1, 60].map(|key| Edit::Update { key, value: b"1" });
+    store.apply(&shift).unwrap();
+    map.extend([(1, &b"1"[..]), (60, b"1")]);
+    let tape = store.take_tape();
+    let mut cuts = (0..).map_while(|c| after_cut(&before, &tape, c, |_| 1));
+    let waits = cuts.find(|device| calls::check(device) == Err(Refusal::MarkWaits));
+    let device = waits.expect("a commit is cut");
+
+    let mut store = Store::open(&device).unwrap();
+    store.apply(&[Edit::Delete { key: 1 }]).unwrap();
+    store
+        .apply(&[Edit::Delete { key: 60 }, Edit::Delete { key: 2 }])
+        .unwrap();
+    let (mut next, mut last) = (map.clone(), map.clone());
+    next.remove(&1);
+    last.retain(|key, _| ![1, 2, 60].contains(key));
+    every_cut(&device, &store.take_tape(), &[&map, &next, &last]);
 }
 
 /// Commands wait until they are taken, in the order of the calls; a refused call

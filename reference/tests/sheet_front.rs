@@ -120,6 +120,7 @@ impl Folder {
     fn script(&self) -> Command {
         let mut command = Command::new("env");
         command.arg("--default-signal").arg(self.path.join("sheet"));
+        command.current_dir(&self.path);
         let path = std::env::var("PATH").expect("there is a PATH");
         command.env(
             "PATH",

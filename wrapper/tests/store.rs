@@ -195,7 +195,8 @@ fn cut_among_the_commands_of_several_calls() {
     let (mut next, mut last) = (map.clone(), map.clone());
     next.remove(&1);
     last.retain(|key, _| ![1, 2, 60].contains(key));
-    every_cut(&device, &store.take_tape(), &[&map, &next, &last]);
+    let finished = every_cut(&device, &store.take_tape(), &[&map, &next, &last]);
+    assert!(finished > 0);
 }
 
 /// Commands wait until they are taken, in the order of the calls; a refused call

@@ -1,7 +1,8 @@
 /*
- * A store of 8 pages: the start, three quotes of a curve, a shift of the whole
- * curve in one transaction, and a transaction that is refused. Build it at the
- * root of the repository:
+ * A store of 8 pages: the start, three quotes of a curve and one beside it, a
+ * shift of the whole curve, which is looked at before it is sent in one
+ * transaction, and a list that is refused. Build it at the root of the
+ * repository:
  *
  *   gcc -Iinclude examples/quote.c target/staticlib/libstore.a -o target/quote
  */
@@ -14,6 +15,10 @@
 static uint8_t image[QUOTE_IMAGE_SIZE(PAGES)];
 static uint8_t work[QUOTE_IMAGE_SIZE(PAGES)];
 static uint8_t tape[QUOTE_TAPE_SIZE(PAGES)];
+
+/* The edits that are looked at, and then sent. */
+static uint8_t edits[QUOTE_LONGEST_LIST];
+static size_t edits_length;
 
 static const uint64_t maturities[MATURITIES] = {2, 5, 10};
 
@@ -59,19 +64,53 @@ static void start(void)
     printf("started: %d tape bytes\n", (int)answer[QUOTE_RECOVER_BYTES]);
 }
 
-/* One edit of this kind for each maturity, in one transaction: all or none. */
-static void commit_curve(uint8_t kind, const char *const *prices)
+/* A list of one edit. */
+static void list_quote(uint8_t kind, uint64_t key, const char *price)
 {
-    uint8_t edits[QUOTE_LONGEST_LIST], *end = edits;
-    uint64_t answer[QUOTE_TRANSACTION_NUMBERS];
+    edits_length = (size_t)(put_edit(edits, kind, key, price) - edits);
+}
+
+/* A list of one edit of this kind for each maturity. */
+static void list_curve(uint8_t kind, const char *const *prices)
+{
+    uint8_t *end = edits;
     for (int i = 0; i < MATURITIES; i += 1)
         end = put_edit(end, kind, maturities[i], prices[i]);
+    edits_length = (size_t)(end - edits);
+}
+
+static void print_refusal(uint64_t edit, uint8_t number)
+{
+    printf("refused at edit %d: %d, %s\n", (int)edit, number, words_of(number));
+}
+
+/* What a quote would be after the list's edits. It is read where it stands: in
+ * the list if an edit gives it, else in the image. */
+static void preview(uint64_t key)
+{
+    uint64_t answer[QUOTE_PREVIEW_NUMBERS];
+    uint8_t number = quote_preview(image, sizeof image, edits, edits_length, key, answer,
+                                   QUOTE_PREVIEW_NUMBERS);
+    int in_list = answer[QUOTE_PREVIEW_WHERE] == QUOTE_IN_LIST;
+    printf("preview of %" PRIu64 ": ", key);
+    if (number != QUOTE_ACCEPTED)
+        print_refusal(answer[QUOTE_PREVIEW_EDIT], number);
+    else if (answer[QUOTE_PREVIEW_WHERE] == QUOTE_NOWHERE)
+        printf("no quote\n");
+    else
+        printf("%.*s, from the %s\n", (int)answer[QUOTE_PREVIEW_LENGTH],
+               (const char *)(in_list ? edits : image) + answer[QUOTE_PREVIEW_OFFSET],
+               in_list ? "list" : "image");
+}
+
+/* All edits of the list in one transaction, or none. */
+static void commit(void)
+{
+    uint64_t answer[QUOTE_TRANSACTION_NUMBERS];
     uint8_t number = quote_transaction(image, sizeof image, work, sizeof work, tape, sizeof tape,
-                                       edits, (size_t)(end - edits), answer,
-                                       QUOTE_TRANSACTION_NUMBERS);
+                                       edits, edits_length, answer, QUOTE_TRANSACTION_NUMBERS);
     if (number != QUOTE_ACCEPTED) {
-        printf("refused at edit %d: %d, %s\n", (int)answer[QUOTE_TRANSACTION_EDIT], number,
-               words_of(number));
+        print_refusal(answer[QUOTE_TRANSACTION_EDIT], number);
         return;
     }
     play((size_t)answer[QUOTE_TRANSACTION_BYTES]);
@@ -109,10 +148,18 @@ int main(void)
     static const char *const shifted[MATURITIES] = {"101.20", "99.375", "97.50"};
     stop_if_refused("format", quote_format(image, sizeof image));
     start();
-    commit_curve(QUOTE_INSERT, old);
+    list_curve(QUOTE_INSERT, old);
+    commit();
+    list_quote(QUOTE_INSERT, 7, "98.00");
+    commit();
     print_quote(5);
-    commit_curve(QUOTE_UPDATE, shifted);
-    commit_curve(QUOTE_INSERT, old);
+    list_curve(QUOTE_UPDATE, shifted);
+    preview(5);
+    preview(7); /* which the list leaves alone */
+    commit();
+    list_curve(QUOTE_INSERT, old);
+    preview(5);
+    commit();
     print_all();
     print_quote(30);
     return 0;

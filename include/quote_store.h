@@ -1,7 +1,7 @@
 /*
- * The quote store, for programs in C. Document 01 decides what each call does;
- * the calls are proved to do it, for every content and every length of the
- * buffers.
+ * The quote store, for programs in C. Document 01, and document 02 for what
+ * came later, decide what each call does; the calls are proved to do it, for
+ * every content and every length of the buffers.
  *
  * Buffers
  *   Every buffer is lent by the caller for the time of the call, as a pointer
@@ -34,10 +34,11 @@
  *   the number that a call returns, the numbers in `answer` and every byte of
  *   the buffers afterwards are what the call's definition says; it reads and
  *   writes nothing else, and ends. Proved of the definitions: an accepted
- *   transaction makes exactly its edits, and no power failure leaves half of
- *   one. docs/STATEMENTS.md has both in full. So each size, limit, kind, place
- *   and refusal below is one that the proofs speak of; that this file copies
- *   them right is tested (wrapper/c).
+ *   transaction makes exactly its edits, a preview shows the value that the
+ *   table would hold after them, and no power failure leaves half of a
+ *   transaction. docs/STATEMENTS.md has all of it. So each size, limit, kind,
+ *   place and refusal below is one that the proofs speak of; that this file
+ *   copies them right is tested (wrapper/c).
  *   Not proved: QUOTE_TAPE_SIZE and QUOTE_RECOVERY_TAPE_SIZE, which are argued
  *   below and tested, and the stack that a call takes, which is tested.
  *
@@ -49,7 +50,8 @@
  *   device carry them out in order, all of them before the next call's. The
  *   edits are durable once that is done. If the image is the memory itself, it
  *   then holds what `work` does; if it is a copy, `work` is the next one. After
- *   a power failure the program calls quote_recover and does the same.
+ *   a power failure the program calls quote_recover and does the same. Before a
+ *   transaction, quote_preview shows what its edits would make of a quote.
  *   examples/quote.c and examples/crash.c are such programs; docs/USING.md says
  *   how long a call takes, and what to do when a store is full.
  *
@@ -160,6 +162,13 @@ enum quote_place {
     QUOTE_PLACE_LOG = 3     /* the mark, with the headers in the log */
 };
 
+/* Which buffer has the value that a preview answers. */
+enum quote_where {
+    QUOTE_NOWHERE = 0, /* neither: the key would be missing */
+    QUOTE_IN_LIST = 1, /* the edit list */
+    QUOTE_IN_IMAGE = 2 /* the image */
+};
+
 /* Where each number of a call stands in `answer`, and how many there are. */
 enum quote_lookup_answer {
     QUOTE_LOOKUP_FOUND,  /* 1, or 0 if the store has no such key */
@@ -171,6 +180,13 @@ enum quote_next_key_answer {
     QUOTE_NEXT_KEY_FOUND, /* 1, or 0 if there is no larger key */
     QUOTE_NEXT_KEY_KEY,
     QUOTE_NEXT_KEY_NUMBERS
+};
+enum quote_preview_answer {
+    QUOTE_PREVIEW_EDIT,   /* refused: the edit at fault, from 0 */
+    QUOTE_PREVIEW_WHERE,  /* which buffer has the value (enum quote_where) */
+    QUOTE_PREVIEW_OFFSET, /* of the value in that buffer */
+    QUOTE_PREVIEW_LENGTH, /* of the value */
+    QUOTE_PREVIEW_NUMBERS
 };
 enum quote_transaction_answer {
     QUOTE_TRANSACTION_EDIT,    /* refused: the edit at fault, from 0 */
@@ -221,6 +237,36 @@ uint8_t quote_lookup(const uint8_t *image, size_t image_length, uint64_t key,
  */
 uint8_t quote_next_key(const uint8_t *image, size_t image_length, uint64_t key,
                        uint64_t *answer, size_t answer_length);
+
+/*
+ * Preview: the value that a key would have if the edits of a list had been
+ * made, without making them: the curve before it is sent. The last edit of the
+ * key decides. If that is an insert or update, the value is the edit's own; if
+ * it is a delete, the key would be missing; if no edit has the key, the value is
+ * the image's, or the key is missing there too.
+ *   image   read.
+ *   edits   read.
+ *   answer  four numbers. Accepted: 0, which buffer has the value (enum
+ *           quote_where), the value's offset in that buffer, its length; all are
+ *           0 if the key would be missing. The value is read in place, at edits
+ *           or image + answer[2], as long as that buffer stays as it is; an
+ *           empty value's offset may be the buffer's length. Refused: the number
+ *           of the edit that is at fault, from 0, and three zeros; it is 0 too
+ *           for 1, 3, 4 and the key asked, which are no edit's.
+ *   refuses as quote_check, in its order; then for the first faulty edit of the
+ *           list BAD_LIST, LONG_VALUE, BAD_LIST if the value is cut short,
+ *           KEY_RANGE; then KEY_RANGE for the key asked; then, over the whole
+ *           list, each edit seeing those before it, for the first that fails
+ *           KEY_PRESENT, KEY_MISSING.
+ * Pages, log and tape play no part: it does not say whether the transaction of
+ * the list finds room, which may still be refused with INDEX_FULL, PAGES_OUT,
+ * LOG_FULL or TAPE_SHORT. Where that is accepted, a lookup of the key in its
+ * work finds the same bytes; where it is refused with 5 to 9, so is the preview
+ * of a key in range, with the same edit number.
+ */
+uint8_t quote_preview(const uint8_t *image, size_t image_length,
+                      const uint8_t *edits, size_t edits_length, uint64_t key,
+                      uint64_t *answer, size_t answer_length);
 
 /*
  * Transaction: makes all edits of a list, or none.

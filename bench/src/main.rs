@@ -4,6 +4,7 @@
 
 mod device;
 mod image;
+mod preview;
 mod transaction;
 
 use bench::measure;
@@ -11,6 +12,7 @@ use bench::measure;
 fn main() {
     device::check();
     image::check();
+    preview::check();
     transaction::check();
     println!("Processor: {}.", measure::processor());
     println!(
@@ -20,5 +22,6 @@ fn main() {
     println!("the three taking turns; all buffers warm, work not cleared before a call.");
     device::measure();
     image::measure();
+    preview::measure();
     transaction::measure();
 }

@@ -41,6 +41,11 @@ impl Ledger {
         self.tables.len() - 1
     }
 
+    /// The value that the table at this count has for a key, if it has the key.
+    pub fn value(&self, key: u64, count: usize) -> Option<&[u8]> {
+        self.tables[count].get(&key).map(Vec::as_slice)
+    }
+
     /// "That a recovered store holds j transactions means that it is sound and
     /// its table is the ledger's at count j." Its table is none if it is not
     /// sound.

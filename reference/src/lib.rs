@@ -1,5 +1,6 @@
-//! The quote store once more, written from document 01 alone, in the plainest
-//! way. It is no part of the proved store: the proved one is compared with it.
+//! The quote store once more, written from documents 01 and 02 alone, in the
+//! plainest way. It is no part of the proved store: the proved one is compared
+//! with it.
 
 pub mod device;
 pub mod edits;
@@ -7,13 +8,15 @@ pub mod image;
 pub mod ledger;
 pub mod numbers;
 pub mod page;
+pub mod preview;
 pub mod recovery;
 pub mod sheet;
 pub mod tape;
 pub mod transaction;
 
 /// Document 01, 'Each call and when it says no': "A refusal gives its number
-/// and edit number from 0 (0 unless 5 to 11 in a transaction)."
+/// and edit number from 0 (0 unless 5 to 11 in a transaction)." Document 02 (a)
+/// has them in a preview too.
 #[derive(Clone, Copy, Debug, PartialEq, Eq)]
 pub struct Refusal {
     pub number: u8,

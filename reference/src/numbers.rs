@@ -1,6 +1,7 @@
 //! Answers as the numbers of the proved library's C interface, to compare the
 //! two.
 
+use crate::preview::Preview;
 use crate::recovery::Recovered;
 use crate::tape::CommitPlace;
 use crate::transaction::Accepted;
@@ -32,5 +33,22 @@ pub fn of_recovery(answer: &Result<Recovered, Refusal>) -> (u8, Option<[u64; 2]>
             (0, Some(two.map(|number| number as u64)))
         }
         Err(refusal) => (refusal.number, None),
+    }
+}
+
+/// A preview's: 0 or the refusal's number, and four numbers: edit number, which
+/// buffer has the value (1 the edit list, 2 the image, 0 none), offset and
+/// length.
+pub fn of_preview(answer: &Result<Preview, Refusal>) -> (u8, [u64; 4]) {
+    match answer {
+        Ok(found) => {
+            let four = match *found {
+                Preview::InList { offset, length } => [0, 1, offset, length],
+                Preview::InImage { offset, length } => [0, 2, offset, length],
+                Preview::Missing => [0; 4],
+            };
+            (0, four.map(|number| number as u64))
+        }
+        Err(refusal) => (refusal.number, [refusal.edit as u64, 0, 0, 0]),
     }
 }

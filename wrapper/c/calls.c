@@ -102,6 +102,116 @@ static void next_key_leads_through(void)
     give_back(image);
 }
 
+static uint8_t preview(struct bytes image, struct bytes list, uint64_t key, uint64_t *answer,
+                       size_t numbers)
+{
+    return quote_preview(image.at, image.length, list.at, list.length, key, answer, numbers);
+}
+
+/* Whether the preview is accepted with these numbers, and writes no others. */
+static int preview_shows(struct bytes image, struct bytes list, uint64_t key,
+                         enum quote_where where, uint64_t offset, uint64_t length)
+{
+    uint64_t answer[QUOTE_PREVIEW_NUMBERS + 1] = {7, 7, 7, 7, 7};
+    return preview(image, list, key, answer, QUOTE_PREVIEW_NUMBERS + 1) == QUOTE_ACCEPTED &&
+           answer[QUOTE_PREVIEW_EDIT] == 0 && answer[QUOTE_PREVIEW_WHERE] == where &&
+           answer[QUOTE_PREVIEW_OFFSET] == offset &&
+           answer[QUOTE_PREVIEW_LENGTH] == length && answer[QUOTE_PREVIEW_NUMBERS] == 7;
+}
+
+/* Whether it is refused with these numbers. */
+static int preview_refused(struct bytes image, struct bytes list, uint64_t key, uint8_t number,
+                           uint64_t edit)
+{
+    uint64_t answer[QUOTE_PREVIEW_NUMBERS] = {7, 7, 7, 7};
+    return preview(image, list, key, answer, QUOTE_PREVIEW_NUMBERS) == number &&
+           answer[QUOTE_PREVIEW_EDIT] == edit && answer[QUOTE_PREVIEW_WHERE] == QUOTE_NOWHERE &&
+           answer[QUOTE_PREVIEW_OFFSET] == 0 && answer[QUOTE_PREVIEW_LENGTH] == 0;
+}
+
+/* The last edit of a key decides; without one, the image. */
+static void preview_says_where(void)
+{
+    uint64_t found[QUOTE_LOOKUP_NUMBERS];
+    struct bytes image = two_quotes(), before = lend_copy(image.at, image.length);
+    struct bytes list = one_edit(QUOTE_UPDATE, 101, 3, 'q');
+    EXPECT(preview_shows(image, list, 101, QUOTE_IN_LIST, 10, 3));
+    EXPECT(quote_lookup(image.at, image.length, 105, found, 3) == QUOTE_ACCEPTED);
+    EXPECT(preview_shows(image, list, 105, QUOTE_IN_IMAGE, found[QUOTE_LOOKUP_OFFSET], 0));
+    EXPECT(preview_shows(image, list, 102, QUOTE_NOWHERE, 0, 0));
+    add_edit(&list, QUOTE_UPDATE, 105, 8, 'q');   /* 18 bytes behind 13 */
+    add_edit(&list, QUOTE_DELETE, 105, 0, 0);     /* 10 bytes behind 31 */
+    add_edit(&list, QUOTE_UPDATE, 101, 200, 'r'); /* behind 41 */
+    EXPECT(preview_shows(image, list, 101, QUOTE_IN_LIST, 41 + QUOTE_EDIT_HEAD, 200));
+    EXPECT(preview_shows(image, list, 105, QUOTE_NOWHERE, 0, 0));
+    add_edit(&list, QUOTE_UPDATE, 101, 8, 'p'); /* behind 251: as it is in the image */
+    EXPECT(preview_shows(image, list, 101, QUOTE_IN_LIST, 251 + QUOTE_EDIT_HEAD, 8));
+    add_edit(&list, QUOTE_INSERT, 102, 0, 0); /* empty, at the list's end */
+    EXPECT(preview_shows(image, list, 102, QUOTE_IN_LIST, list.length, 0));
+    EXPECT(same(image, before) && list.at[51] == 'r');
+    give_back(image);
+    give_back(before);
+    give_back(list);
+}
+
+/* A lookup in the new image finds the bytes that the preview showed. */
+static void preview_is_what_lookup_finds(void)
+{
+    struct bytes image = two_quotes(), old = lend_copy(image.at, image.length);
+    struct bytes list = one_edit(QUOTE_UPDATE, 105, 9, 'q');
+    uint64_t seen[QUOTE_PREVIEW_NUMBERS], found[QUOTE_LOOKUP_NUMBERS], edit;
+    EXPECT(apply(&image, list, &edit) == QUOTE_ACCEPTED);
+    for (uint64_t key = 100; key <= 106; key += 1) {
+        EXPECT(preview(old, list, key, seen, QUOTE_PREVIEW_NUMBERS) == QUOTE_ACCEPTED);
+        EXPECT(quote_lookup(image.at, image.length, key, found, 3) == QUOTE_ACCEPTED);
+        int in_list = seen[QUOTE_PREVIEW_WHERE] == QUOTE_IN_LIST;
+        EXPECT((seen[QUOTE_PREVIEW_WHERE] != QUOTE_NOWHERE) == found[QUOTE_LOOKUP_FOUND]);
+        EXPECT(seen[QUOTE_PREVIEW_LENGTH] == found[QUOTE_LOOKUP_LENGTH]);
+        EXPECT(memcmp((in_list ? list : old).at + seen[QUOTE_PREVIEW_OFFSET],
+                      image.at + found[QUOTE_LOOKUP_OFFSET], found[QUOTE_LOOKUP_LENGTH]) == 0);
+    }
+    give_back(image);
+    give_back(old);
+    give_back(list);
+}
+
+/* The image is judged first, then the list, then the key asked. (What a list is
+ * refused with: lists_are_refused.) */
+static void preview_refuses(void)
+{
+    struct bytes image = two_quotes(), none = lend(0);
+    struct bytes list = one_edit(QUOTE_UPDATE, 101, 8, 'q');
+    EXPECT(preview_shows(image, list, QUOTE_LAST_KEY, QUOTE_NOWHERE, 0, 0));
+    EXPECT(preview_refused(image, list, QUOTE_LAST_KEY + 1, QUOTE_KEY_RANGE, 0));
+    EXPECT(preview_refused(image, list, 0, QUOTE_KEY_RANGE, 0));
+    EXPECT(preview_refused(image, none, 0, QUOTE_BAD_LIST, 0));
+    memcpy(image.at, "\1\1\1", 3);
+    EXPECT(preview_refused(image, none, 0, QUOTE_MARK_WAITS, 0));
+    image.at[40] = 1;
+    EXPECT(preview_refused(image, none, 0, QUOTE_UNSOUND, 0));
+    image.length -= 1;
+    EXPECT(preview_refused(image, none, 0, QUOTE_IMAGE_SIZE_WRONG, 0));
+    give_back(image);
+    give_back(none);
+    give_back(list);
+}
+
+/* An array without room for all numbers stays, accepted or refused. */
+static void preview_without_room(void)
+{
+    uint64_t answer[QUOTE_PREVIEW_NUMBERS] = {7, 7, 7, 7};
+    struct bytes image = two_quotes(), list = one_edit(QUOTE_UPDATE, 101, 8, 'q');
+    for (size_t numbers = 0; numbers < QUOTE_PREVIEW_NUMBERS; numbers += 1) {
+        EXPECT(preview(image, list, 101, answer, numbers) == QUOTE_ACCEPTED);
+        EXPECT(preview(image, list, 0, answer, numbers) == QUOTE_KEY_RANGE);
+    }
+    list.length -= 1;
+    EXPECT(preview(image, list, 101, answer, 3) == QUOTE_BAD_LIST);
+    EXPECT(answer[0] == 7 && answer[1] == 7 && answer[2] == 7 && answer[3] == 7);
+    give_back(image);
+    give_back(list);
+}
+
 /* Document 01's first worked row, with a tape of this length. */
 static uint8_t worked_row(struct bytes work, struct bytes tape, uint64_t *answer, size_t numbers)
 {
@@ -110,7 +220,7 @@ static uint8_t worked_row(struct bytes work, struct bytes tape, uint64_t *answer
     uint8_t number = quote_transaction(image.at, image.length, work.at, work.length, tape.at,
                                        tape.length, list.at, list.length, answer, numbers);
     if (number == QUOTE_TAPE_SHORT)
-        EXPECT(same(work, image));
+        EXPECT(same(work, image) && preview_shows(image, list, 101, QUOTE_IN_LIST, 10, 8));
     give_back(image);
     give_back(list);
     return number;
@@ -203,6 +313,11 @@ static void list_is_refused(const struct faulty *faulty, struct bytes image)
     struct bytes list = lend_copy(room, length - faulty->cut);
     struct bytes before = lend_copy(image.at, image.length);
     uint64_t edit = 77;
+    /* A preview says the same, but for a key asked that is out of range. */
+    int asked = faulty->number >= QUOTE_KEY_PRESENT;
+    EXPECT(preview_refused(image, list, 101, faulty->number, faulty->edit));
+    EXPECT(preview_refused(image, list, 0, asked ? (uint8_t)QUOTE_KEY_RANGE : faulty->number,
+                           asked ? 0 : faulty->edit));
     EXPECT(apply(&image, list, &edit) == faulty->number);
     EXPECT(edit == faulty->edit);
     EXPECT(same(image, before));
@@ -247,6 +362,8 @@ static void seventeenth_edit_is_refused(void)
         struct bytes list = lend_copy(room, length);
         uint64_t edit;
         int good = length == QUOTE_MOST_EDITS * QUOTE_EDIT_HEAD;
+        EXPECT(good ? preview_shows(image, list, 16, QUOTE_IN_LIST, length, 0)
+                    : preview_refused(image, list, 16, QUOTE_BAD_LIST, QUOTE_MOST_EDITS));
         EXPECT(apply(&image, list, &edit) == (good ? QUOTE_ACCEPTED : QUOTE_BAD_LIST));
         EXPECT(edit == (good ? 0 : QUOTE_MOST_EDITS));
         give_back(list);
@@ -254,13 +371,17 @@ static void seventeenth_edit_is_refused(void)
     give_back(image);
 }
 
-/* Inserts rising keys, 10 apart, until one is refused; says with what. */
+/* Inserts rising keys, 10 apart, until one is refused; says with what. A preview
+ * shows that one too: pages, log and tape play no part in it. */
 static uint8_t fill(struct bytes *image, uint8_t length)
 {
     uint64_t key = 10;
     uint8_t number;
     while ((number = apply_one(image, one_edit(QUOTE_INSERT, key, length, 'v'))) == QUOTE_ACCEPTED)
         key += 10;
+    struct bytes list = one_edit(QUOTE_INSERT, key, length, 'v');
+    EXPECT(preview_shows(*image, list, key, QUOTE_IN_LIST, QUOTE_EDIT_HEAD, length));
+    give_back(list);
     return number;
 }
 
@@ -280,6 +401,7 @@ static void full_stores_refuse(void)
     struct bytes list = lend_copy(room, sizeof room), shorter = lend_copy(room, sizeof room - 11);
     uint64_t edit;
     EXPECT(apply(&large, list, &edit) == QUOTE_LOG_FULL && edit == 0);
+    EXPECT(preview_shows(large, list, 10 + 30 * 15, QUOTE_IN_LIST, sizeof room - 1, 1));
     EXPECT(apply(&large, shorter, &edit) == QUOTE_ACCEPTED);
     give_back(small);
     give_back(large);
@@ -409,6 +531,10 @@ int main(void)
     lookup_finds();
     lookup_refuses();
     next_key_leads_through();
+    preview_says_where();
+    preview_is_what_lookup_finds();
+    preview_refuses();
+    preview_without_room();
     transaction_answers();
     commit_places();
     lists_are_refused();

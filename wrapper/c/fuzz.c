@@ -55,14 +55,17 @@ static struct bytes any_image(struct bytes store)
 #define FORMAT_SAYS (BIT(QUOTE_ACCEPTED) | BIT(QUOTE_IMAGE_SIZE_WRONG))
 #define CHECK_SAYS (FORMAT_SAYS | BIT(QUOTE_MARK_WAITS) | BIT(QUOTE_UNSOUND))
 #define LOOKUP_SAYS (CHECK_SAYS | BIT(QUOTE_KEY_RANGE))
+#define LIST_SAYS (BIT(QUOTE_BAD_LIST) | BIT(QUOTE_LONG_VALUE) | BIT(QUOTE_KEY_RANGE))
+#define PREVIEW_SAYS (CHECK_SAYS | LIST_SAYS | BIT(QUOTE_KEY_PRESENT) | BIT(QUOTE_KEY_MISSING))
 #define TRANSACTION_SAYS (BIT(QUOTE_TAPE_SHORT + 1) - 1)
 #define SIZES_SAY (FORMAT_SAYS | BIT(QUOTE_WORK_SIZE_WRONG))
 #define RECOVER_SAYS (SIZES_SAY | BIT(QUOTE_UNSOUND) | BIT(QUOTE_TAPE_SHORT))
 #define RUN_SAYS (SIZES_SAY | BIT(QUOTE_BAD_TAPE))
 #define CUT_SAYS (RUN_SAYS | BIT(QUOTE_PAST_END) | BIT(QUOTE_BAD_CHOICES))
 
-/* The answers that came, of all calls together. */
-static unsigned came = 0;
+/* The answers that came, of all calls together and of previews; and where the
+ * values were that these showed. */
+static unsigned came = 0, previews = 0, places = 0;
 
 static void expect_known(uint8_t number, unsigned known)
 {
@@ -120,6 +123,36 @@ static void reading(struct bytes image)
     free(answer);
 }
 
+/* The value that a preview shows lies in the buffer that it names. */
+static void value_is_inside(struct bytes image, struct bytes list, const uint64_t *answer)
+{
+    struct bytes from = answer[QUOTE_PREVIEW_WHERE] == QUOTE_IN_LIST ? list : image;
+    EXPECT(answer[QUOTE_PREVIEW_EDIT] == 0 && answer[QUOTE_PREVIEW_WHERE] <= QUOTE_IN_IMAGE);
+    EXPECT(answer[QUOTE_PREVIEW_OFFSET] <= from.length);
+    EXPECT(answer[QUOTE_PREVIEW_LENGTH] <= from.length - answer[QUOTE_PREVIEW_OFFSET]);
+    EXPECT(answer[QUOTE_PREVIEW_LENGTH] <= QUOTE_LONGEST_VALUE);
+    places |= BIT(answer[QUOTE_PREVIEW_WHERE]);
+}
+
+/* The key is of the list's first edit, or any. */
+static void looking(struct bytes image)
+{
+    struct bytes list = any_list();
+    size_t numbers = below(7);
+    uint64_t *answer = (uint64_t *)malloc(8 * numbers);
+    uint64_t key = below(8) == 0 ? UINT64_MAX - below(3) : below(600);
+    if (below(2) == 0 && list.length >= QUOTE_EDIT_HEAD)
+        memcpy(&key, list.at + 2, 8);
+    uint8_t number = quote_preview(image.at, image.length, list.at, list.length, key, answer,
+                                   numbers);
+    expect_known(number, PREVIEW_SAYS);
+    previews |= BIT(number);
+    if (number == QUOTE_ACCEPTED && numbers >= QUOTE_PREVIEW_NUMBERS)
+        value_is_inside(image, list, answer);
+    free(answer);
+    give_back(list);
+}
+
 static void every_answer_came(void)
 {
     printf("fuzz: %d rounds, seed %d; answers that came:", ROUNDS, SEED);
@@ -129,6 +162,8 @@ static void every_answer_came(void)
     puts("");
     /* Stores of 12 pages have neither 28 leaves nor 16 headers to change. */
     EXPECT((came | BIT(QUOTE_INDEX_FULL) | BIT(QUOTE_LOG_FULL)) == BIT(QUOTE_BAD_CHOICES + 1) - 1);
+    EXPECT(previews == PREVIEW_SAYS);
+    EXPECT(places == (BIT(QUOTE_NOWHERE) | BIT(QUOTE_IN_LIST) | BIT(QUOTE_IN_IMAGE)));
 }
 
 int main(void)
@@ -138,6 +173,7 @@ int main(void)
         struct bytes image = any_image(store);
         transaction_and_recovery(image, &store);
         device(image);
+        looking(image);
         reading(image);
         give_back(image);
     }

@@ -87,6 +87,18 @@ static inline struct bytes one_edit(uint8_t kind, uint64_t key, uint8_t length, 
     return list;
 }
 
+/* Puts an edit at a list's end, whose value has this byte throughout. */
+static inline void add_edit(struct bytes *list, uint8_t kind, uint64_t key, uint8_t length,
+                            int byte)
+{
+    size_t at = list->length;
+    list->length += QUOTE_EDIT_HEAD + (size_t)length;
+    list->at = (uint8_t *)realloc(list->at, list->length);
+    EXPECT(list->at != NULL);
+    put_head(list->at + at, kind, length, key);
+    memset(list->at + at + QUOTE_EDIT_HEAD, byte, length);
+}
+
 /* The transaction of a list on an image, with buffers that suffice. Accepted,
  * the image becomes the new one; refused, work and tape are as the header
  * says. Gives the edit that is at fault too. */

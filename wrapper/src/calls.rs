@@ -2,7 +2,7 @@
 //! allocates nothing and keeps nothing. `include/quote_store.h` says of each
 //! what its buffers hold afterwards, and its refusals in their order.
 
-use crate::{Commit, Recovery, Refusal};
+use crate::{Commit, Preview, Recovery, Refusal};
 use quote_store_sys as sys;
 use std::ops::Range;
 
@@ -103,6 +103,81 @@ pub fn next_key(image: &[u8], key: u64) -> Result<Option<u64>, Refusal> {
     judged(number, 0)?;
     let [found, next] = answer;
     Ok((found == 1).then_some(next))
+}
+
+/// Where the value is that a key would have if the edits had been made, without
+/// making them: in the list or in the image.
+///
+/// The rules for the keys of edits hold for the whole list. Pages, log and tape
+/// play no part: a transaction of the list may still be refused with 10 to 13.
+/// The key asked is refused as edit 0, and the list's own faults come first.
+///
+/// ```
+/// use quote_store::{calls, encode, Edit, Preview, Refusal, Store};
+///
+/// let mut store = Store::fresh(8)?;
+/// store.apply(&[
+///     Edit::Insert { key: 101, value: b"101.25" },
+///     Edit::Insert { key: 105, value: b"99.50" },
+/// ])?;
+/// let image = store.image();
+/// let shift = encode(&[Edit::Update { key: 101, value: b"101.50" }]);
+/// // A value stands behind the 10 bytes of its edit's kind, length and key.
+/// assert_eq!(calls::preview(image, &shift, 101), Ok(Preview::InList(10..16)));
+/// let place = calls::lookup(image, 105)?.unwrap();
+/// assert_eq!(calls::preview(image, &shift, 105), Ok(Preview::InImage(place)));
+/// assert_eq!(calls::preview(image, &shift, 107), Ok(Preview::Missing));
+///
+/// assert_eq!(calls::preview(image, &shift, 0), Err(Refusal::KeyRange { edit: 0 }));
+/// let wrong = encode(&[Edit::Delete { key: 101 }, Edit::Delete { key: 101 }]);
+/// assert_eq!(calls::preview(image, &wrong, 105), Err(Refusal::KeyMissing { edit: 1 }));
+/// # Ok::<(), Refusal>(())
+/// ```
+pub fn preview(image: &[u8], edits: &[u8], key: u64) -> Result<Preview, Refusal> {
+    let mut answer = [0; 4];
+    // Sound: each pointer is lent with its own length; image and edits are only
+    // read.
+    let number = unsafe {
+        sys::quote_preview(
+            image.as_ptr(),
+            image.len(),
+            edits.as_ptr(),
+            edits.len(),
+            key,
+            answer.as_mut_ptr(),
+            answer.len(),
+        )
+    };
+    let [edit, rest @ ..] = answer;
+    judged(number, edit)?;
+    Ok(Preview::of(rest.map(|number| number as usize)))
+}
+
+/// The value that [`preview`] finds, as a part of the list or of the image,
+/// without a copy; none if the key would be missing.
+///
+/// ```
+/// use quote_store::{calls, encode, Edit, Store};
+///
+/// let mut store = Store::fresh(8)?;
+/// store.apply(&[Edit::Insert { key: 101, value: b"101.25" }])?;
+/// let image = store.image();
+/// let edits = encode(&[Edit::Insert { key: 105, value: b"99.50" }]);
+/// assert_eq!(calls::preview_value(image, &edits, 105)?, Some(&b"99.50"[..]));
+/// assert_eq!(calls::preview_value(image, &edits, 101)?, Some(&b"101.25"[..]));
+/// assert_eq!(calls::preview_value(image, &edits, 107)?, None);
+/// # Ok::<(), quote_store::Refusal>(())
+/// ```
+pub fn preview_value<'a>(
+    image: &'a [u8],
+    edits: &'a [u8],
+    key: u64,
+) -> Result<Option<&'a [u8]>, Refusal> {
+    Ok(match preview(image, edits, key)? {
+        Preview::InList(part) => Some(&edits[part]),
+        Preview::InImage(part) => Some(&image[part]),
+        Preview::Missing => None,
+    })
 }
 
 /// Makes all edits of a list, or none. Accepted, work is the image after them,

@@ -25,8 +25,12 @@ pub enum Edit<'a> {
     Delete { key: u64 },
 }
 
+/// The bytes of an edit before its value: "kind, value length, key (8)".
+const HEAD: usize = 10;
+
 /// The edits end to end, as [`calls::transaction`](crate::calls::transaction)
-/// reads them: "kind, value length, key (8), value".
+/// and [`calls::preview`](crate::calls::preview) read them: "kind, value
+/// length, key (8), value".
 ///
 /// A length is one byte. A value of more than 255 bytes is cut to 255, which is
 /// refused as the whole would be, since 200 are the most.
@@ -46,13 +50,30 @@ pub fn encode(edits: &[Edit]) -> Vec<u8> {
     list
 }
 
-impl Edit<'_> {
-    fn push(self, list: &mut Vec<u8>) {
-        let (kind, key, value) = match self {
+/// The value that stands at this offset of the edits' list, which is not
+/// refused, so that no value was cut.
+pub(crate) fn value_at<'a>(edits: &[Edit<'a>], offset: usize) -> Option<&'a [u8]> {
+    let mut start = 0;
+    edits.iter().find_map(|edit| {
+        let (_, _, value) = edit.parts();
+        let at = start + HEAD;
+        start = at + value.len();
+        (at == offset).then_some(value)
+    })
+}
+
+impl<'a> Edit<'a> {
+    /// Kind, key and value.
+    fn parts(self) -> (u8, u64, &'a [u8]) {
+        match self {
             Edit::Insert { key, value } => (1, key, value),
             Edit::Update { key, value } => (2, key, value),
-            Edit::Delete { key } => (3, key, &[][..]),
-        };
+            Edit::Delete { key } => (3, key, &[]),
+        }
+    }
+
+    fn push(self, list: &mut Vec<u8>) {
+        let (kind, key, value) = self.parts();
         let length = value.len().min(255);
         list.extend([kind, length as u8]);
         list.extend(key.to_le_bytes());

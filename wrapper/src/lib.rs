@@ -16,11 +16,13 @@
 //!     Edit::Insert { key: 101, value: b"101.25" },
 //!     Edit::Insert { key: 105, value: b"99.50" },
 //! ])?;
-//! // A curve shift: both quotes or neither.
-//! store.apply(&[
+//! // A curve shift: looked at before it is sent, then both quotes or neither.
+//! let shift = [
 //!     Edit::Update { key: 101, value: b"101.50" },
 //!     Edit::Update { key: 105, value: b"99.75" },
-//! ])?;
+//! ];
+//! assert_eq!(store.preview(&shift, 101)?, Some(&b"101.50"[..]));
+//! store.apply(&shift)?;
 //! assert_eq!(store.get(101), Some(&b"101.50"[..]));
 //! # Ok::<(), quote_store::Refusal>(())
 //! ```
@@ -56,11 +58,13 @@
 pub mod calls;
 mod commit;
 mod edit;
+mod preview;
 mod refusal;
 mod store;
 
 pub use commit::{Commit, CommitPlace, Recovery};
 pub use edit::{encode, Edit};
+pub use preview::Preview;
 pub use refusal::Refusal;
 pub use store::{Iter, Store};
 

@@ -1,10 +1,11 @@
 //! Document 01, 'Each call and when it says no': "A refusal gives its number
-//! and edit number from 0 (0 unless 5 to 11 in a transaction)."
+//! and edit number from 0 (0 unless 5 to 11 in a transaction)." Document 02, of
+//! the preview: "Edit numbers are as in a transaction, 0 for the key asked."
 
 use std::fmt;
 
 /// Why a call says no, and which edit is at fault, counted from 0, where one
-/// may be. Outside a transaction the edit is 0.
+/// may be. It is 0 for the key that a lookup or a preview asks.
 ///
 /// ```
 /// use quote_store::{Edit, Refusal, Store};

@@ -1,6 +1,7 @@
 //! A store with the buffers that its calls need.
 
-use crate::{calls, encode, tape_length, Commit, Edit, Refusal, PAGE};
+use crate::edit::value_at;
+use crate::{calls, encode, tape_length, Commit, Edit, Preview, Refusal, PAGE};
 
 /// An image has 64 pages at most.
 const MOST_PAGES: usize = 64;
@@ -198,6 +199,62 @@ impl Store {
             store: self,
             last: 0,
         }
+    }
+
+    /// The value that a key would have if the edits were applied, without
+    /// applying them; none if the key would be missing. It is lent, from the edit
+    /// or from the store.
+    ///
+    /// A list with a fault, or with an edit whose key is there or missing where it
+    /// must not be, is refused with that edit, whichever key is asked. Whether
+    /// there is room for the edits plays no part: [`apply`](Store::apply) may
+    /// still say [`Refusal::IndexFull`], [`Refusal::PagesOut`] or
+    /// [`Refusal::LogFull`]. Unlike [`get`](Store::get), which refuses nothing,
+    /// this refuses a key out of range, with [`Refusal::KeyRange`] and edit 0.
+    ///
+    /// ```
+    /// use quote_store::{Edit, Refusal, Store};
+    ///
+    /// let mut store = Store::fresh(8)?;
+    /// store.apply(&[
+    ///     Edit::Insert { key: 101, value: b"101.25" },
+    ///     Edit::Insert { key: 105, value: b"99.50" },
+    /// ])?;
+    /// // A curve looked at before it is sent.
+    /// let curve = [
+    ///     Edit::Update { key: 101, value: b"101.50" },
+    ///     Edit::Insert { key: 110, value: b"98.00" },
+    /// ];
+    /// let look = |key| store.preview(&curve, key);
+    /// assert_eq!(look(101)?, Some(&b"101.50"[..]));
+    /// assert_eq!(look(105)?, Some(&b"99.50"[..]));
+    /// assert_eq!(look(107)?, None);
+    /// assert_eq!(look(0), Err(Refusal::KeyRange { edit: 0 }));
+    /// assert_eq!(store.get(101), Some(&b"101.25"[..]));
+    ///
+    /// // The same once it is sent.
+    /// store.apply(&curve)?;
+    /// assert_eq!(store.get(101), Some(&b"101.50"[..]));
+    /// assert_eq!(store.get(105), Some(&b"99.50"[..]));
+    ///
+    /// // Sent again, its second edit would insert a key that is there.
+    /// assert_eq!(store.preview(&curve, 101), Err(Refusal::KeyPresent { edit: 1 }));
+    /// assert_eq!(store.apply(&curve), Err(Refusal::KeyPresent { edit: 1 }));
+    /// # Ok::<(), Refusal>(())
+    /// ```
+    pub fn preview<'a>(
+        &'a self,
+        edits: &[Edit<'a>],
+        key: u64,
+    ) -> Result<Option<&'a [u8]>, Refusal> {
+        Ok(match calls::preview(&self.image, &encode(edits), key)? {
+            // The encoded list ends with this call, the edit's value does not.
+            Preview::InList(part) => {
+                Some(value_at(edits, part.start).expect("an edit's value stands there"))
+            }
+            Preview::InImage(part) => Some(&self.image[part]),
+            Preview::Missing => None,
+        })
     }
 
     /// Makes all edits, or none. Accepted, the commands that do the same to the

@@ -51,20 +51,14 @@ pub fn lookup(image: &[u8], key: u64, answer: &mut [u64; 3]) -> u8 {
         Ok(index) => index,
         Err(number) => return number,
     };
-    if key.wrapping_sub(1) >= KEYS - 1 {
+    if !good_key(key) {
         return 6;
     }
     *answer = [0, 0, 0];
     unsafe {
-        let leaf = leaf(image, index, route(index, key));
-        // The last record not above the key is its own, or it is missing.
-        let at = not_above(leaf, key);
-        if at > 0 {
-            let record = record(leaf, at - 1);
-            if word(record) == key {
-                let offset = record.add(16).offset_from(image.as_ptr());
-                *answer = [1, offset as u64, half(record.add(8)) as u64];
-            }
+        if let Some(record) = find(image, index, key) {
+            let (offset, length) = value(image, record);
+            *answer = [1, offset, length];
         }
     }
     0
@@ -92,6 +86,32 @@ pub fn next_key(image: &[u8], key: u64, answer: &mut [u64; 2]) -> u8 {
         *answer = [1, word(record(page, at))];
     }
     0
+}
+
+/// Whether a key is one that a quote may have.
+#[inline(always)]
+pub(super) fn good_key(key: u64) -> bool {
+    key.wrapping_sub(1) < KEYS - 1
+}
+
+/// The record of this key, if the image has one.
+#[inline(always)]
+pub(super) unsafe fn find(image: &[u8], index: *const u8, key: u64) -> Option<*const u8> {
+    let leaf = leaf(image, index, route(index, key));
+    // The last record not above the key is its own, or it is missing.
+    let at = not_above(leaf, key);
+    if at == 0 {
+        return None;
+    }
+    let record = record(leaf, at - 1);
+    (word(record) == key).then_some(record)
+}
+
+/// Where the record's value is in the image, and its length.
+#[inline(always)]
+pub(super) unsafe fn value(image: &[u8], record: *const u8) -> (u64, u64) {
+    let offset = record.add(16).offset_from(image.as_ptr());
+    (offset as u64, half(record.add(8)) as u64)
 }
 
 /// The record of this slot.
@@ -131,7 +151,7 @@ pub(super) unsafe fn not_above(page: *const u8, key: u64) -> usize {
 
 /// Checks the image; gives its index page if it is sound, else the refusal.
 #[inline(always)]
-fn index(image: &[u8]) -> Result<*const u8, u8> {
+pub(super) fn index(image: &[u8]) -> Result<*const u8, u8> {
     let (root, _) = reached(image)?;
     Ok(unsafe { image.as_ptr().add(root * PAGE) })
 }

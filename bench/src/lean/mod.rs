@@ -3,7 +3,9 @@
 
 mod commit;
 pub mod device;
+mod edits;
 pub mod image;
+pub mod preview;
 pub mod recovery;
 mod tape;
 pub mod transaction;

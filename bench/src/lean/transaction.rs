@@ -6,8 +6,9 @@
 //! is sound, so that every slot and page number that is followed is inside; the
 //! edits keep it so. The tape's length is judged before it is written.
 
-use super::image::{reached, word, KEYS};
-use super::tree::{Edit, Tree};
+use super::edits::{parse, Edit};
+use super::image::reached;
+use super::tree::Tree;
 use super::{good_length, PAGE};
 use std::mem::MaybeUninit;
 use std::ptr::copy_nonoverlapping;
@@ -49,44 +50,4 @@ pub fn transaction(
             number
         }
     }
-}
-
-/// The edits, or a refusal's number and edit number.
-#[inline(always)]
-unsafe fn parse<'a>(list: &[u8], edits: *mut Edit) -> Result<&'a [Edit], (u8, usize)> {
-    let mut rest = list;
-    let mut count = 0;
-    while !rest.is_empty() {
-        if count == 16 || rest.len() < 10 {
-            return Err((5, count));
-        }
-        let (kind, length) = (rest[0], rest[1] as usize);
-        if kind.wrapping_sub(1) > 2 || (kind == 3 && length != 0) {
-            return Err((5, count));
-        }
-        if length > 200 {
-            return Err((7, count));
-        }
-        if rest.len() < 10 + length {
-            return Err((5, count));
-        }
-        let key = word(rest.as_ptr().add(2));
-        if key.wrapping_sub(1) >= KEYS - 1 {
-            return Err((6, count));
-        }
-        let value = rest.as_ptr().add(10);
-        let edit = Edit {
-            kind,
-            length,
-            key,
-            value,
-        };
-        edits.add(count).write(edit);
-        count += 1;
-        rest = rest.get_unchecked(10 + length..);
-    }
-    if count == 0 {
-        return Err((5, 0));
-    }
-    Ok(std::slice::from_raw_parts(edits, count))
 }

@@ -1,5 +1,6 @@
 //! The edits made in work, page by page.
 
+use super::edits::Edit;
 use super::image::{half, not_above, record, route, word, SLOTS};
 use super::tape::bits;
 use super::PAGE;
@@ -10,14 +11,6 @@ const ROOM: usize = PAGE - 64;
 const INDEX_RECORD: usize = 24;
 const LEAF: u64 = 1;
 const INDEX: u64 = 2;
-
-#[derive(Clone, Copy)]
-pub struct Edit {
-    pub kind: u8,
-    pub length: usize,
-    pub key: u64,
-    pub value: *const u8,
-}
 
 /// Work while the edits are made; sets of pages have one bit a page.
 pub struct Tree {

@@ -14,9 +14,10 @@ use borrow.Author.Tests.{lt-ltb, le-ltb, eq-eqb, ne-eqb}
 use Rattle.codec.specs.Lists.{pick, part}
 use Rattle.codec.specs.Numbers.{number}
 use Rattle.codec.proofs.Lists.{part-drop}
+use Rattle.device.specs.declared.Refusal.{Refusal}
 use Rattle.page.specs.Layout.{valueMost}
 use Rattle.image.specs.Calls.{keyOk}
-use Rattle.edit.specs.EditList.{Edit, editsMost, headSize, kindIn, lengthIn, keyIn, editIn, faultIn, Listed, joined, editsIn, editList, listed, faulty}
+use Rattle.edit.specs.EditList.{Edit, editsMost, headSize, kindIn, lengthIn, keyIn, editIn, faultIn, Listed, joined, editsIn, editList, listed, faulty, editsOf}
 use Rattle.edit.specs.Judged.{judgedOf}
 use Rattle.edit.proofs.Reading.{faultless}
 use Rattle.edit.specs.declared.Judged.the-variants.{Good, Faulty}
@@ -28,13 +29,13 @@ abbrev pub badHead : ℕ → ℕ → Bool
 badHead kind n = (ltb kind 1 || ltb 3 kind) || (eqb kind 3 && ltb 0 n)
 
 module _ (l : List ℕ) (at : ℕ) where
-  kind-at : kindIn (drop at l) ≡ getD l at 0
+  pub kind-at : kindIn (drop at l) ≡ getD l at 0
   kind-at = getD-drop at l 0 0 ∙ ap (λ (i : ℕ). getD l i 0) (add-zero at)
 
   pub length-at : lengthIn (drop at l) ≡ getD l (at + 1) 0
   length-at = getD-drop at l 1 0
 
-  key-at : keyIn (drop at l) ≡ number (part l (at + 2) 8)
+  pub key-at : keyIn (drop at l) ≡ number (part l (at + 2) 8)
   key-at = ap number (part-drop l at 2 8)
 
   pub fault-short : length l - at < headSize → faultIn (drop at l) ≡ 5
@@ -124,3 +125,15 @@ module _ (l : List ℕ) (at : ℕ) where
   -- an edit without fault lies in the list
   pub faultless-in : faultIn (drop at l) ≡ 0 → at ≤ length l → at + (headSize + getD l (at + 1) 0) ≤ length l
   faultless-in e h = omega (arith, faultless (drop at l) e .whole, length-at l at, length-drop at l)
+
+-- ---- what the answer says of the list
+
+pub good-listed : (l : Listed) → judgedOf l ≡ Good → l ≡ listed (editsOf l)
+unfolding judgedOf
+good-listed (listed es) e = refl
+good-listed (faulty k i) e = let z : _≡_ {A = ℕ} 0 1 = cc in absurd (omega arith)
+
+pub faulty-listed : (l : Listed) (r : Refusal) → judgedOf l ≡ Faulty r → l ≡ faulty (r .number) (r .edit)
+unfolding judgedOf
+faulty-listed (listed es) r e = let z : _≡_ {A = ℕ} 0 1 = cc in absurd (omega arith)
+faulty-listed (faulty k i) r e = let z : record { number = k; edit = i } ≡ r = cc in ap (λ (x : Refusal). faulty (x .number) (x .edit)) z

@@ -1,8 +1,10 @@
 pub mod General
 pub mod Ledger
 pub mod Counts
+pub mod Keys
 pub mod Places
 pub mod Faults
 pub mod Reading
 pub mod Parsing
 pub mod Judging
+pub mod Heads

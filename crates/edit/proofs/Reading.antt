@@ -51,12 +51,31 @@ module _ (t : List ℕ) (f : Faultless t) where
   value-length : length (part t headSize (lengthIn t)) ≡ lengthIn t
   value-length = length-part t headSize (lengthIn t) (f .whole)
 
+  -- a kind that is neither 1 nor 2 is a delete, which has no length
+  delete-bare : eqb (kindIn t) 1 ≡ false → eqb (kindIn t) 2 ≡ false → lengthIn t ≡ 0
+  delete-bare p q = f .known .delete-bare (omega (arith, f .known .kind-low, f .known .kind-high, eqb-false (kindIn t) 1 p, eqb-false (kindIn t) 2 q))
+
   pub edit-proper : Proper (editIn t)
   unfolding editIn editOf
   edit-proper =
       by-test Proper (eqb (kindIn t) 1) (λ c. record { low = f .key-low; high = f .key-high; short = omega (arith, value-length, f .short) })
       (λ c. by-test Proper (eqb (kindIn t) 2) (λ d. record { low = f .key-low; high = f .key-high; short = omega (arith, value-length, f .short) })
       (λ d. record { low = f .key-low; high = f .key-high; short = omega arith }))
+
+  pub edit-size : length (editBytes (editIn t)) ≡ headSize + lengthIn t
+  unfolding editIn editOf editBytes
+  edit-size =
+      let long : length (bytesOf 8 (keyIn t)) ≡ 8 = length-bytesOf 8 (keyIn t) in
+      by-test (λ (e : Edit). length (editBytes e) ≡ headSize + lengthIn t) (eqb (kindIn t) 1) (λ c. simp length-append (omega (arith, long, value-length)))
+      (λ c. by-test (λ (e : Edit). length (editBytes e) ≡ headSize + lengthIn t) (eqb (kindIn t) 2) (λ d. simp length-append (omega (arith, long, value-length)))
+      (λ d. omega (arith, long, delete-bare c d)))
+
+  pub edit-value : editValue (editIn t) ≡ part t headSize (lengthIn t)
+  unfolding editIn editOf
+  edit-value =
+      by-test (λ (e : Edit). editValue e ≡ part t headSize (lengthIn t)) (eqb (kindIn t) 1) (λ c. refl)
+      (λ c. by-test (λ (e : Edit). editValue e ≡ part t headSize (lengthIn t)) (eqb (kindIn t) 2) (λ d. refl)
+      (λ d. sym (ap (part t headSize) (delete-bare c d) ∙ part-none t headSize)))
 
   pub edit-bytes : Bytes t → Bytes (editValue (editIn t))
   unfolding editIn editOf

@@ -2,3 +2,4 @@ pub mod EditList
 pub mod Ledger
 pub mod Judged
 pub mod Reads
+pub mod Keys

@@ -17,6 +17,8 @@ use Rattle.image.specs.declared.Lookup.{Lookup}
 use Rattle.image.specs.declared.Lookup.the-variants as lookups
 use Rattle.image.specs.declared.Next.{Next}
 use Rattle.image.specs.declared.Next.the-variants as nexts
+use Rattle.preview.specs.declared.Preview.{Preview}
+use Rattle.preview.specs.declared.Preview.the-variants as previews
 
 -- an array with numbers written at its front, if it has room for all of them
 unfoldable pub lent : List ℕ → List ℕ → List ℕ
@@ -43,6 +45,20 @@ unfoldable pub nextNumbers : Next → List ℕ
 nextNumbers (nexts.Key k) = 1 ∷ k ∷ []
 nextNumbers nexts.Last = 0 ∷ 0 ∷ []
 nextNumbers (nexts.Refused r) = []
+
+-- a preview: edit number, which slice has the value (1 the edit list, 2 the image, 0 where the key is missing), its offset there and its length; a refusal has its edit number
+-- and zeros
+unfoldable pub previewNumber : Preview → ℕ
+previewNumber (previews.InList o n) = 0
+previewNumber (previews.InImage o n) = 0
+previewNumber previews.Missing = 0
+previewNumber (previews.Refused r) = r .number
+
+unfoldable pub previewNumbers : Preview → List ℕ
+previewNumbers (previews.InList o n) = 0 ∷ 1 ∷ o ∷ n ∷ []
+previewNumbers (previews.InImage o n) = 0 ∷ 2 ∷ o ∷ n ∷ []
+previewNumbers previews.Missing = 0 ∷ 0 ∷ 0 ∷ 0 ∷ []
+previewNumbers (previews.Refused r) = r .edit ∷ 0 ∷ 0 ∷ 0 ∷ []
 
 -- a commit place: 1 and its page for a header, 2 for the root word, 3 for the log
 abbrev pub placeKind : CommitPlace → ℕ

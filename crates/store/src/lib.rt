@@ -6,6 +6,8 @@ use image::Next;
 use image::calls;
 use journal::Commit;
 use journal::CommitPlace;
+use preview::Preview;
+use preview::calls::preview;
 use recovery::Recovered;
 use recovery::recover;
 use transaction::Transacted;
@@ -15,9 +17,10 @@ ghost use Prim.Native.Nat.{_≤_};
 ghost use lib.ListN.{take};
 ghost use Rattle.device.specs.Calls.{numberOf, runCall, cutCall};
 ghost use Rattle.image.specs.Calls.{formatCall, checkCall, lookupCall, nextCall};
+ghost use Rattle.preview.specs.Calls.{previewCall};
 ghost use Rattle.transaction.specs.Calls.{transactionCall};
 ghost use Rattle.recovery.specs.Calls.{recoverCall};
-ghost use Rattle.store.specs.Numbers.{lent, lookupNumber, lookupNumbers, nextNumber, nextNumbers, commitNumbers, transactedNumber, transactedNumbers, recoveredNumber, recoveredNumbers};
+ghost use Rattle.store.specs.Numbers.{lent, lookupNumber, lookupNumbers, nextNumber, nextNumbers, previewNumber, previewNumbers, commitNumbers, transactedNumber, transactedNumbers, recoveredNumber, recoveredNumbers};
 
 fn number_of(answer: Answer) -> u8
     ensures { λ r. ⌜ r ≡ numberOf answer ⌝ }
@@ -113,6 +116,31 @@ pub extern "C" fn quote_next_key(image: &[u8], key: u64, answer: &mut [u64]) -> 
             0
         }
         Next::Refused(refusal) => refusal.number,
+    }
+}
+
+#[no_mangle]
+pub extern "C" fn quote_preview(image: &[u8], edits: &[u8], key: u64, answer: &mut [u64]) -> u8
+    ensures { λ r. ⌜ r ≡ previewNumber (previewCall (now (image .entry)) (now (edits .entry)) key) ⌝ }
+    ensures { λ _. ⌜ now (answer .exit) ≡ lent (now (answer .entry)) (previewNumbers (previewCall (now (image .entry)) (now (edits .entry)) key)) ⌝ }
+{
+    match preview(image, edits, key) {
+        Preview::InList { offset, length } => {
+            put_numbers(answer, [0, 1, offset as u64, length as u64, 0], 4);
+            0
+        }
+        Preview::InImage { offset, length } => {
+            put_numbers(answer, [0, 2, offset as u64, length as u64, 0], 4);
+            0
+        }
+        Preview::Missing => {
+            put_numbers(answer, [0, 0, 0, 0, 0], 4);
+            0
+        }
+        Preview::Refused(refusal) => {
+            put_numbers(answer, [refusal.edit as u64, 0, 0, 0, 0], 4);
+            refusal.number
+        }
     }
 }
 

@@ -78,11 +78,6 @@ module _ (a tape : List ℕ) (es : List Edit) where
   unfolding outcomeOf
   finished-shows st e w z x h = subst (Shows x) (ap (λ (v : List ℕ). committed a v tape) z ∙ ap (outcomeOf a tape) (sym e)) h
 
-pub good-listed : (l : Listed) → judgedOf l ≡ judges.Good → l ≡ listed (editsOf l)
-unfolding judgedOf
-good-listed (listed es) e = refl
-good-listed (faulty k i) e = let z : _≡_ {A = ℕ} 0 1 = cc in absurd (omega arith)
-
 module _ (a work tape : List ℕ) where
   pub faulty-shows : (l : Listed) (r : Refusal) → judgedOf l ≡ judges.Faulty r → Shows (record { answer = Refused r; work = work; tape = tape }) (listOf a work tape l)
   unfolding judgedOf listOf refusedWith

@@ -4,7 +4,6 @@ use Prim.Native.Nat.{ℕ, suc, _≤_, _<_}
 use mathlib.Core.Path.{_≡_, refl, sym, ap, _∙_, subst}
 use mathlib.Core.Bool.{Bool, true, false}
 use mathlib.Core.List.{List, [], _∷_, _++_}
-use mathlib.Core.Option.{Option, none, some}
 use native.Mathlib.Omega.{arith}
 use lib.ListN.{length, getD, take, drop, length-set}
 use lib.Seq.{split-at, length-take-le}
@@ -28,11 +27,13 @@ use Rattle.edit.specs.EditList.{Edit, keyOf}
 use Rattle.edit.specs.EditList as edits
 use Rattle.edit.specs.Ledger.{add, replace, without, applyEdit}
 use Rattle.edit.specs.Reads.{Proper}
+use Rattle.edit.specs.Keys.{isSome, holds, keyRule}
+use Rattle.edit.proofs.Keys.{found-some}
 use Rattle.edit.proofs.Ledger.{lacks-find, rising-add, rising-replace, rising-without, apply-middle}
 use Rattle.edit.proofs.Places.{search-there, search-missing}
 use Rattle.tree.specs.State.{State, done, refused}
 use Rattle.tree.specs.Edits.{put, dropped, editAt, edited}
-use Rattle.tree.specs.Grounds.{tableOf, isSome, holds, leafOf, room, ground}
+use Rattle.tree.specs.Grounds.{tableOf, leafOf, room, placing, ground}
 use Rattle.tree.specs.Good.{count, Good}
 use Rattle.tree.specs.Moved.{Stays, PutIn, Does, InLeaf}
 use Rattle.tree.proofs.States.{Leads}
@@ -56,15 +57,20 @@ groundAt st (edits.insert k v) p there = pick there 8 (room st true (size (recOf
 groundAt st (edits.update k v) p there = pick there (room st false (size (recOf k v)) p (replace k v (records p))) 9
 groundAt st (edits.delete k) p there = pick there 0 9
 
-ground-at : (st : State) (e : Edit) → ground st e ≡ groundAt st e (leafOf st (keyOf e)) (holds (keyOf e) (tableOf st))
-unfolding ground
-ground-at st (edits.insert k v) = refl
-ground-at st (edits.update k v) = refl
-ground-at st (edits.delete k) = refl
+-- the rule is tried first, and then the room x
+present-first : (there : Bool) (x : ℕ) → pick (eqb (pick there 8 0) 0) x (pick there 8 0) ≡ pick there 8 x
+present-first true x = refl
+present-first false x = refl
 
-found-some : (o : Option (List ℕ)) → (o ≡ none → ⊥) → isSome o ≡ true
-found-some none h = absurd (h refl)
-found-some (some v) h = refl
+missing-first : (there : Bool) (x : ℕ) → pick (eqb (pick there 0 9) 0) x (pick there 0 9) ≡ pick there x 9
+missing-first true x = refl
+missing-first false x = refl
+
+ground-at : (st : State) (e : Edit) → ground st e ≡ groundAt st e (leafOf st (keyOf e)) (holds (keyOf e) (tableOf st))
+unfolding ground placing keyRule
+ground-at st (edits.insert k v) = present-first (holds k (tableOf st)) _
+ground-at st (edits.update k v) = missing-first (holds k (tableOf st)) _
+ground-at st (edits.delete k) = missing-first (holds k (tableOf st)) _
 
 -- ---- in the leaf of the edit's key
 

@@ -21,3 +21,4 @@ pub mod Accepted
 pub mod Changed
 pub mod Reasons
 pub mod Numbers
+pub mod Keys

@@ -1,22 +1,26 @@
 -- The ground of an edit case by case: 8, 9, 10 and 11 exactly where document 01 says so, and none where the edit is made.
 -- Assumes nothing.
 use Prim.Native.Nat.{ℕ, _-_}
-use mathlib.Core.Path.{_≡_}
+use mathlib.Core.Path.{_≡_, _∙_}
 use mathlib.Core.Bool.{Bool, true, false, _&&_}
 use mathlib.Core.List.{List}
 use lib.ListN.{length}
-use lib.Dec.{ltb, leb}
-use borrow.Author.Tests.{ltb-true, ltb-false, lt-ltb, le-ltb, leb-true, leb-false, le-leb, lt-leb}
+use lib.Dec.{eqb, ltb, leb}
+use borrow.Author.Tests.{ne-eqb, ltb-true, ltb-false, lt-ltb, le-ltb, leb-true, leb-false, le-leb, lt-leb}
+use Rattle.codec.specs.Lists.{pick}
 use Rattle.page.specs.Layout.{pageSize, lineSize, slotCount, Rec, recOf, size}
 use Rattle.page.specs.Page.{records}
 use Rattle.page.specs.Operations.{sizes}
 use Rattle.image.specs.Image.{children}
 use Rattle.edit.specs.EditList.{Edit, insert, update, delete}
 use Rattle.edit.specs.Ledger.{add, replace}
+use Rattle.edit.specs.Keys.{keyRule, Kept}
 use Rattle.edit.proofs.General.{by-test}
+use Rattle.edit.proofs.Keys.{kept-rule, broken-rule, broken-some, Ruled, rule-says}
+use Rattle.edit.proofs.Keys as rules
 use Rattle.tree.specs.State.{State}
-use Rattle.tree.specs.Grounds.{tableOf, holds, leafOf, pagesFor, tooFew, room, ground}
-use Rattle.tree.specs.Reasons.{Room, in-place, copied, no-copy, no-index, split, no-split, Reason, present, inserted, no-update, updated, no-delete, deleted}
+use Rattle.tree.specs.Grounds.{tableOf, leafOf, pagesFor, tooFew, room, placing, ground}
+use Rattle.tree.specs.Reasons.{Room, in-place, copied, no-copy, no-index, split, no-split, Reason, broken, inserted, updated, deleted}
 use Rattle.tree.proofs.Split.{one-page, two-pages, not-one}
 use Rattle.tree.proofs.Pages.{fullTest, test-full, test-room, full-test, room-test}
 
@@ -46,22 +50,29 @@ module _ (st : State) (ins : Bool) (s : ℕ) (p : List ℕ) (rs : List Rec) wher
   reason-room _ (split e t f h) = rw (full-test ins s p e, not-one rs t, lt-leb slotCount (length (children (st .image) (st .root))) f, le-ltb (length (st .free)) (pagesFor st 2) h)
   reason-room _ (no-split e t f h) = rw (full-test ins s p e, not-one rs t, lt-leb slotCount (length (children (st .image) (st .root))) f, lt-ltb (length (st .free)) (pagesFor st 2) h)
 
+-- an edit whose rule is kept
+placed : (st : State) (e : Edit) → Kept e (tableOf st) → Reason st e (placing st e)
+unfolding placing
+placed st (insert k v) h = inserted k v _ h (room-reason st true (size (recOf k v)) (leafOf st k) (add k v (records (leafOf st k))))
+placed st (update k v) h = updated k v _ h (room-reason st false (size (recOf k v)) (leafOf st k) (replace k v (records (leafOf st k))))
+placed st (delete k) h = deleted k h
+
 pub ground-reason : (st : State) (e : Edit) → Reason st e (ground st e)
 unfolding ground
-ground-reason st (insert k v) =
-    by-test (Reason st (insert k v)) (holds k (tableOf st)) (λ e. present k v e)
-    (λ e. inserted k v (room st true (size (recOf k v)) (leafOf st k) (add k v (records (leafOf st k)))) e (room-reason st true (size (recOf k v)) (leafOf st k) (add k v (records (leafOf st k)))))
-ground-reason st (update k v) =
-    by-test (Reason st (update k v)) (holds k (tableOf st))
-    (λ e. updated k v (room st false (size (recOf k v)) (leafOf st k) (replace k v (records (leafOf st k)))) e (room-reason st false (size (recOf k v)) (leafOf st k) (replace k v (records (leafOf st k)))))
-    (λ e. no-update k v e)
-ground-reason st (delete k) = by-test (Reason st (delete k)) (holds k (tableOf st)) (λ e. deleted k e) (λ e. no-delete k e)
+ground-reason st e = go (keyRule e (tableOf st)) (rule-says e (tableOf st))
+  where
+    go : (n : ℕ) → Ruled e (tableOf st) n → Reason st e (pick (eqb n 0) (placing st e) n)
+    go _ (rules.kept h) = placed st e h
+    go _ (rules.broken n b) = rw (ne-eqb n 0 (broken-some e (tableOf st) n b)) (broken e n b)
+
+-- and each case excludes the others
+kept-ground : (st : State) (e : Edit) → Kept e (tableOf st) → ground st e ≡ placing st e
+unfolding ground
+kept-ground st e h = rw (kept-rule e (tableOf st) h)
 
 pub reason-ground : (st : State) (e : Edit) (g : ℕ) → Reason st e g → ground st e ≡ g
-unfolding ground
-reason-ground st _ _ (present k v e) = rw e
-reason-ground st _ _ (inserted k v g e r) = rw e (reason-room st true (size (recOf k v)) (leafOf st k) (add k v (records (leafOf st k))) g r)
-reason-ground st _ _ (no-update k v e) = rw e
-reason-ground st _ _ (updated k v g e r) = rw e (reason-room st false (size (recOf k v)) (leafOf st k) (replace k v (records (leafOf st k))) g r)
-reason-ground st _ _ (no-delete k e) = rw e
-reason-ground st _ _ (deleted k e) = rw e
+unfolding ground placing
+reason-ground st _ _ (broken e g b) = rw (broken-rule e (tableOf st) g b, ne-eqb g 0 (broken-some e (tableOf st) g b))
+reason-ground st _ _ (inserted k v g h r) = kept-ground st (insert k v) h ∙ reason-room st true (size (recOf k v)) (leafOf st k) (add k v (records (leafOf st k))) g r
+reason-ground st _ _ (updated k v g h r) = kept-ground st (update k v) h ∙ reason-room st false (size (recOf k v)) (leafOf st k) (replace k v (records (leafOf st k))) g r
+reason-ground st _ _ (deleted k h) = kept-ground st (delete k) h

@@ -6,33 +6,25 @@ use Prim.Native.Nat.{ℕ, _+_, _-_, _*_}
 use mathlib.Core.Path.{_≡_}
 use mathlib.Core.Bool.{Bool, true, false, _&&_, _||_}
 use mathlib.Core.List.{List, [], _∷_, _++_}
-use mathlib.Core.Option.{Option, none, some}
 use lib.ListN.{length, getD}
-use lib.Dec.{leb, ltb}
+use lib.Dec.{eqb, leb, ltb}
 use Rattle.codec.specs.Lists.{pick}
-use Rattle.device.specs.Calls.{keyPresent, keyMissing, indexFull, pagesOut}
+use Rattle.device.specs.Calls.{indexFull, pagesOut}
 use Rattle.page.specs.Layout.{pageSize, lineSize, slotCount, Rec, recOf, size, readHead}
 use Rattle.page.specs.Page.{records}
 use Rattle.page.specs.Operations.{sizes, pageOf}
 use Rattle.image.specs.Image.{children, childOf}
-use Rattle.image.specs.Table.{leafRecords, table, find}
+use Rattle.image.specs.Table.{leafRecords, table}
 use Rattle.image.specs.Route.{route}
 use Rattle.edit.specs.EditList.{Edit, insert, update, delete}
 use Rattle.edit.specs.Ledger.{add, replace, applyEdits}
+use Rattle.edit.specs.Keys.{keyRule}
 use Rattle.tree.specs.State.{State, begin}
 use Rattle.tree.specs.Whole.{finished, editsFrom}
 
 -- the table of a state
 unfoldable pub tableOf : State → List Rec
 tableOf st = leafRecords (st .image) (children (st .image) (st .root))
-
-abbrev pub isSome : Option (List ℕ) → Bool
-isSome none = false
-isSome (some v) = true
-
--- whether a table holds a key
-unfoldable pub holds : ℕ → List Rec → Bool
-holds k t = isSome (find k t)
 
 -- the leaf that a key belongs to
 unfoldable pub leafOf : State → ℕ → List ℕ
@@ -60,15 +52,17 @@ room st ins s p rs =
     (pick (leb slotCount (length (children (st .image) (st .root)))) indexFull (tooFew st 2)))
     0
 
--- the number that refuses the edit, or 0
+-- the same of an edit whose key rule is kept: a delete needs no room
+unfoldable pub placing : State → Edit → ℕ
+placing st (insert k v) = let p = leafOf st k in room st true (size (recOf k v)) p (add k v (records p))
+placing st (update k v) = let p = leafOf st k in room st false (size (recOf k v)) p (replace k v (records p))
+placing st (delete k) = 0
+
+-- the number that refuses the edit, or 0: the key rule comes first
 unfoldable pub ground : State → Edit → ℕ
-ground st (insert k v) =
-    let p = leafOf st k in
-    pick (holds k (tableOf st)) keyPresent (room st true (size (recOf k v)) p (add k v (records p)))
-ground st (update k v) =
-    let p = leafOf st k in
-    pick (holds k (tableOf st)) (room st false (size (recOf k v)) p (replace k v (records p))) keyMissing
-ground st (delete k) = pick (holds k (tableOf st)) 0 keyMissing
+ground st e =
+    let rule = keyRule e (tableOf st) in
+    pick (eqb rule 0) (placing st e) rule
 
 -- the list es on the image a is refused with k at edit i: those before it are made, and k is what the grounds say
 pub record Grounds (a : List ℕ) (es : List Edit) (k i : ℕ) : Type 0 where

@@ -12,8 +12,9 @@ use Rattle.page.specs.Operations.{sizes}
 use Rattle.image.specs.Image.{children}
 use Rattle.edit.specs.EditList.{Edit, insert, update, delete}
 use Rattle.edit.specs.Ledger.{add, replace}
+use Rattle.edit.specs.Keys.{Kept, Broken}
 use Rattle.tree.specs.State.{State}
-use Rattle.tree.specs.Grounds.{tableOf, holds, leafOf, pagesFor}
+use Rattle.tree.specs.Grounds.{tableOf, leafOf, pagesFor}
 
 -- "If s exceeds start minus 64, or an insert finds 28 records": a record of size s has no room in the page p
 abbrev pub Full : Bool → ℕ → List ℕ → Type 0
@@ -40,11 +41,9 @@ pub data Room (st : State) (ins : Bool) (s : ℕ) (p : List ℕ) (rs : List Rec)
   split : Full ins s p → TwoPages rs → length (children (st .image) (st .root)) < slotCount → pagesFor st 2 ≤ length (st .free) → Room st ins s p rs 0
   no-split : Full ins s p → TwoPages rs → length (children (st .image) (st .root)) < slotCount → length (st .free) < pagesFor st 2 → Room st ins s p rs 11
 
--- the ground of an edit: "8 insert of a key present; 9 other edit of a missing key; 10 a 29th index record; 11 too few new pages", or 0
+-- the ground of an edit: "8 insert of a key present; 9 other edit of a missing key" by the table as it then is; else "10 a 29th index record; 11 too few new pages", or 0
 pub data Reason (st : State) : Edit → ℕ → Type 0 where
-  present : (k : ℕ) (v : List ℕ) → holds k (tableOf st) ≡ true → Reason st (insert k v) 8
-  inserted : (k : ℕ) (v : List ℕ) (g : ℕ) → holds k (tableOf st) ≡ false → Room st true (size (recOf k v)) (leafOf st k) (add k v (records (leafOf st k))) g → Reason st (insert k v) g
-  no-update : (k : ℕ) (v : List ℕ) → holds k (tableOf st) ≡ false → Reason st (update k v) 9
-  updated : (k : ℕ) (v : List ℕ) (g : ℕ) → holds k (tableOf st) ≡ true → Room st false (size (recOf k v)) (leafOf st k) (replace k v (records (leafOf st k))) g → Reason st (update k v) g
-  no-delete : (k : ℕ) → holds k (tableOf st) ≡ false → Reason st (delete k) 9
-  deleted : (k : ℕ) → holds k (tableOf st) ≡ true → Reason st (delete k) 0
+  broken : (e : Edit) (g : ℕ) → Broken e (tableOf st) g → Reason st e g
+  inserted : (k : ℕ) (v : List ℕ) (g : ℕ) → Kept (insert k v) (tableOf st) → Room st true (size (recOf k v)) (leafOf st k) (add k v (records (leafOf st k))) g → Reason st (insert k v) g
+  updated : (k : ℕ) (v : List ℕ) (g : ℕ) → Kept (update k v) (tableOf st) → Room st false (size (recOf k v)) (leafOf st k) (replace k v (records (leafOf st k))) g → Reason st (update k v) g
+  deleted : (k : ℕ) → Kept (delete k) (tableOf st) → Reason st (delete k) 0

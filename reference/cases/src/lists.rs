@@ -106,8 +106,35 @@ impl List {
         list
     }
 
+    /// 2 to 16 edits of one to three keys, so that most of these are in several
+    /// edits: updated, or deleted and inserted again.
+    pub fn few_keys(random: &mut Random, keys: &[u64]) -> List {
+        let mut list = List {
+            edits: Vec::new(),
+            present: keys.to_vec(),
+        };
+        let few: Vec<u64> = (0..random.between(1, 3))
+            .map(|_| match random.below(2) {
+                0 => list.any_key(random),
+                _ => list.new_key(random, None),
+            })
+            .collect();
+        for _ in 0..random.between(2, 16) {
+            let key = random.pick(&few);
+            list.add_of(random, key);
+        }
+        list
+    }
+
     pub fn bytes(&self) -> Vec<u8> {
         self.edits.concat()
+    }
+
+    /// The key of each edit whose head is whole.
+    pub fn keys(&self) -> Vec<u64> {
+        let head = |edit: &Vec<u8>| edit.get(2..10)?.try_into().ok();
+        let heads = self.edits.iter().filter_map(head);
+        heads.map(u64::from_le_bytes).collect()
     }
 
     /// An edit more that is then possible, of the favoured kind mostly.
@@ -142,6 +169,23 @@ impl List {
             return self.edits.push(edit(random, 3, key, 0));
         }
         self.edits.push(edit(random, 2, key, length));
+    }
+
+    /// An edit more of this key that is then possible.
+    fn add_of(&mut self, random: &mut Random, key: u64) {
+        let any = random.between(0, 200);
+        let length = random.pick(&[0, 1, 8, 8, 200, any]);
+        match self.present.binary_search(&key) {
+            Err(at) => {
+                self.present.insert(at, key);
+                self.edits.push(edit(random, 1, key, length));
+            }
+            Ok(_) if random.one_in(2) => self.edits.push(edit(random, 2, key, length)),
+            Ok(at) => {
+                self.present.remove(at);
+                self.edits.push(edit(random, 3, key, 0));
+            }
+        }
     }
 
     /// A key that is present, if one is.
@@ -187,6 +231,19 @@ impl List {
                 }
                 spoil_edit(random, &mut self.edits[at], fault);
             }
+        }
+    }
+
+    /// Makes an insert or a delete once more, right after itself, if the edit
+    /// picked is one.
+    pub fn repeat(&mut self, random: &mut Random) {
+        if self.edits.is_empty() {
+            return;
+        }
+        let at = random.below(self.edits.len());
+        if matches!(self.edits[at].first(), Some(1 | 3)) {
+            self.edits.insert(at + 1, self.edits[at].clone());
+            self.edits.truncate(16);
         }
     }
 

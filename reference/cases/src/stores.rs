@@ -54,7 +54,7 @@ fn few_leaves(random: &mut Random) -> Built {
 }
 
 /// "At most 28 records" in the index, or nearly as many.
-fn many_leaves(random: &mut Random) -> Built {
+pub fn many_leaves(random: &mut Random) -> Built {
     let mut shape = any_shape(random);
     shape.pages = random.pick(&[30, 31, 32, 64]);
     shape.leaves = random.pick(&[27, 28, 28]);

@@ -86,6 +86,26 @@ pub fn next_key(image: &mut [u8], key: u64, answer: &mut [u64]) -> u8 {
     }
 }
 
+/// The answer is four numbers: edit number, which buffer has the value (1 the
+/// edit list, 2 the image, 0 none), the value's offset in it, its length. On a
+/// refusal they are the edit number and three zeros. They are written only where
+/// there is room for four.
+#[inline]
+pub fn preview(image: &mut [u8], edits: &mut [u8], key: u64, answer: &mut [u64]) -> u8 {
+    // Sound: each pointer is lent with its own length, for this call alone.
+    unsafe {
+        interface::quote_preview(
+            image.as_mut_ptr(),
+            image.len(),
+            edits.as_mut_ptr(),
+            edits.len(),
+            key,
+            answer.as_mut_ptr(),
+            answer.len(),
+        )
+    }
+}
+
 /// The answer is five numbers: edit number, kind of the commit place (1 header,
 /// 2 root word, 3 log), page (of a header, else 0), tape bytes used, flushes.
 /// On a refusal they are the edit number and four zeros. They are written only

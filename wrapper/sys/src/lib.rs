@@ -41,6 +41,15 @@ extern "C" {
         answer: *mut u64,
         answer_length: usize,
     ) -> u8;
+    pub fn quote_preview(
+        image: *const u8,
+        image_length: usize,
+        edits: *const u8,
+        edits_length: usize,
+        key: u64,
+        answer: *mut u64,
+        answer_length: usize,
+    ) -> u8;
     pub fn quote_transaction(
         image: *const u8,
         image_length: usize,

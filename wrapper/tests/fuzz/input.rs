@@ -33,14 +33,15 @@ pub fn any_input(random: &mut Random) -> Input {
         _ => image.len() / 64,
     };
     let room = random.below(8);
+    let edits = any_edits(random, &keys);
     Input {
         work: random.bytes(work),
         tape: any_tape(random),
-        edits: any_edits(random, &keys),
         choices: random.bytes(choices),
         answer: (0..room).map(|_| random.number()).collect(),
-        key: any_key(random, &keys),
+        key: any_key(random, &keys, &edits),
         c: any_count(random),
+        edits,
         image,
     }
 }
@@ -131,10 +132,13 @@ fn any_edits(random: &mut Random, keys: &[u64]) -> Vec<u8> {
     list
 }
 
-fn any_key(random: &mut Random, keys: &[u64]) -> u64 {
-    match random.below(4) {
+/// A key at a limit, any number, the key of the list's first edit, or one of the
+/// store's.
+fn any_key(random: &mut Random, keys: &[u64], edits: &[u8]) -> u64 {
+    match random.below(6) {
         0 => random.pick(&[0, 1, LAST_KEY, LAST_KEY + 1, u64::MAX]),
         1 => random.number(),
+        2 | 3 if edits.len() >= 10 => u64::from_le_bytes(edits[2..10].try_into().unwrap()),
         _ if keys.is_empty() => 1,
         _ => random.pick(keys),
     }

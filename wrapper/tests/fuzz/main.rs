@@ -9,8 +9,10 @@ mod rules;
 
 use cases::random::Random;
 use input::{any_input, Input};
-use quote_store::{calls, tape_length, Commit, CommitPlace, Refusal};
-use rules::{Buffers, Call, CHECK, CUT, FORMAT, LOOKUP, NEXT_KEY, RECOVER, RUN, TRANSACTION};
+use quote_store::{calls, tape_length, Commit, CommitPlace, Preview, Refusal};
+use rules::{
+    Buffers, Call, CHECK, CUT, FORMAT, LOOKUP, NEXT_KEY, PREVIEW, RECOVER, RUN, TRANSACTION,
+};
 use std::collections::BTreeMap;
 
 const SEED: u64 = 20_240_611;
@@ -38,7 +40,10 @@ fn round(random: &mut Random, tally: &mut Tally) {
     if let (0, buffers) = try_one(random, &NEXT_KEY, &input, tally) {
         key_is_above(&buffers);
     }
-    if let (0, buffers) = try_one(random, &TRANSACTION, &input, tally) {
+    let look = try_one(random, &PREVIEW, &input, tally);
+    let made = try_one(random, &TRANSACTION, &input, tally);
+    look_agrees(&look, &made);
+    if let (0, buffers) = made {
         play(
             random,
             &input,
@@ -92,6 +97,48 @@ fn value_is_inside(buffers: &Buffers) {
     }
 }
 
+/// A look and the transaction of the same list: it is refused alike, but for the
+/// key asked and for what plays no part in a look; and it shows what the
+/// transaction makes.
+fn look_agrees((number, look): &(u8, Buffers), (made, transaction): &(u8, Buffers)) {
+    let agrees = match made {
+        // The look has no work buffer, so all that comes after may hold.
+        2 => *number != 1,
+        0 | 12 | 13 => [0, 6].contains(number),
+        10 | 11 => [0, 6, 8, 9].contains(number),
+        8 | 9 => [6, *made].contains(number),
+        _ => number == made,
+    };
+    assert!(agrees, "look {number}, transaction {made}");
+    let answers = [look, transaction].map(|buffers| buffers.answer.after());
+    if number == made && answers[1].len() >= 5 {
+        assert_eq!(answers[0][0], answers[1][0], "edit at fault");
+    }
+    if let (Some(seen), 0) = (part(*number, look), made) {
+        let work = transaction.work.after();
+        let found = calls::lookup(work, look.key).expect("work is sound");
+        assert_eq!(seen, found.map(|place| &work[place]));
+    }
+}
+
+/// If a look is accepted and its numbers had room: the part of list or image
+/// that they name, or none if the key would be missing.
+fn part(number: u8, look: &Buffers) -> Option<Option<&[u8]>> {
+    let (0, [edit, place, offset, length, ..]) = (number, look.answer.after()) else {
+        return None;
+    };
+    assert!(*edit == 0 && *length <= 200);
+    let part = *offset as usize..(offset + length) as usize;
+    Some(match place {
+        1 => Some(&look.edits.after()[part]),
+        2 => Some(&look.image.after()[part]),
+        _ => {
+            assert_eq!((*place, part), (0, 0..0));
+            None
+        }
+    })
+}
+
 /// "On acceptance, the image after all the tape's stores"; "tape bytes past
 /// those used stay"; the flushes are those on the tape.
 fn tape_is_good(buffers: &Buffers, bytes: usize, flushes: u64) {
@@ -141,6 +188,7 @@ fn bad_input_gets_its_refusal() {
         CHECK,
         LOOKUP,
         NEXT_KEY,
+        PREVIEW,
         TRANSACTION,
         RECOVER,
         RUN,
@@ -194,5 +242,38 @@ fn wrapper_answers_as_the_call() {
         assert!(work == buffers.work.after() && tape == buffers.tape.after());
     }
     println!("refused, then commits by header, root and log: {times:?}");
+    assert!(times.iter().all(|times| *times > 3));
+}
+
+/// What the raw call returns, and its four numbers.
+fn numbers_of(given: Result<Preview, Refusal>) -> (u8, [u64; 4]) {
+    let (number, four) = match given {
+        Ok(Preview::Missing) => (0, [0; 4]),
+        Ok(Preview::InList(part)) => (0, [0, 1, part.start, part.len()]),
+        Ok(Preview::InImage(part)) => (0, [0, 2, part.start, part.len()]),
+        Err(refusal) => (refusal.number(), [refusal.edit(), 0, 0, 0]),
+    };
+    (number, four.map(|number| number as u64))
+}
+
+#[test]
+fn preview_answers_as_the_call() {
+    let mut random = Random::new(SEED + 2);
+    let mut times = [0; 4];
+    for _ in 0..4_000 {
+        let input = Input {
+            answer: vec![7; 4],
+            ..any_input(&mut random)
+        };
+        let mut buffers = Buffers::new(&mut random, &input);
+        let number = PREVIEW.try_on(&mut buffers);
+        let given = calls::preview(&input.image, &input.edits, input.key);
+        let (said, four) = numbers_of(given);
+        assert_eq!((said, &four[..]), (number, buffers.answer.after()));
+        let value = calls::preview_value(&input.image, &input.edits, input.key);
+        assert_eq!(value.ok(), part(number, &buffers));
+        times[if number == 0 { four[1] as usize } else { 3 }] += 1;
+    }
+    println!("missing, in the list, in the image, refused: {times:?}");
     assert!(times.iter().all(|times| *times > 3));
 }

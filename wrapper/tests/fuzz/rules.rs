@@ -105,6 +105,13 @@ pub const NEXT_KEY: Call = Call {
     numbers: 2,
 };
 
+pub const PREVIEW: Call = Call {
+    name: "preview",
+    make: |b| proved::preview(b.image.lend(), b.edits.lend(), b.key, b.answer.lend()),
+    known: &[0, 1, 3, 4, 5, 6, 7, 8, 9],
+    numbers: 4,
+};
+
 impl Call {
     /// One call, held to the rules that need no second implementation.
     pub fn try_on(&self, buffers: &mut Buffers) -> u8 {
@@ -142,18 +149,20 @@ impl Call {
     /// Numbers are written only where there is room for all, and only those.
     fn answer_kept(&self, number: u8, buffers: &Buffers) {
         let (before, after) = (buffers.answer.before(), buffers.answer.after());
-        let writes = number == 0 || self.name == "transaction";
-        let written = if writes && before.len() >= self.numbers {
+        let names_edit = ["transaction", "preview"].contains(&self.name);
+        let written = if (number == 0 || names_edit) && before.len() >= self.numbers {
             self.numbers
         } else {
             0
         };
         let name = self.name;
         assert_eq!(after[written..], before[written..], "numbers of {name}");
-        if number != 0 && written == 5 {
-            // "Edit number from 0 (0 unless 5 to 11 in a transaction)."
+        if number != 0 && written > 0 {
+            // "Edit number from 0 (0 unless 5 to 11 in a transaction)"; of the
+            // preview: "Edit numbers are as in a transaction."
             let most = if (5..=11).contains(&number) { 16 } else { 0 };
-            assert!(after[0] <= most && after[1..5] == [0; 4]);
+            assert!(after[0] <= most);
+            assert!(after[1..written].iter().all(|number| *number == 0));
         }
     }
 }

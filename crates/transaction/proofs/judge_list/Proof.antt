@@ -2,7 +2,8 @@
 -- Assumes nothing.
 use mathlib.Core.Path.{sym, _∙_}
 use Rattle.edit.specs.EditList.{editList}
-use Rattle.transaction.proofs.Shown.{good-listed, faulty-shows, listed-shows}
+use Rattle.edit.proofs.Judging.{good-listed}
+use Rattle.transaction.proofs.Shown.{faulty-shows, listed-shows}
 use borrow.Author.Needs.{needs}
 use Rattle.transaction.proofs.judge_list.Statement.{statement}
 use Rattle.transaction.proofs.judge_list.Tie as tie

@@ -1,0 +1,1 @@
+// The preview beside the transaction: definitions in specs/, theorems in proofs/.

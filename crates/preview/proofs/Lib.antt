@@ -1,0 +1,5 @@
+pub mod Walk
+pub mod Shown
+pub mod Judging
+pub mod LastEdit
+pub mod Answers

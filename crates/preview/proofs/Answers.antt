@@ -168,8 +168,8 @@ module _ (img bytes : List ℕ) (k : ℕ) where
   Inside Missing = Unit {0}
   Inside (Refused r) = Unit {0}
 
-  pub preview-inside : Inside (previewCall img bytes k)
-  preview-inside = go (previewCall img bytes k) preview-answers refl
+  pub preview-inside : (a : Preview) → previewCall img bytes k ≡ a → Inside a
+  preview-inside a e = subst Inside e (go (previewCall img bytes k) preview-answers refl)
     where
       asked : (es : List Edit) → Asked img bytes k es → (a : Preview) → previewCall img bytes k ≡ a → Inside a
       asked es A a e = lies a (subst (Shows img bytes (find k (applyEdits es (table img)))) e (preview-shows es A))

@@ -52,18 +52,15 @@ module _ (bytes : List ℕ) (at : ℕ) (e : Edit) (f : Faultless (drop at bytes)
   value-long : length (editValue e) ≡ n
   value-long = ap length value-is ∙ length-part bytes (at + headSize) n fits
 
-  value-part : editValue e ≡ part bytes (at + headSize) (length (editValue e))
-  value-part = value-is ∙ ap (part bytes (at + headSize)) (sym value-long)
-
-  value-fits : at + headSize + length (editValue e) ≤ length bytes
-  value-fits = omega (arith, fits, value-long)
+  value-shows : (img : List ℕ) → Shows img bytes (some (editValue e)) (InList (at + headSize) (length (editValue e)))
+  value-shows img =
+      let same : editValue e ≡ part bytes (at + headSize) (length (editValue e)) = value-is ∙ ap (part bytes (at + headSize)) (sym value-long) in
+      (ap some same, sym (ap length same), omega (arith, fits, value-long))
 
 brings-shows : (img bytes : List ℕ) (at : ℕ) (e : Edit) → Faultless (drop at bytes) → editIn (drop at bytes) ≡ e → Shows img bytes (gives e) (brings at e)
 unfolding brings
-brings-shows img bytes at (insert k v) f is =
-    (ap some (value-part bytes at (insert k v) f is), sym (ap length (value-part bytes at (insert k v) f is)), value-fits bytes at (insert k v) f is)
-brings-shows img bytes at (update k v) f is =
-    (ap some (value-part bytes at (update k v) f is), sym (ap length (value-part bytes at (update k v) f is)), value-fits bytes at (update k v) f is)
+brings-shows img bytes at (insert k v) f is = value-shows bytes at (insert k v) f is img
+brings-shows img bytes at (update k v) f is = value-shows bytes at (update k v) f is img
 brings-shows img bytes at (delete k) f is = refl
 
 -- ---- the edits from `at` on

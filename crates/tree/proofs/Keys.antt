@@ -1,7 +1,8 @@
 -- The key rules of edits on the tree are those of the ledger: edits that are made keep them, and 8 or 9 says which edit is the first that breaks its rule.
 -- Assumes nothing.
 use Prim.Native.Nat.{ℕ, suc, _≤_}
-use mathlib.Core.Path.{_≡_, sym, subst}
+use mathlib.Core.Path.{_≡_, refl, sym, subst}
+use mathlib.Core.Logic.{_⊎_, inl, inr}
 use mathlib.Core.Bool.{Bool, true}
 use mathlib.Core.List.{List, [], _∷_, _++_}
 use native.Mathlib.Omega.{arith}
@@ -29,19 +30,23 @@ use Rattle.tree.proofs.Reasons.{ground-reason}
 
 -- ---- one edit
 
--- room is refused with 10 or 11
-room-number : {st : State} {ins : Bool} {s : ℕ} {p : List ℕ} {rs : List Rec} (g : ℕ) → Room st ins s p rs g → (g ≡ 8 → ⊥) × (g ≡ 9 → ⊥)
-room-number _ (in-place _) = ((λ z. omega arith), (λ z. omega arith))
-room-number _ (copied _ _ _) = ((λ z. omega arith), (λ z. omega arith))
-room-number _ (no-copy _ _ _) = ((λ z. omega arith), (λ z. omega arith))
-room-number _ (no-index _ _ _) = ((λ z. omega arith), (λ z. omega arith))
-room-number _ (split _ _ _ _) = ((λ z. omega arith), (λ z. omega arith))
-room-number _ (no-split _ _ _ _) = ((λ z. omega arith), (λ z. omega arith))
+-- there is room, or 10 or more says that there is none
+room-number : {st : State} {ins : Bool} {s : ℕ} {p : List ℕ} {rs : List Rec} (g : ℕ) → Room st ins s p rs g → (g ≡ 0) ⊎ (10 ≤ g)
+room-number _ (in-place _) = inl refl
+room-number _ (copied _ _ _) = inl refl
+room-number _ (no-copy _ _ _) = inr (omega arith)
+room-number _ (no-index _ _ _) = inr (omega arith)
+room-number _ (split _ _ _ _) = inl refl
+room-number _ (no-split _ _ _ _) = inr (omega arith)
+
+not-room : (g : ℕ) → 8 ≤ g → g ≤ 9 → (g ≡ 0) ⊎ (10 ≤ g) → ⊥
+not-room g low high (inl z) = omega arith
+not-room g low high (inr z) = omega arith
 
 reason-broken : (st : State) (e : Edit) (g : ℕ) → Reason st e g → 8 ≤ g → g ≤ 9 → Broken e (tableOf st) g
 reason-broken st _ _ (broken e g b) low high = b
-reason-broken st _ _ (inserted k v g h r) low high = let n = room-number g r in absurd (omega (arith, n .0, n .1))
-reason-broken st _ _ (updated k v g h r) low high = let n = room-number g r in absurd (omega (arith, n .0, n .1))
+reason-broken st _ _ (inserted k v g h r) low high = absurd (not-room g low high (room-number g r))
+reason-broken st _ _ (updated k v g h r) low high = absurd (not-room g low high (room-number g r))
 reason-broken st _ _ (deleted k h) low high = absurd (omega arith)
 
 reason-kept : (st : State) (e : Edit) (g : ℕ) → Reason st e g → (g ≡ 8 → ⊥) → (g ≡ 9 → ⊥) → Kept e (tableOf st)

@@ -1,13 +1,13 @@
 -- `preview_value` lends the part that the preview names, from the slice that it names.
 -- Assumes nothing.
 use Prim.Native.Nat.{ℕ, _+_, _≤_}
-use mathlib.Core.Path.{sym, ap, _∙_, subst}
+use mathlib.Core.Path.{sym, ap, _∙_}
 use native.Mathlib.Omega.{arith}
 use native.Mathlib.Nat.{add-sub-cancel-left}
 use lib.ListN.{length, take, drop}
 use Rattle.codec.specs.Lists.{part}
 use Rattle.preview.specs.Calls.{partOf, previewValueCall}
-use Rattle.preview.proofs.Answers.{Inside, preview-inside}
+use Rattle.preview.proofs.Answers.{preview-inside}
 use borrow.Author.Needs.{needs}
 use Rattle.preview.proofs.calls.preview_value.Statement.{statement}
 use Rattle.preview.proofs.calls.preview_value.Tie as tie
@@ -18,15 +18,12 @@ preview-requires c κs = search needs
 enum-known-offset : tie.Need-enum-known-offset
 enum-known-offset c = search needs
 
+-- each part lies in its slice
 listed : (c : tie.After-offset) → c .offset .given .0 .0 + c .offset .given .0 .1 .0 ≤ length (c .before .before .before .before .before .args .edits .now)
-listed c =
-    let a = c .before .before .before .before .before .args in
-    subst (Inside (a .image .now) (a .edits .now) (a .key)) (sym (c .before .before .preview .ensures) ∙ c .offset .given .1) (preview-inside (a .image .now) (a .edits .now) (a .key))
+listed c = preview-inside _ _ _ _ (sym (c .before .before .preview .ensures) ∙ c .offset .given .1)
 
 stored : (c : tie.After-offset2) → c .offset2 .given .0 .0 + c .offset2 .given .0 .1 .0 ≤ length (c .before .before .before .before .before .args .image .now)
-stored c =
-    let a = c .before .before .before .before .before .args in
-    subst (Inside (a .image .now) (a .edits .now) (a .key)) (sym (c .before .before .preview .ensures) ∙ c .offset2 .given .1) (preview-inside (a .image .now) (a .edits .now) (a .key))
+stored c = preview-inside _ _ _ _ (sym (c .before .before .preview .ensures) ∙ c .offset2 .given .1)
 
 add-end : tie.Need-add-end
 add-end c = omega (arith, listed (c .before))

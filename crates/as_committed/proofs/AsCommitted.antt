@@ -5,7 +5,6 @@ use mathlib.Core.Path.{_≡_, refl, sym, ap, _∙_, subst}
 use mathlib.Core.Logic.{inl, inr}
 use mathlib.Core.Bool.{Bool, true, false}
 use mathlib.Core.List.{List, [], _∷_, _++_, append-assoc}
-use mathlib.Core.Option.{Option, none, some}
 use native.Mathlib.Omega.{arith}
 use lib.ListN.{length, length-append}
 use lib.Dec.{leb}
@@ -15,10 +14,9 @@ use Rattle.device.specs.Calls.{isImageSize, refusal}
 use Rattle.device.specs.declared.Refusal.{Refusal}
 use Rattle.device.specs.declared.Answer.the-variants as answers
 use Rattle.page.specs.Layout.{Rec}
-use Rattle.image.specs.Image.{sound}
 use Rattle.image.specs.Table.{table, find}
 use Rattle.image.specs.Calls.{checkCall, keyOk, lookupCall}
-use Rattle.image.proofs.Answers.{sound-check, check-sound, lookup-value, lookup-none, lookup-range}
+use Rattle.image.proofs.Answers.{sound-check, check-sound, lookup-range}
 use Rattle.edit.specs.EditList.{Edit, listed, editsOf, editList}
 use Rattle.edit.specs.Reads.{Proper, Whole, ListFault}
 use Rattle.edit.specs.Keys.{AllKept, FirstBroken}
@@ -30,7 +28,7 @@ use Rattle.preview.specs.Calls.{previewCall}
 use Rattle.preview.specs.Says.{previewed, lookedUp, held}
 use Rattle.preview.specs.Answers.{Asked, bad-image, bad-list, bad-key, bad-edit}
 use Rattle.preview.specs.declared.Preview.the-variants as previews
-use Rattle.preview.proofs.Answers.{answers-preview, preview-exact, refused-broken}
+use Rattle.preview.proofs.Answers.{answers-preview, preview-exact, refused-broken, lookup-exact}
 use Rattle.transaction.specs.Calls.{Result, refusedWith, acceptedWith, transactionCall}
 use Rattle.transaction.specs.Demand2.{Makes}
 use Rattle.transaction.specs.Answers as transactions
@@ -44,17 +42,6 @@ use Rattle.tree.proofs.Runs.{grounds-refuse}
 use Rattle.tree.proofs.Numbers.{edits-numbered}
 use Rattle.tree.proofs.Keys.{edits-kept, grounds-broken, grounds-kept}
 use Rattle.as_committed.specs.Claims.{AsCommitted, RefusedAlike, RefusedSo, RefusedToo}
-
--- ---- a lookup, by the table
-
--- what a lookup in a sound image comes to is what the table holds
-lookup-exact : (img : List ℕ) → sound img ≡ true → (k : ℕ) → keyOk k ≡ true → lookedUp img (lookupCall img k) ≡ held (find k (table img))
-unfolding lookedUp held
-lookup-exact img h k q = go (find k (table img)) refl
-  where
-    go : (x : Option (List ℕ)) → find k (table img) ≡ x → lookedUp img (lookupCall img k) ≡ held x
-    go (some v) e = let f = lookup-value img (sound-check img h) k v e in ap (lookedUp img) (f .2) ∙ ap (λ (l : List ℕ). held (some l)) (f .3)
-    go none e = ap (lookedUp img) (lookup-none img (sound-check img h) k q e)
 
 -- ---- accepted
 

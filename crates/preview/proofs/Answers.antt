@@ -6,18 +6,19 @@ use mathlib.Core.Path.{_≡_, refl, sym, ap, _∙_, subst}
 use mathlib.Core.Logic.{_⊎_, inl, inr}
 use mathlib.Core.Bool.{Bool, true, false}
 use mathlib.Core.List.{List}
-use mathlib.Core.Option.{Option}
+use mathlib.Core.Option.{Option, none, some}
 use lib.ListN.{length}
 use Rattle.codec.specs.Lists.{pick}
 use Rattle.device.specs.Calls.{refusal}
 use Rattle.device.specs.declared.Refusal.{Refusal}
 use Rattle.device.specs.declared.Answer.{Answer}
 use Rattle.device.specs.declared.Answer.the-variants as answers
+use Rattle.image.specs.Image.{sound}
 use Rattle.image.specs.Table.{table, listing, find, foundIn}
 use Rattle.image.specs.Calls.{checkCall, keyOk, lookupFrom, lookupCall}
 use Rattle.image.specs.declared.Lookup.{Lookup}
 use Rattle.image.specs.declared.Lookup.the-variants as lookups
-use Rattle.image.proofs.Answers.{check-sound}
+use Rattle.image.proofs.Answers.{check-sound, sound-check, lookup-value, lookup-none}
 use Rattle.image.proofs.Exact.{lookup-answers}
 use Rattle.edit.specs.EditList.{Edit, insert, update, delete, keyOf, Listed, listed, faulty, editList}
 use Rattle.edit.specs.Ledger.{applyEdits}
@@ -29,7 +30,7 @@ use Rattle.edit.proofs.Faults.{keyOk-true, true-keyOk, keyOk-false, false-keyOk
 use Rattle.edit.proofs.Parsing.{list-whole, whole-list, list-fault, fault-list}
 use Rattle.edit.proofs.Keys.{kept-keys, keys-kept, keys-broken, broken-keys}
 use Rattle.preview.specs.Calls.{inImage, brings, seen, rulesOf, keysOf, listOf, checkedOf, previewCall, partOf, previewValueCall}
-use Rattle.preview.specs.Says.{previewed, held, bytesIn}
+use Rattle.preview.specs.Says.{previewed, lookedUp, held, bytesIn}
 use Rattle.preview.specs.Answers.{NoEdit, LastEdit, Asked, Answers, bad-image, bad-list, bad-key, bad-edit, in-list, deleted, in-image, missing}
 use Rattle.preview.specs.declared.Preview.{Preview}
 use Rattle.preview.specs.declared.Preview.the-variants.{InList, InImage, Missing, Refused}
@@ -189,3 +190,14 @@ module _ (img bytes : List ℕ) (k : ℕ) where
       go _ (deleted es A l q) e = tt
       go _ (in-image es A h o n q) e = asked es A _ e
       go _ (missing es A h q) e = tt
+
+-- ---- a lookup, by the table
+
+-- what a lookup in a sound image comes to is what the table holds
+pub lookup-exact : (img : List ℕ) → sound img ≡ true → (k : ℕ) → keyOk k ≡ true → lookedUp img (lookupCall img k) ≡ held (find k (table img))
+unfolding lookedUp held
+lookup-exact img h k q = go (find k (table img)) refl
+  where
+    go : (x : Option (List ℕ)) → find k (table img) ≡ x → lookedUp img (lookupCall img k) ≡ held x
+    go (some v) e = let f = lookup-value img (sound-check img h) k v e in ap (lookedUp img) (f .2) ∙ ap (λ (l : List ℕ). held (some l)) (f .3)
+    go none e = ap (lookedUp img) (lookup-none img (sound-check img h) k q e)

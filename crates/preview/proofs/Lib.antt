@@ -3,3 +3,4 @@ pub mod Shown
 pub mod Judging
 pub mod LastEdit
 pub mod Answers
+pub mod Examples

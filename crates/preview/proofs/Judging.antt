@@ -87,7 +87,7 @@ module _ (keys kinds : List ℕ) (n x y k : ℕ) where
   unfolding kindNoted
   noted-next a b = rw (getD-set-same keys n x 0 a, getD-set-same kinds n y 0 b, noted-past n (omega arith))
 
--- ---- the edits from the place `at` of the list on: n are judged, the table is then `now`
+-- ---- the edits from the place `at` of the list on: n are judged, and the table is then `table-now`
 
 pub record Upto (img list keys kinds : List ℕ) (all : Judged) (at n : ℕ) : Type 0 where
   pub ahead : Ahead list at

@@ -3,7 +3,7 @@
 -- Assumes nothing.
 use Prim.Native.Nat.{ℕ, suc, _+_, _≤_}
 use mathlib.Core.Path.{_≡_, refl, sym, ap, _∙_, subst}
-use mathlib.Core.Bool.{Bool, true, false}
+use mathlib.Core.Bool.{true, false}
 use mathlib.Core.List.{List, [], _∷_, _++_}
 use mathlib.Core.Option.{Option, none, some}
 use native.Mathlib.Omega.{arith}
@@ -19,6 +19,7 @@ use Rattle.edit.specs.Ledger.{applyEdit, applyEdits}
 use Rattle.edit.specs.Keys.{isSome, holds, keyRule, keysFrom, Kept, Broken, present, no-update, no-delete, AllKept, FirstBroken}
 use Rattle.edit.specs.declared.Judged.{Judged}
 use Rattle.edit.specs.declared.Judged.the-variants.{Good, Faulty}
+use Rattle.edit.proofs.General.{by-test}
 use Rattle.edit.proofs.Ledger.{find-lacks, find-add-same, find-replace-same, find-without-same, find-add-other, find-replace-other, find-without-other}
 
 -- ---- whether a table holds a key
@@ -82,21 +83,9 @@ pub data Ruled (e : Edit) (t : List Rec) : ℕ → Type 0 where
 
 pub rule-says : (e : Edit) (t : List Rec) → Ruled e t (keyRule e t)
 unfolding keyRule
-rule-says (insert k v) t = go (holds k t) refl
-  where
-    go : (b : Bool) → holds k t ≡ b → Ruled (insert k v) t (pick b 8 0)
-    go true e = broken 8 (present k v t (holds-found k t e))
-    go false e = kept (holds-missing k t e)
-rule-says (update k v) t = go (holds k t) refl
-  where
-    go : (b : Bool) → holds k t ≡ b → Ruled (update k v) t (pick b 0 9)
-    go true e = kept (holds-found k t e)
-    go false e = broken 9 (no-update k v t (holds-missing k t e))
-rule-says (delete k) t = go (holds k t) refl
-  where
-    go : (b : Bool) → holds k t ≡ b → Ruled (delete k) t (pick b 0 9)
-    go true e = kept (holds-found k t e)
-    go false e = broken 9 (no-delete k t (holds-missing k t e))
+rule-says (insert k v) t = by-test (Ruled (insert k v) t) (holds k t) (λ e. broken 8 (present k v t (holds-found k t e))) (λ e. kept (holds-missing k t e))
+rule-says (update k v) t = by-test (Ruled (update k v) t) (holds k t) (λ e. kept (holds-found k t e)) (λ e. broken 9 (no-update k v t (holds-missing k t e)))
+rule-says (delete k) t = by-test (Ruled (delete k) t) (holds k t) (λ e. kept (holds-found k t e)) (λ e. broken 9 (no-delete k t (holds-missing k t e)))
 
 pub rule-kept : (e : Edit) (t : List Rec) → keyRule e t ≡ 0 → Kept e t
 rule-kept e t q = go (keyRule e t) (rule-says e t) q

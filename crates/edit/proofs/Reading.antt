@@ -52,8 +52,11 @@ module _ (t : List ℕ) (f : Faultless t) where
   value-length = length-part t headSize (lengthIn t) (f .whole)
 
   -- a kind that is neither 1 nor 2 is a delete, which has no length
+  delete-kind : eqb (kindIn t) 1 ≡ false → eqb (kindIn t) 2 ≡ false → kindIn t ≡ 3
+  delete-kind p q = omega (arith, f .known .kind-low, f .known .kind-high, eqb-false (kindIn t) 1 p, eqb-false (kindIn t) 2 q)
+
   delete-bare : eqb (kindIn t) 1 ≡ false → eqb (kindIn t) 2 ≡ false → lengthIn t ≡ 0
-  delete-bare p q = f .known .delete-bare (omega (arith, f .known .kind-low, f .known .kind-high, eqb-false (kindIn t) 1 p, eqb-false (kindIn t) 2 q))
+  delete-bare p q = f .known .delete-bare (delete-kind p q)
 
   pub edit-proper : Proper (editIn t)
   unfolding editIn editOf
@@ -109,10 +112,7 @@ module _ (t : List ℕ) (f : Faultless t) where
           kindIn t ∷ lengthIn t ∷ (bytesOf 8 (keyIn t) ++ (v ++ rest)) ≡ editBytes (pick a (insert (keyIn t) v) (pick b (update (keyIn t) v) (delete (keyIn t)))) ++ rest
       go true p b q = rw (eqb-true (kindIn t) 1 p, value-length, append-assoc (bytesOf 8 (keyIn t)) v rest)
       go false p true q = rw (eqb-true (kindIn t) 2 q, value-length, append-assoc (bytesOf 8 (keyIn t)) v rest)
-      go false p false q =
-          let three : kindIn t ≡ 3 = omega (arith, f .known .kind-low, f .known .kind-high, eqb-false (kindIn t) 1 p, eqb-false (kindIn t) 2 q) in
-          let bare : lengthIn t ≡ 0 = f .known .delete-bare three in
-          rw (three, bare, part-none t headSize)
+      go false p false q = rw (delete-kind p q, delete-bare p q, part-none t headSize)
 
 -- ---- a proper edit's encoding
 

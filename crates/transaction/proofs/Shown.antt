@@ -4,7 +4,6 @@ use Prim.Native.Nat.{ℕ}
 use mathlib.Core.Path.{_≡_, refl, sym, ap, _∙_, subst}
 use mathlib.Core.Bool.{Bool, true, false}
 use mathlib.Core.List.{List}
-use native.Mathlib.Omega.{arith}
 use lib.ListN.{length}
 use lib.Dec.{leb}
 use Rattle.device.specs.Tape.{tapeBytes}
@@ -12,9 +11,10 @@ use Rattle.device.specs.Calls.{imageSize, workSize, logFull, tapeShort, refusal
 use Rattle.device.specs.declared.Refusal.{Refusal}
 use Rattle.device.specs.declared.Answer.the-variants as answers
 use Rattle.image.specs.Calls.{checkCall}
-use Rattle.edit.specs.EditList.{Edit, Listed, listed, faulty, editsOf, editList}
+use Rattle.edit.specs.EditList.{Edit, Listed, listed, editsOf, editList}
 use Rattle.edit.specs.Judged.{judgedOf}
 use Rattle.edit.specs.declared.Judged.the-variants as judges
+use Rattle.edit.proofs.Judging.{faulty-listed}
 use Rattle.journal.specs.Changes.{changedPages}
 use Rattle.journal.specs.Tape.{roomInLog, takenFor}
 use Rattle.tree.specs.State.{State}
@@ -80,9 +80,8 @@ module _ (a tape : List ℕ) (es : List Edit) where
 
 module _ (a work tape : List ℕ) where
   pub faulty-shows : (l : Listed) (r : Refusal) → judgedOf l ≡ judges.Faulty r → Shows (record { answer = Refused r; work = work; tape = tape }) (listOf a work tape l)
-  unfolding judgedOf listOf refusedWith
-  faulty-shows (listed es) r e = let z : _≡_ {A = ℕ} 0 1 = cc in absurd (omega arith)
-  faulty-shows (faulty k i) r e = let z : r ≡ record { number = k; edit = i } = cc in (ap Refused z, (refl, refl))
+  unfolding listOf refusedWith
+  faulty-shows l r e = rw (faulty-listed l r e) (refl, (refl, refl))
 
   pub listed-shows : (l : Listed) → l ≡ listed (editsOf l) → (x : Result) → Shows x (outcomeOf a tape (editsOn a (editsOf l))) → Shows x (listOf a work tape l)
   unfolding listOf

@@ -1,8 +1,8 @@
 /*
  * A store of 8 pages: the start, three quotes of a curve and one beside it, a
  * shift of the whole curve, which is looked at before it is sent in one
- * transaction, and a list that is refused. Build it at the root of the
- * repository:
+ * transaction, and a list that is refused; last a damaged leaf, while the quotes
+ * of the other are still read. Build it at the root of the repository:
  *
  *   gcc -Iinclude examples/quote.c target/staticlib/libstore.a -o target/quote
  */
@@ -79,6 +79,17 @@ static void list_curve(uint8_t kind, const char *const *prices)
     edits_length = (size_t)(end - edits);
 }
 
+/* Notes on five other bonds, as long as a value may be: too much for one leaf. */
+static void list_notes(void)
+{
+    char note[QUOTE_LONGEST_VALUE + 1] = {0};
+    memset(note, 'n', QUOTE_LONGEST_VALUE);
+    uint8_t *end = edits;
+    for (uint64_t key = 31; key <= 35; key += 1)
+        end = put_edit(end, QUOTE_INSERT, key, note);
+    edits_length = (size_t)(end - edits);
+}
+
 static void print_refusal(uint64_t edit, uint8_t number)
 {
     printf("refused at edit %d: %d, %s\n", (int)edit, number, words_of(number));
@@ -118,15 +129,18 @@ static void commit(void)
            (int)answer[QUOTE_TRANSACTION_FLUSHES]);
 }
 
-/* The value is read in place. */
+/* The value is read in place. A refusal is of this quote: others may be read. */
 static void print_quote(uint64_t key)
 {
     uint64_t answer[QUOTE_LOOKUP_NUMBERS];
-    stop_if_refused("lookup", quote_lookup(image, sizeof image, key, answer, QUOTE_LOOKUP_NUMBERS));
-    if (answer[QUOTE_LOOKUP_FOUND] == 0)
-        printf("%" PRIu64 ": no quote\n", key);
+    uint8_t number = quote_lookup(image, sizeof image, key, answer, QUOTE_LOOKUP_NUMBERS);
+    printf("%" PRIu64 ": ", key);
+    if (number != QUOTE_ACCEPTED)
+        printf("refused: %d, %s\n", number, words_of(number));
+    else if (answer[QUOTE_LOOKUP_FOUND] == 0)
+        printf("no quote\n");
     else
-        printf("%" PRIu64 ": %.*s\n", key, (int)answer[QUOTE_LOOKUP_LENGTH],
+        printf("%.*s\n", (int)answer[QUOTE_LOOKUP_LENGTH],
                (const char *)image + answer[QUOTE_LOOKUP_OFFSET]);
 }
 
@@ -140,6 +154,14 @@ static void print_all(void)
             return;
         print_quote(next[QUOTE_NEXT_KEY_KEY]);
     }
+}
+
+/* Damage, as if the memory had lost it: the leaf of a quote counts one too many. */
+static void damage_leaf_of(uint64_t key)
+{
+    uint64_t answer[QUOTE_LOOKUP_NUMBERS];
+    stop_if_refused("lookup", quote_lookup(image, sizeof image, key, answer, QUOTE_LOOKUP_NUMBERS));
+    image[answer[QUOTE_LOOKUP_OFFSET] / QUOTE_PAGE_SIZE * QUOTE_PAGE_SIZE] += 1;
 }
 
 int main(void)
@@ -162,5 +184,13 @@ int main(void)
     commit();
     print_all();
     print_quote(30);
+    list_notes();
+    commit();
+    damage_leaf_of(35);
+    uint8_t number = quote_check(image, sizeof image);
+    printf("check of the whole image: %d, %s\n", number, words_of(number));
+    for (int i = 0; i < MATURITIES; i += 1)
+        print_quote(maturities[i]);
+    print_quote(35);
     return 0;
 }

@@ -53,7 +53,18 @@
  *   a power failure the program calls quote_recover and does the same. Before a
  *   transaction, quote_preview shows what its edits would make of a quote.
  *   examples/quote.c and examples/crash.c are such programs; docs/USING.md says
- *   how long a call takes, and what to do when a store is full.
+ *   how long a call takes, and what to do when a store is full or damaged.
+ *
+ * What of an image is judged
+ *   quote_check, quote_transaction and quote_recover judge all of it, every leaf
+ *   that the index names. quote_lookup, quote_next_key and quote_preview read
+ *   page 0's first line, the index page and the leaves that they need, and judge
+ *   these alone: they refuse the keys of a damaged leaf, and answer all others
+ *   as if it were sound. A key belongs to the last leaf whose separator in the
+ *   index is not above it, else to the first; and so does every 8-byte number.
+ *   On an image that quote_check accepts, none of the three refuses with
+ *   MARK_WAITS or UNSOUND. On one that it refuses, a key may be said to be
+ *   missing though a leaf that was not read holds it: if separators are damaged.
  *
  * Link with target/staticlib/libstore.a, which `rt staticlib store` makes.
  */
@@ -140,7 +151,7 @@ enum quote_answer {
     QUOTE_IMAGE_SIZE_WRONG = 1, /* the image's length is not 8 to 64 whole pages */
     QUOTE_WORK_SIZE_WRONG = 2,  /* the work buffer's length is not the image's */
     QUOTE_MARK_WAITS = 3,       /* a power failure left a commit half done: recover first */
-    QUOTE_UNSOUND = 4,          /* the image is not that of a store */
+    QUOTE_UNSOUND = 4,          /* the image, or the part that was read, is not that of a store */
     QUOTE_BAD_LIST = 5,         /* no edit (edit 0), a seventeenth (edit 16), one cut short, an unknown kind, or a delete with a length */
     QUOTE_KEY_RANGE = 6,        /* the key is 0 or above QUOTE_LAST_KEY */
     QUOTE_LONG_VALUE = 7,       /* the value has more than 200 bytes */
@@ -210,7 +221,7 @@ enum quote_recover_answer {
 uint8_t quote_format(uint8_t *image, size_t image_length);
 
 /*
- * Check: whether the image is that of a store.
+ * Check: whether the image is that of a store, the whole of it.
  *   image   read.
  *   refuses IMAGE_SIZE_WRONG; UNSOUND if page 0 is wrong; MARK_WAITS; UNSOUND
  *           if anything else is wrong.
@@ -218,22 +229,29 @@ uint8_t quote_format(uint8_t *image, size_t image_length);
 uint8_t quote_check(const uint8_t *image, size_t image_length);
 
 /*
- * Lookup: where the value of a key is.
+ * Lookup: where the value of a key is. Of the leaves it reads one, that which
+ * the key belongs to.
  *   image   read.
  *   answer  three numbers: 1, the value's offset in the image, its length; or
  *           0, 0, 0 if the store has no such key. The value is read in place,
  *           at image + answer[1]; an empty value's offset may be image_length.
- *   refuses as quote_check, in its order; then KEY_RANGE. answer then stays.
+ *   refuses IMAGE_SIZE_WRONG; UNSOUND if page 0 is wrong; MARK_WAITS; UNSOUND
+ *           if the index is wrong, or that leaf; KEY_RANGE. answer then stays.
  */
 uint8_t quote_lookup(const uint8_t *image, size_t image_length, uint64_t key,
                      uint64_t *answer, size_t answer_length);
 
 /*
  * Next key: the smallest key above a number, which need not be a key. From 0
- * on, it leads through all keys, rising.
+ * on, it leads through all keys, rising. It reads the leaf that the number
+ * belongs to and, only if that holds no larger key, the leaf after it.
  *   image   read.
  *   answer  two numbers: 1 and the key; or 0, 0 if there is none.
- *   refuses as quote_check, in its order. answer then stays.
+ *   refuses IMAGE_SIZE_WRONG; UNSOUND if page 0 is wrong; MARK_WAITS; UNSOUND
+ *           if the index is wrong, or the first of these leaves, or the second
+ *           where it is read. answer then stays.
+ * So a walk from 0 on is refused where a damaged leaf begins; it can go on from
+ * any number that belongs to a later one.
  */
 uint8_t quote_next_key(const uint8_t *image, size_t image_length, uint64_t key,
                        uint64_t *answer, size_t answer_length);
@@ -253,11 +271,14 @@ uint8_t quote_next_key(const uint8_t *image, size_t image_length, uint64_t key,
  *           empty value's offset may be the buffer's length. Refused: the number
  *           of the edit that is at fault, from 0, and three zeros; it is 0 too
  *           for 1, 3, 4 and the key asked, which are no edit's.
- *   refuses as quote_check, in its order; then for the first faulty edit of the
- *           list BAD_LIST, LONG_VALUE, BAD_LIST if the value is cut short,
- *           KEY_RANGE; then KEY_RANGE for the key asked; then, over the whole
- *           list, each edit seeing those before it, for the first that fails
- *           KEY_PRESENT, KEY_MISSING.
+ *   refuses IMAGE_SIZE_WRONG; UNSOUND if page 0 is wrong; MARK_WAITS; UNSOUND
+ *           if the index is wrong; then for the first faulty edit of the list
+ *           BAD_LIST, LONG_VALUE, BAD_LIST if the value is cut short, KEY_RANGE;
+ *           then KEY_RANGE for the key asked; then, over the whole list, each
+ *           edit seeing those before it, for the first that fails UNSOUND if
+ *           the leaf that its key belongs to is wrong, KEY_PRESENT, KEY_MISSING;
+ *           last, if no edit has the key asked, UNSOUND if the leaf that this
+ *           belongs to is wrong.
  * Pages, log and tape play no part: it does not say whether the transaction of
  * the list finds room, which may still be refused with INDEX_FULL, PAGES_OUT,
  * LOG_FULL or TAPE_SHORT. Where that is accepted, a lookup of the key in its

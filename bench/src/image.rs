@@ -1,5 +1,6 @@
-//! Format, check, lookup and next key: the check that the three agree, and
-//! their rows.
+//! Format, check, lookup and next key: the check that the three agree, their
+//! rows, and lookup and next key beside what they cost when each judged the
+//! whole image.
 
 use bench::{lean, measure};
 use cases::damage::{damage, other_length, FIELDS};
@@ -37,7 +38,7 @@ const CHECK: [Way; 3] = [
 ];
 
 const LOOKUP: [Way; 3] = [
-    |call| lean::image::lookup(&call.image, call.key, &mut call.answer),
+    |call| lean::read::lookup(&call.image, call.key, &mut call.answer),
     |call| proved::lookup(&mut call.image, call.key, &mut call.answer),
     |call| {
         number(plain::lookup(&call.image, call.key).map(|found| {
@@ -48,7 +49,7 @@ const LOOKUP: [Way; 3] = [
 ];
 
 const NEXT: [Way; 3] = [
-    |call| lean::image::next_key(&call.image, call.key, two(&mut call.answer)),
+    |call| lean::read::next_key(&call.image, call.key, two(&mut call.answer)),
     |call| proved::next_key(&mut call.image, call.key, two(&mut call.answer)),
     |call| {
         number(plain::next_key(&call.image, call.key).map(|next| {
@@ -56,6 +57,25 @@ const NEXT: [Way; 3] = [
         }))
     },
 ];
+
+/// All keys by next key, from 0 on: one call more than there are keys.
+const WALK: [Way; 3] = [
+    |call| walk(call, NEXT[0]),
+    |call| walk(call, NEXT[1]),
+    |call| walk(call, NEXT[2]),
+];
+
+fn walk(call: &mut Call, next: Way) -> u8 {
+    call.key = 0;
+    loop {
+        let number = next(call);
+        let [found, key, _] = call.answer;
+        if number != 0 || found == 0 {
+            return number;
+        }
+        call.key = key;
+    }
+}
 
 fn number(answer: Result<(), Refusal>) -> u8 {
     answer.map_or_else(|refusal| refusal.number, |()| 0)
@@ -76,7 +96,7 @@ pub fn check() {
         let damaged = damage(&mut random, &built, field).unwrap_or_default();
         let other = other_length(&mut random, &built);
         for image in [built.image.clone(), damaged, other] {
-            for ways in [FORMAT, CHECK, LOOKUP, NEXT] {
+            for ways in [FORMAT, CHECK, LOOKUP, NEXT, WALK] {
                 let key = any_key(&mut random, &built);
                 accepted += usize::from(agree(ways, image.clone(), key, calls) == 0);
                 calls += 1;
@@ -84,7 +104,7 @@ pub fn check() {
         }
     }
     println!(
-        "format, check, lookup and next key: the three agree on {calls} calls, {accepted} accepted"
+        "format, check, lookup, next key and walk: the three agree on {calls} calls, {accepted} accepted"
     );
 }
 
@@ -109,23 +129,64 @@ fn agree(ways: [Way; 3], image: Vec<u8>, key: u64, which: usize) -> u8 {
     measure::agreed(ways, &call, which, SEED).0
 }
 
+/// Pages, leaves and quotes of the stores that are measured.
+const STORES: [(usize, usize, usize); 4] = [(8, 1, 1), (8, 6, 168), (64, 1, 1), (64, 26, 500)];
+
 pub fn measure() {
     measure::heading("call      pages  leaves  quotes");
-    let calls = [("check", CHECK), ("lookup", LOOKUP), ("next key", NEXT)];
+    let calls = [
+        ("check", CHECK),
+        ("lookup", LOOKUP),
+        ("next key", NEXT),
+        ("walk", WALK),
+    ];
     for (name, ways) in calls {
-        for (pages, leaves, quotes) in [(8, 1, 1), (8, 6, 168), (64, 1, 1), (64, 26, 500)] {
-            let times = medians(ways, pages, leaves, quotes);
-            let row = format!("{name:<10}{pages:>5}{leaves:>8}{quotes:>8}");
-            measure::row(&row, times);
+        for store in STORES {
+            measure::row(&title(name, store), medians(ways, store));
         }
     }
     for pages in [8, 64] {
-        let times = medians(FORMAT, pages, 1, 1);
+        let times = medians(FORMAT, (pages, 1, 1));
         measure::row(&format!("{:<10}{pages:>5}", "format"), times);
+    }
+    measure_old_way();
+}
+
+fn title(name: &str, (pages, leaves, quotes): (usize, usize, usize)) -> String {
+    format!("{name:<10}{pages:>5}{leaves:>8}{quotes:>8}")
+}
+
+/// The calls that read one leaf, each with check before it, and alone.
+const READS: [(&str, [Way; 2]); 3] = [
+    ("lookup", [checked_lookup, LOOKUP[1]]),
+    ("next key", [checked_next, NEXT[1]]),
+    ("walk", [|call| walk(call, checked_next), WALK[1]]),
+];
+
+fn checked_lookup(call: &mut Call) -> u8 {
+    CHECK[1](call).max(LOOKUP[1](call))
+}
+
+fn checked_next(call: &mut Call) -> u8 {
+    CHECK[1](call).max(NEXT[1](call))
+}
+
+/// What a read costs that judges the whole image first, as all did before
+/// document 02 (b), beside what it costs now.
+fn measure_old_way() {
+    measure::old_way_heading("proved    pages  leaves  quotes");
+    for (name, ways) in READS {
+        for store in STORES {
+            measure::old_way_row(&title(name, store), medians(ways, store));
+        }
     }
 }
 
-fn medians(ways: [Way; 3], pages: usize, leaves: usize, quotes: usize) -> [f64; 3] {
+/// The median time of each way on a store of so many pages, leaves and quotes.
+fn medians<const N: usize>(
+    ways: [Way; N],
+    (pages, leaves, quotes): (usize, usize, usize),
+) -> [f64; N] {
     let mut random = Random::new(SEED);
     let built = even(&mut random, pages, leaves, quotes);
     let mut keys: Vec<u64> = built.table.iter().map(|entry| entry.0).collect();
@@ -137,13 +198,11 @@ fn medians(ways: [Way; 3], pages: usize, leaves: usize, quotes: usize) -> [f64; 
         keys,
         turn: 0,
     };
-    let mut calls = [call.clone(), call.clone(), call];
-    let [lean, proved, reference] = &mut calls;
-    measure::medians(&mut [
-        &mut || timed(ways[0], lean),
-        &mut || timed(ways[1], proved),
-        &mut || timed(ways[2], reference),
-    ])
+    let mut candidates = ways.map(|way| {
+        let mut call = call.clone();
+        move || timed(way, &mut call)
+    });
+    measure::medians(&mut candidates.each_mut().map(|one| one as &mut dyn FnMut()))
 }
 
 fn timed(way: Way, call: &mut Call) {

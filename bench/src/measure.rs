@@ -110,3 +110,18 @@ pub fn fine_row(name: &str, [lean, proved, reference]: [f64; 3]) {
         "{name:<34}{lean:>9.2}{proved:>9.2}{reference:>11.2}{proved_ratio:>13.2}{reference_ratio:>16.2}"
     );
 }
+
+/// The heading of rows that put a call beside the old way, in which each reading
+/// call judged the whole image first.
+pub fn old_way_heading(first: &str) {
+    println!();
+    println!(
+        "{first:<42}{:>16}{:>10}{:>8}",
+        "check, then it", "it alone", "ratio"
+    );
+}
+
+pub fn old_way_row(name: &str, [old, alone]: [f64; 2]) {
+    let ratio = alone / old;
+    println!("{name:<42}{old:>16.0}{alone:>10.0}{ratio:>8.3}");
+}

@@ -1,7 +1,7 @@
 //! Document 01, 'Edits': the edit list, and from 'Each call and when it says
 //! no' its refusals 5, 6 and 7.
 
-use crate::page::{LAST_KEY, LONGEST_VALUE};
+use crate::page::{is_key, LONGEST_VALUE};
 use crate::Refusal;
 
 /// "Kind (1 insert, 2 update, 3 delete)".
@@ -77,7 +77,7 @@ fn parse_one(bytes: &[u8], number: usize) -> Result<Edit, u8> {
         return Err(5);
     }
     let key = u64::from_le_bytes(bytes[2..10].try_into().unwrap());
-    if !(1..=LAST_KEY).contains(&key) {
+    if !is_key(key) {
         return Err(6);
     }
     let value = bytes[10..10 + length].to_vec();

@@ -1,9 +1,10 @@
 //! Document 01, 'Page layout': page 0, soundness and the fresh store; from
 //! 'The plain ledger' the table; from 'Each call and when it says no' format,
-//! check, lookup with its companion, and next key.
+//! check, lookup with its companion, and next key, where document 02 (b) says
+//! which pages the last three read.
 
 use crate::device::{check_length, PAGE};
-use crate::page::{read_page, two_bytes, Header, Record, INDEX, LAST_KEY, LEAF};
+use crate::page::{is_key, read_page, two_bytes, Header, Record, INDEX, LEAF};
 use crate::{refuse, Refusal};
 use std::collections::BTreeSet;
 
@@ -29,14 +30,28 @@ pub struct PageZero {
     pub root: usize,
 }
 
-/// A leaf of a sound image: its separator, its page, where its records lie in
-/// that page, and the records, both in the order of the slots.
+/// A leaf that keeps every clause of soundness by itself: its page, where its
+/// records lie in that page, and the records, both in the order of the slots.
 #[derive(Clone, Debug, PartialEq, Eq)]
 pub struct Leaf {
-    pub separator: u64,
     pub page: usize,
     pub slots: Vec<usize>,
     pub records: Vec<Record>,
+}
+
+impl Leaf {
+    /// "The value's offset in the image and its length."
+    pub fn find(&self, key: u64) -> Option<(usize, usize)> {
+        let at = self.records.iter().position(|record| record.key == key)?;
+        let offset = self.page * PAGE + self.slots[at] + 16;
+        Some((offset, self.records[at].value.len()))
+    }
+
+    /// The smallest key above this number.
+    fn key_above(&self, number: u64) -> Option<u64> {
+        let keys = self.records.iter().map(|record| record.key);
+        keys.filter(|&key| key > number).min()
+    }
 }
 
 pub fn page_of(image: &[u8], number: usize) -> &[u8] {
@@ -82,46 +97,80 @@ pub fn reached(image: &[u8]) -> BTreeSet<usize> {
     named.chain([root]).collect()
 }
 
-/// The leaves, in the order of the root's records, if all that the root
-/// reaches is as in a sound image.
-pub fn read_leaves(image: &[u8], root: usize) -> Option<Vec<Leaf>> {
-    let pages = image.len() / PAGE;
-    // "The root is an index with 1 to 28 records."
-    let index = read_page(page_of(image, root), root, INDEX)?;
-    if index.is_empty() {
-        return None;
+/// The index's records, or the refusals for page 0 and the index alone: "1; 4
+/// if page 0 is wrong; 3 if a well-formed mark waits; 4 if unsound". Every call
+/// that reads the tree starts so.
+pub fn sound_index(image: &[u8]) -> Result<Vec<Record>, Refusal> {
+    check_length(image)?;
+    let Some(zero) = read_page_zero(image) else {
+        return refuse(4);
+    };
+    if zero.mark.is_some() {
+        return refuse(3);
     }
-    let mut leaves: Vec<Leaf> = Vec::new();
-    for record in &index {
-        // "Its pages are distinct leaves in 1 to N-1, none the root."
-        let page = record.page();
-        if page < 1 || page >= pages || page == root {
-            return None;
-        }
-        if leaves.iter().any(|leaf| leaf.page == page) {
-            return None;
-        }
-        let records = read_page(page_of(image, page), page, LEAF)?;
-        leaves.push(Leaf {
-            separator: record.key,
-            page,
-            slots: Header::read(page_of(image, page))?.slots,
-            records,
-        });
+    match read_index(image, zero.root) {
+        Some(index) => Ok(index),
+        None => refuse(4),
     }
-    well_parted(&leaves).then_some(leaves)
 }
 
-/// "Each leaf's keys are not below its separator (first leaf excepted) and are
-/// below the next separator; no leaf is empty unless it is the only one."
-fn well_parted(leaves: &[Leaf]) -> bool {
-    (0..leaves.len()).all(|i| {
-        let keys = || leaves[i].records.iter().map(|record| record.key);
-        let above = i == 0 || keys().all(|key| key >= leaves[i].separator);
-        let below = i + 1 == leaves.len() || keys().all(|key| key < leaves[i + 1].separator);
-        let filled = leaves.len() == 1 || !leaves[i].records.is_empty();
-        above && below && filled
+/// The root's records, if the root keeps every clause of soundness by itself.
+fn read_index(image: &[u8], root: usize) -> Option<Vec<Record>> {
+    // "The root is an index with 1 to 28 records."
+    let index = read_page(page_of(image, root), root, INDEX)?;
+    // "Its pages are distinct leaves in 1 to N-1, none the root." That they
+    // are leaves is for the leaves to show.
+    let named: BTreeSet<usize> = index.iter().map(Record::page).collect();
+    let outside = |&page: &usize| page < 1 || page >= image.len() / PAGE;
+    let good = !index.is_empty()
+        && named.len() == index.len()
+        && !named.iter().any(outside)
+        && !named.contains(&root);
+    good.then_some(index)
+}
+
+/// The leaf that this record of the index names, or 4 if it breaks a clause of
+/// soundness. Document 02 (b): "the pages read break soundness by themselves,
+/// separator bounds included".
+pub fn sound_leaf(image: &[u8], index: &[Record], at: usize) -> Result<Leaf, Refusal> {
+    match read_leaf(image, index, at) {
+        Some(leaf) => Ok(leaf),
+        None => refuse(4),
+    }
+}
+
+fn read_leaf(image: &[u8], index: &[Record], at: usize) -> Option<Leaf> {
+    let page = index[at].page();
+    let records = read_page(page_of(image, page), page, LEAF)?;
+    // "Each leaf's keys are not below its separator (first leaf excepted) and
+    // are below the next separator; no leaf is empty unless it is the only
+    // one."
+    let keys = || records.iter().map(|record| record.key);
+    let above = at == 0 || keys().all(|key| key >= index[at].key);
+    let below = at + 1 == index.len() || keys().all(|key| key < index[at + 1].key);
+    let filled = index.len() == 1 || !records.is_empty();
+    (above && below && filled).then_some(Leaf {
+        page,
+        slots: Header::read(page_of(image, page))?.slots,
+        records,
     })
+}
+
+/// The leaves of a sound image, in the order of the root's records, or check's
+/// refusal.
+pub fn sound_leaves(image: &[u8]) -> Result<Vec<Leaf>, Refusal> {
+    let index = sound_index(image)?;
+    let leaf = |at| sound_leaf(image, &index, at);
+    (0..index.len()).map(leaf).collect()
+}
+
+/// Document 01, 'Edits': "A key belongs to the last leaf whose separator is not
+/// above it, else to the first." The leaf's place in the index.
+pub fn leaf_of(index: &[Record], key: u64) -> usize {
+    index
+        .iter()
+        .rposition(|record| record.key <= key)
+        .unwrap_or(0)
 }
 
 /// Keys and values, keys rising.
@@ -139,21 +188,6 @@ pub fn table(image: &[u8]) -> Option<Table> {
 /// unsound."
 pub fn check(image: &[u8]) -> Result<(), Refusal> {
     sound_leaves(image).map(|_| ())
-}
-
-/// The leaves of a sound image, or check's refusal.
-pub fn sound_leaves(image: &[u8]) -> Result<Vec<Leaf>, Refusal> {
-    check_length(image)?;
-    let Some(zero) = read_page_zero(image) else {
-        return refuse(4);
-    };
-    if zero.mark.is_some() {
-        return refuse(3);
-    }
-    match read_leaves(image, zero.root) {
-        Some(leaves) => Ok(leaves),
-        None => refuse(4),
-    }
 }
 
 /// "Format (writes a fresh store): 1 if the length isn't 8 to 64 whole pages."
@@ -176,21 +210,15 @@ pub fn format(image: &mut [u8]) -> Result<(), Refusal> {
 }
 
 /// "Lookup answers the value's offset in the image and its length, or
-/// missing."
+/// missing." Document 02 (b): it "reads page 0, the index and one leaf"; and "1,
+/// 3, 4 and 6 in the old order", so a key out of range reads its leaf too.
 pub fn lookup(image: &[u8], key: u64) -> Result<Option<(usize, usize)>, Refusal> {
-    let leaves = sound_leaves(image)?;
-    if !(1..=LAST_KEY).contains(&key) {
+    let index = sound_index(image)?;
+    let leaf = sound_leaf(image, &index, leaf_of(&index, key))?;
+    if !is_key(key) {
         return refuse(6);
     }
-    for leaf in &leaves {
-        for (slot, record) in leaf.slots.iter().zip(&leaf.records) {
-            if record.key == key {
-                let offset = leaf.page * PAGE + slot + 16;
-                return Ok(Some((offset, record.value.len())));
-            }
-        }
-    }
-    Ok(None)
+    Ok(leaf.find(key))
 }
 
 /// "A companion hands back the value bytes themselves as part of the image,
@@ -203,9 +231,14 @@ pub fn value(image: &[u8], key: u64) -> &[u8] {
 }
 
 /// "Next takes any 8-byte number and answers the smallest key above it, or
-/// none."
-pub fn next_key(image: &[u8], key: u64) -> Result<Option<u64>, Refusal> {
-    let leaves = sound_leaves(image)?;
-    let records = leaves.iter().flat_map(|leaf| &leaf.records);
-    Ok(records.map(|record| record.key).filter(|&k| k > key).min())
+/// none." Document 02 (b): it "reads that and, only if that leaf holds no larger
+/// key, the leaf after".
+pub fn next_key(image: &[u8], number: u64) -> Result<Option<u64>, Refusal> {
+    let index = sound_index(image)?;
+    let at = leaf_of(&index, number);
+    let key = sound_leaf(image, &index, at)?.key_above(number);
+    if key.is_some() || at + 1 == index.len() {
+        return Ok(key);
+    }
+    Ok(sound_leaf(image, &index, at + 1)?.key_above(number))
 }

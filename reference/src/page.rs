@@ -148,14 +148,18 @@ pub fn read_page(page: &[u8], number: usize, kind: u8) -> Option<Vec<Record>> {
     good.then_some(records)
 }
 
-/// "Keys are 1 to 999,999,999,999; values 0 to 200 bytes. An index record's
-/// key is a separator, 0 to 999,999,999,999, and its value a 2-byte page
-/// number."
+/// "Keys are 1 to 999,999,999,999."
+pub fn is_key(number: u64) -> bool {
+    (1..=LAST_KEY).contains(&number)
+}
+
+/// "Values 0 to 200 bytes. An index record's key is a separator, 0 to
+/// 999,999,999,999, and its value a 2-byte page number."
 fn has_form(record: &Record, kind: u8) -> bool {
     if kind == INDEX {
         record.key <= LAST_KEY && record.value.len() == 2
     } else {
-        record.key >= 1 && record.key <= LAST_KEY && record.value.len() <= LONGEST_VALUE
+        is_key(record.key) && record.value.len() <= LONGEST_VALUE
     }
 }
 

@@ -1,11 +1,10 @@
 //! Document 02 (a): the value that a key would have if an edit list were
-//! committed.
+//! committed. It reads only the leaves that it needs, by document 02 (b).
 
 use crate::edits::{parse, Edit, Kind};
-use crate::image::{check, lookup, table};
-use crate::page::LAST_KEY;
+use crate::image::{leaf_of, lookup, sound_index, sound_leaf};
+use crate::page::{is_key, Record};
 use crate::{refuse, Refusal};
-use std::collections::BTreeSet;
 
 /// "It hands back a part of the edit list or a part of the image, [...] and a
 /// second answer says which, or missing."
@@ -17,14 +16,17 @@ pub enum Preview {
 }
 
 /// "Refused: check's, then the list's, then 6 for the key asked, then 8 and 9."
+/// (b) leaves to check's what page 0 and the index show.
 pub fn preview(image: &[u8], list: &[u8], key: u64) -> Result<Preview, Refusal> {
-    check(image)?;
+    let index = sound_index(image)?;
     let edits = parse(list)?;
     // "Edit numbers are as in a transaction, 0 for the key asked."
-    if !(1..=LAST_KEY).contains(&key) {
+    if !is_key(key) {
         return refuse(6);
     }
-    check_keys(image, &edits)?;
+    for at in 0..edits.len() {
+        check_key(image, &index, &edits, at)?;
+    }
     // "As the last edit of that key decides."
     match edits.iter().rposition(|edit| edit.key == key) {
         Some(last) => Ok(part_of_list(&edits, last)),
@@ -33,19 +35,22 @@ pub fn preview(image: &[u8], list: &[u8], key: u64) -> Result<Preview, Refusal> 
 }
 
 /// "The key rules of edits hold for the whole list": 8 insert of a key present,
-/// 9 other edit of a missing key. "Each edit sees those before it."
-fn check_keys(image: &[u8], edits: &[Edit]) -> Result<(), Refusal> {
-    let table = table(image).expect("the image is sound");
-    let mut present: BTreeSet<u64> = table.into_iter().map(|entry| entry.0).collect();
-    for (i, edit) in edits.iter().enumerate() {
-        let (number, good) = match edit.kind {
-            Kind::Insert => (8, present.insert(edit.key)),
-            Kind::Update => (9, present.contains(&edit.key)),
-            Kind::Delete => (9, present.remove(&edit.key)),
-        };
-        if !good {
-            return Err(Refusal { number, edit: i });
-        }
+/// 9 other edit of a missing key. (b): "a leaf's 4 comes just before the 8 or 9
+/// of the first edit that needs that leaf", and names no edit.
+fn check_key(image: &[u8], index: &[Record], edits: &[Edit], at: usize) -> Result<(), Refusal> {
+    let key = edits[at].key;
+    let leaf = sound_leaf(image, index, leaf_of(index, key))?;
+    // "Each edit sees those before it."
+    let present = match edits[..at].iter().rfind(|edit| edit.key == key) {
+        Some(before) => before.kind != Kind::Delete,
+        None => leaf.find(key).is_some(),
+    };
+    let (number, good) = match edits[at].kind {
+        Kind::Insert => (8, !present),
+        Kind::Update | Kind::Delete => (9, present),
+    };
+    if !good {
+        return Err(Refusal { number, edit: at });
     }
     Ok(())
 }
@@ -62,7 +67,8 @@ fn part_of_list(edits: &[Edit], at: usize) -> Preview {
     }
 }
 
-/// What the image holds of a key that no edit has.
+/// What the image holds of a key that no edit has. (b): a leaf's 4 comes "last
+/// of all for the key asked".
 fn part_of_image(image: &[u8], key: u64) -> Result<Preview, Refusal> {
     Ok(match lookup(image, key)? {
         Some((offset, length)) => Preview::InImage { offset, length },

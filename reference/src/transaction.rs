@@ -3,7 +3,7 @@
 
 use crate::device::{check_length, check_work, LINE, PAGE};
 use crate::edits::{parse, Edit, Kind};
-use crate::image::{page_of, reached, sound_leaves};
+use crate::image::{leaf_of, page_of, reached, sound_leaves};
 use crate::page::{Header, Record, INDEX, LEAF, SLOTS};
 use crate::tape::{self, CommitPlace};
 use crate::{refuse, Refusal};
@@ -118,20 +118,11 @@ impl Tree<'_> {
         self.image[page * PAGE + at..][..bytes.len()].copy_from_slice(bytes);
     }
 
-    /// "A key belongs to the last leaf whose separator is not above it, else
-    /// to the first." The leaf's place in the index.
-    fn leaf_of(&self, key: u64) -> usize {
-        let index = self.records(self.root);
-        index
-            .iter()
-            .rposition(|record| record.key <= key)
-            .unwrap_or(0)
-    }
-
     /// One edit, or its refusal.
     fn edit(&mut self, edit: &Edit) -> Result<(), u8> {
-        let leaf = self.leaf_of(edit.key);
-        let page = self.records(self.root)[leaf].page();
+        let index = self.records(self.root);
+        let leaf = leaf_of(&index, edit.key);
+        let page = index[leaf].page();
         let records = self.records(page);
         let found = records.iter().position(|record| record.key == edit.key);
         let record = Record {

@@ -175,8 +175,8 @@ static void preview_is_what_lookup_finds(void)
     give_back(list);
 }
 
-/* The image is judged first, then the list, then the key asked. (What a list is
- * refused with: lists_are_refused.) */
+/* Page 0 is judged first, and the index, then the list, then the key asked.
+ * (What a list is refused with: lists_are_refused; leaves: bad_leaf_in_a_preview.) */
 static void preview_refuses(void)
 {
     struct bytes image = two_quotes(), none = lend(0);
@@ -185,6 +185,8 @@ static void preview_refuses(void)
     EXPECT(preview_refused(image, list, QUOTE_LAST_KEY + 1, QUOTE_KEY_RANGE, 0));
     EXPECT(preview_refused(image, list, 0, QUOTE_KEY_RANGE, 0));
     EXPECT(preview_refused(image, none, 0, QUOTE_BAD_LIST, 0));
+    image.at[1024 + 4] = 1; /* the index calls itself a leaf */
+    EXPECT(preview_refused(image, none, 0, QUOTE_UNSOUND, 0));
     memcpy(image.at, "\1\1\1", 3);
     EXPECT(preview_refused(image, none, 0, QUOTE_MARK_WAITS, 0));
     image.at[40] = 1;
@@ -208,6 +210,76 @@ static void preview_without_room(void)
     list.length -= 1;
     EXPECT(preview(image, list, 101, answer, 3) == QUOTE_BAD_LIST);
     EXPECT(answer[0] == 7 && answer[1] == 7 && answer[2] == 7 && answer[3] == 7);
+    give_back(image);
+    give_back(list);
+}
+
+/* A store with quotes 10, 20, .. 90 in three leaves of three, the second one
+ * damaged: it counts a record that is not there. */
+static struct bytes bad_leaf(void)
+{
+    uint64_t found[QUOTE_LOOKUP_NUMBERS];
+    struct bytes image = fresh(8);
+    for (uint64_t key = 10; key <= 90; key += 10)
+        EXPECT(apply_one(&image, one_edit(QUOTE_INSERT, key, 200, 'p')) == QUOTE_ACCEPTED);
+    EXPECT(quote_lookup(image.at, image.length, 50, found, 3) == QUOTE_ACCEPTED);
+    image.at[found[QUOTE_LOOKUP_OFFSET] / QUOTE_PAGE_SIZE * QUOTE_PAGE_SIZE] += 1;
+    EXPECT(quote_check(image.at, image.length) == QUOTE_UNSOUND);
+    return image;
+}
+
+/* A lookup of each number, and the next key above it: the answer, and what is
+ * found. */
+static const struct {
+    uint64_t number;
+    uint8_t lookup, next;
+    uint64_t found, key;
+} beside_bad_leaf[] = {
+    {0, QUOTE_KEY_RANGE, QUOTE_ACCEPTED, 7, 10},
+    {10, QUOTE_ACCEPTED, QUOTE_ACCEPTED, 1, 20},
+    {29, QUOTE_ACCEPTED, QUOTE_ACCEPTED, 0, 30},
+    {30, QUOTE_ACCEPTED, QUOTE_UNSOUND, 1, 7}, /* the leaf after is the bad one */
+    {39, QUOTE_ACCEPTED, QUOTE_UNSOUND, 0, 7},
+    {40, QUOTE_UNSOUND, QUOTE_UNSOUND, 7, 7},
+    {69, QUOTE_UNSOUND, QUOTE_UNSOUND, 7, 7}, /* though the leaf after would do */
+    {70, QUOTE_ACCEPTED, QUOTE_ACCEPTED, 1, 80},
+    {90, QUOTE_ACCEPTED, QUOTE_ACCEPTED, 1, 0},
+    {UINT64_MAX, QUOTE_KEY_RANGE, QUOTE_ACCEPTED, 7, 0},
+};
+
+static void bad_leaf_refuses_its_own_keys(void)
+{
+    struct bytes image = bad_leaf();
+    for (size_t i = 0; i < sizeof beside_bad_leaf / sizeof *beside_bad_leaf; i += 1) {
+        uint64_t number = beside_bad_leaf[i].number, found[3] = {7, 7, 7}, next[2] = {7, 7};
+        EXPECT(quote_lookup(image.at, image.length, number, found, 3) == beside_bad_leaf[i].lookup);
+        EXPECT(quote_next_key(image.at, image.length, number, next, 2) == beside_bad_leaf[i].next);
+        EXPECT(found[QUOTE_LOOKUP_FOUND] == beside_bad_leaf[i].found);
+        EXPECT(next[QUOTE_NEXT_KEY_KEY] == beside_bad_leaf[i].key);
+    }
+    EXPECT(apply_one(&image, one_edit(QUOTE_UPDATE, 10, 8, 'q')) == QUOTE_UNSOUND);
+    give_back(image);
+}
+
+/* The leaf's refusal comes where the first edit needs it, or last of all for the
+ * key asked, and is no edit's. */
+static void bad_leaf_in_a_preview(void)
+{
+    uint64_t found[QUOTE_LOOKUP_NUMBERS];
+    struct bytes image = bad_leaf(), list = one_edit(QUOTE_UPDATE, 10, 8, 'q');
+    EXPECT(quote_lookup(image.at, image.length, 70, found, 3) == QUOTE_ACCEPTED);
+    EXPECT(preview_shows(image, list, 70, QUOTE_IN_IMAGE, found[QUOTE_LOOKUP_OFFSET], 200));
+    EXPECT(preview_shows(image, list, 10, QUOTE_IN_LIST, QUOTE_EDIT_HEAD, 8));
+    EXPECT(preview_refused(image, list, 50, QUOTE_UNSOUND, 0));
+    add_edit(&list, QUOTE_INSERT, 69, 8, 'q');
+    EXPECT(preview_refused(image, list, 10, QUOTE_UNSOUND, 0));
+    EXPECT(preview_refused(image, list, 0, QUOTE_KEY_RANGE, 0));
+    add_edit(&list, QUOTE_INSERT, 10, 8, 'q');
+    EXPECT(preview_refused(image, list, 10, QUOTE_UNSOUND, 0));
+    put_head(list.at + 18, QUOTE_INSERT, 8, 71); /* in a good leaf instead of 69 */
+    EXPECT(preview_refused(image, list, 50, QUOTE_KEY_PRESENT, 2));
+    add_edit(&list, QUOTE_UPDATE, 0, 8, 'q');
+    EXPECT(preview_refused(image, list, 50, QUOTE_KEY_RANGE, 3));
     give_back(image);
     give_back(list);
 }
@@ -535,6 +607,8 @@ int main(void)
     preview_is_what_lookup_finds();
     preview_refuses();
     preview_without_room();
+    bad_leaf_refuses_its_own_keys();
+    bad_leaf_in_a_preview();
     transaction_answers();
     commit_places();
     lists_are_refused();

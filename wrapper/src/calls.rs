@@ -1,6 +1,10 @@
 //! Each call of the proved library, on buffers that the program lends. A call
 //! allocates nothing and keeps nothing. `include/quote_store.h` says of each
 //! what its buffers hold afterwards, and its refusals in their order.
+//!
+//! [`check`], [`transaction`] and [`recover`] judge the whole image. [`lookup`],
+//! [`next_key`] and [`preview`] judge page 0, the index and the leaves that they
+//! read: quotes of other leaves are answered where one is damaged.
 
 use crate::{Commit, Preview, Recovery, Refusal};
 use quote_store_sys as sys;
@@ -31,7 +35,8 @@ pub fn format(image: &mut [u8]) -> Result<(), Refusal> {
     judged(number, 0)
 }
 
-/// Whether the image is that of a sound store where no commit waits.
+/// Whether the image is that of a sound store where no commit waits, all of its
+/// leaves included.
 ///
 /// ```
 /// use quote_store::{calls, Refusal, Store};
@@ -60,6 +65,29 @@ pub fn check(image: &[u8]) -> Result<(), Refusal> {
 /// assert_eq!(calls::lookup(store.image(), 102), Ok(None));
 /// # Ok::<(), quote_store::Refusal>(())
 /// ```
+///
+/// Of the leaves it reads the one that the key belongs to, by the separators of
+/// the index. If that is damaged, or page 0 or the index, it says
+/// [`Refusal::Unsound`]; damage in another leaf does not matter.
+///
+/// ```
+/// use quote_store::{calls, Edit, Refusal, Store, PAGE};
+///
+/// // 29 quotes make two leaves.
+/// let mut store = Store::fresh(8)?;
+/// for key in 1..=29 {
+///     store.apply(&[Edit::Insert { key, value: b"101.25" }])?;
+/// }
+/// let mut image = store.image().to_vec();
+/// let last = calls::lookup(&image, 29)?.unwrap();
+/// image[last.start / PAGE * PAGE] += 1; // its leaf counts a record too many
+///
+/// assert_eq!(calls::check(&image), Err(Refusal::Unsound));
+/// assert_eq!(calls::lookup(&image, 29), Err(Refusal::Unsound));
+/// let first = calls::lookup(&image, 1)?.unwrap();
+/// assert_eq!(&image[first], b"101.25");
+/// # Ok::<(), Refusal>(())
+/// ```
 pub fn lookup(image: &[u8], key: u64) -> Result<Option<Range<usize>>, Refusal> {
     let mut answer = [0; 3];
     // Sound: each pointer is lent with its own length; the image is only read.
@@ -77,7 +105,9 @@ pub fn lookup(image: &[u8], key: u64) -> Result<Option<Range<usize>>, Refusal> {
     Ok((found == 1).then_some(offset..offset + length))
 }
 
-/// The smallest key above a number, which need not be a key.
+/// The smallest key above a number, which need not be a key. It reads the leaf
+/// that the number belongs to and, only if that holds no larger key, the leaf
+/// after it; if one of them is damaged, it says [`Refusal::Unsound`].
 ///
 /// ```
 /// use quote_store::{calls, Edit, Store};
@@ -111,6 +141,10 @@ pub fn next_key(image: &[u8], key: u64) -> Result<Option<u64>, Refusal> {
 /// The rules for the keys of edits hold for the whole list. Pages, log and tape
 /// play no part: a transaction of the list may still be refused with 10 to 13.
 /// The key asked is refused as edit 0, and the list's own faults come first.
+/// Of the leaves it reads those that the keys of the list belong to, and last
+/// that of the key asked, if no edit has it. A damaged one is
+/// [`Refusal::Unsound`], and comes before the key rule of the first edit that
+/// needs it.
 ///
 /// ```
 /// use quote_store::{calls, encode, Edit, Preview, Refusal, Store};

@@ -1,6 +1,7 @@
 //! Document 01, 'Each call and when it says no': "A refusal gives its number
 //! and edit number from 0 (0 unless 5 to 11 in a transaction)." Document 02, of
-//! the preview: "Edit numbers are as in a transaction, 0 for the key asked."
+//! the preview: "Edit numbers are as in a transaction, 0 for the key asked." A
+//! leaf's 4 has 0 there too, though it comes up at an edit.
 
 use std::fmt;
 
@@ -32,7 +33,9 @@ pub enum Refusal {
     /// 3: a power failure cut a commit; [`Store::open`](crate::Store::open) or
     /// [`calls::recover`](crate::calls::recover) finishes it.
     MarkWaits,
-    /// 4: the image is not that of a store.
+    /// 4: the image is not that of a store. Of a lookup, a next key or a preview:
+    /// page 0, the index or a leaf that was read is not; other quotes may still
+    /// be answered.
     Unsound,
     /// 5: no edit, a seventeenth, or one that is malformed.
     BadList { edit: usize },
@@ -152,7 +155,9 @@ impl Refusal {
             Refusal::ImageSize => "the image is not 8 to 64 whole pages of 1,024 bytes",
             Refusal::WorkSize => "the work buffer is not as long as the image",
             Refusal::MarkWaits => "a power failure cut a commit: recover the store first",
-            Refusal::Unsound => "the image is not that of a sound store",
+            Refusal::Unsound => {
+                "the image, or the part of it that was read, is not that of a sound store"
+            }
             Refusal::BadList { .. } => {
                 "the list is empty, has a 17th edit, or this edit is malformed"
             }

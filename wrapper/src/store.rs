@@ -6,7 +6,9 @@ use crate::{calls, encode, tape_length, Commit, Edit, Preview, Refusal, PAGE};
 /// An image has 64 pages at most.
 const MOST_PAGES: usize = 64;
 
-/// A store in memory of its own. Its image is always sound.
+/// A store in memory of its own. Its image is always sound: [`open`](Store::open)
+/// refuses a damaged one, of which [`calls`] may still read the quotes of good
+/// leaves.
 ///
 /// What [`open`](Store::open) and [`apply`](Store::apply) do to the image, a
 /// device is to do too: their commands wait in the store, in order, until

@@ -3,7 +3,7 @@
 use cases::lists::List;
 use cases::random::Random;
 use cases::stores::any_built;
-use quote_store::{calls, encode, Edit, Preview, Refusal, Store, LAST_KEY};
+use quote_store::{calls, encode, Edit, Preview, Refusal, Store, LAST_KEY, PAGE};
 use std::collections::{BTreeMap, BTreeSet};
 
 const SEED: u64 = 20_250_117;
@@ -247,14 +247,18 @@ fn refusals_come_in_their_order() {
     }
 }
 
-/// The image's refusals come before all others.
+/// The refusals of page 0 and of the index come before all others, in this
+/// order. (Those of leaves: tests/leaves.rs.)
 #[test]
-fn image_is_judged_first() {
+fn page_0_and_index_are_judged_first() {
     let mut image = two_quotes().image().to_vec();
     assert_eq!(calls::preview(&image[1..], &[], 0), Err(Refusal::ImageSize));
-    // A mark over no header is wrong; over one, it waits.
-    image[..3].copy_from_slice(&[1, 0, 1]);
+    // The index calls itself a leaf.
+    image[PAGE + 4] = 1;
     assert_eq!(calls::preview(&image, &[], 0), Err(Refusal::Unsound));
-    image[1] = 1;
+    // A mark over one header waits; over none, it is wrong.
+    image[..3].copy_from_slice(&[1, 1, 1]);
     assert_eq!(calls::preview(&image, &[], 0), Err(Refusal::MarkWaits));
+    image[1] = 0;
+    assert_eq!(calls::preview(&image, &[], 0), Err(Refusal::Unsound));
 }

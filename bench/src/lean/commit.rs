@@ -1,7 +1,7 @@
 //! The tape, once the edits are made: what changed, how long the tape is, and
 //! then its commands.
 
-use super::image::{half, record, word};
+use super::page::{half, record, word};
 use super::tape::{bits, Writer, FLUSH, LINE_STORE, WORD_STORE};
 use super::tree::{put_word, Tree};
 use super::PAGE;

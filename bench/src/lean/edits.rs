@@ -1,6 +1,6 @@
 //! The edit list, taken apart in one pass.
 
-use super::image::{good_key, word};
+use super::page::{good_key, word};
 
 #[derive(Clone, Copy)]
 pub struct Edit {

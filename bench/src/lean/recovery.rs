@@ -4,7 +4,8 @@
 //! Why the raw pointers are sound: a logged page number is judged to be below N
 //! before it is used, and the tape's length before it is written.
 
-use super::image::{half, page_zero, sound, word};
+use super::image::{page_zero, sound};
+use super::page::{half, word};
 use super::tape::{Writer, FLUSH, LINE_STORE, WORD_STORE};
 use super::{good_length, PAGE};
 use std::ptr::copy_nonoverlapping;

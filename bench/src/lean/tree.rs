@@ -1,7 +1,8 @@
 //! The edits made in work, page by page.
 
 use super::edits::Edit;
-use super::image::{half, not_above, record, route, word, SLOTS};
+use super::page::{half, not_above, record, word, INDEX, LEAF, SLOTS};
+use super::read::route;
 use super::tape::bits;
 use super::PAGE;
 use std::mem::MaybeUninit;
@@ -9,8 +10,6 @@ use std::ptr::{copy, copy_nonoverlapping};
 
 const ROOM: usize = PAGE - 64;
 const INDEX_RECORD: usize = 24;
-const LEAF: u64 = 1;
-const INDEX: u64 = 2;
 
 /// Work while the edits are made; sets of pages have one bit a page.
 pub struct Tree {

@@ -6,7 +6,8 @@ use mathlib.Core.Logic.{_⊎_}
 use mathlib.Core.List.{List}
 use lib.ListN.{length}
 use Rattle.device.specs.declared.Refusal.{Refusal}
-use Rattle.image.specs.Calls.{lookupCall}
+use Rattle.device.specs.declared.Answer.the-variants as answers
+use Rattle.image.specs.Calls.{checkCall, lookupCall}
 use Rattle.journal.specs.declared.Commit.{Commit}
 use Rattle.preview.specs.Calls.{previewCall}
 use Rattle.preview.specs.Says.{previewed, lookedUp}
@@ -21,18 +22,20 @@ AsCommitted =
     (a work tape bytes : List ℕ) (c : Commit) → transactionCall a work tape bytes .answer ≡ Accepted c → (k : ℕ) →
     previewed a bytes (previewCall a bytes k) ≡ lookedUp (transactionCall a work tape bytes .work) (lookupCall (transactionCall a work tape bytes .work) k)
 
--- refused for the image, the list or a key, with 1 to 9 but not for its work buffer: so is the preview of a key in range, with the same number and edit number
+-- refused for the image's length or a mark that waits, the list or a key, with 1 to 9 but not for its work buffer or an unsound image: so is the preview of a key in range, with the same number
+-- and edit number
 abbrev pub RefusedAlike : Type 0
 RefusedAlike =
-    (a work tape bytes : List ℕ) (r : Refusal) → transactionCall a work tape bytes .answer ≡ Refused r → r .number ≤ 9 → (r .number ≡ 2 → ⊥) →
+    (a work tape bytes : List ℕ) (r : Refusal) → transactionCall a work tape bytes .answer ≡ Refused r → r .number ≤ 9 → (r .number ≡ 2 → ⊥) → (r .number ≡ 4 → ⊥) →
     (k : ℕ) → 1 ≤ k → k ≤ 999999999999 → previewCall a bytes k ≡ previews.Refused r
 
--- the transaction's answer is a refusal: the preview's refusal r, or that an edit before that of r has too little room (10 or 11), which a preview does not ask for
-abbrev pub RefusedSo : Refusal → Transacted → Type 0
-RefusedSo r answer = (s : Refusal) × (answer ≡ Refused s) × ((s ≡ r) ⊎ ((10 ≤ s .number) × (s .number ≤ 11) × (s .edit < r .edit)))
+-- the transaction's answer is a refusal: the preview's refusal r; or that an edit before that of r has too little room (10 or 11), which a preview does not ask for; or that the image is
+-- unsound (4), where the preview is refused for a list or a key that it comes to first
+abbrev pub RefusedSo : List ℕ → Refusal → Transacted → Type 0
+RefusedSo a r answer = (s : Refusal) × (answer ≡ Refused s) × ((s ≡ r) ⊎ (((10 ≤ s .number) × (s .number ≤ 11) × (s .edit < r .edit)) ⊎ ((s .number ≡ 4) × (checkCall a ≡ answers.Refused s))))
 
 -- and the other way: where the preview of a key in range is refused, the transaction with a work buffer of the image's length is refused so
 abbrev pub RefusedToo : Type 0
 RefusedToo =
     (a work tape bytes : List ℕ) → length work ≡ length a → (k : ℕ) → 1 ≤ k → k ≤ 999999999999 → (r : Refusal) → previewCall a bytes k ≡ previews.Refused r →
-    RefusedSo r (transactionCall a work tape bytes .answer)
+    RefusedSo a r (transactionCall a work tape bytes .answer)

@@ -7,38 +7,14 @@ use mathlib.Core.Bool.{Bool, true, false, _&&_, _||_}
 use mathlib.Core.List.{List}
 use native.Mathlib.Omega.{arith}
 use lib.ListN.{length}
-use lib.Dec.{eqb, ltb, leb}
-use borrow.Author.Tests.{ltb-true, ltb-false, lt-ltb, le-ltb, leb-true, leb-false, le-leb, lt-leb, eqb-true, eq-eqb}
-use Rattle.codec.proofs.Tests.{both, first, second}
+use lib.Dec.{eqb, ltb}
+use borrow.Author.Tests.{ltb-true, ltb-false, lt-ltb, le-ltb, eqb-true, eq-eqb}
+use Rattle.codec.proofs.Tests.{first, second}
 use Rattle.codec.proofs.Agree.{either}
-use Rattle.page.specs.Layout.{topKey}
-use Rattle.image.specs.Calls.{keyOk}
+use Rattle.image.proofs.KeyRange.{keyOk-true, true-keyOk, keyOk-false, false-keyOk}
 use Rattle.edit.specs.EditList.{headSize, kindIn, lengthIn, faultIn}
 use Rattle.edit.specs.Reads.{Known, Fault, head-short, unknown-kind, delete-long, long-value, value-short, bad-key, none}
 use Rattle.edit.proofs.General.{neither, not-both, by-test}
-
--- ---- the range of a key
-
-pub keyOk-true : (k : ℕ) → keyOk k ≡ true → (1 ≤ k) × (k ≤ 999999999999)
-unfolding keyOk
-keyOk-true k h = (leb-true 1 k (first (leb 1 k) (leb k topKey) h), leb-true k topKey (second (leb 1 k) (leb k topKey) h))
-
-pub true-keyOk : (k : ℕ) → 1 ≤ k → k ≤ 999999999999 → keyOk k ≡ true
-unfolding keyOk
-true-keyOk k h g = both (le-leb 1 k h) (le-leb k topKey g)
-
-pub keyOk-false : (k : ℕ) → keyOk k ≡ false → (k < 1) ⊎ (999999999999 < k)
-unfolding keyOk
-keyOk-false k h = go (leb 1 k) refl
-  where
-    go : (b : Bool) → leb 1 k ≡ b → (k < 1) ⊎ (999999999999 < k)
-    go true e = inr (leb-false k topKey (not-both (leb 1 k) (leb k topKey) h e))
-    go false e = inl (leb-false 1 k e)
-
-pub false-keyOk : (k : ℕ) → (k < 1) ⊎ (999999999999 < k) → keyOk k ≡ false
-unfolding keyOk
-false-keyOk k (inl h) = rw (lt-leb 1 k h)
-false-keyOk k (inr h) = rw (lt-leb k topKey h, le-leb 1 k (omega arith))
 
 -- ---- its kind, and no length with a delete
 

@@ -1,7 +1,7 @@
--- The key rules of edits, by the table that each edit sees: "8 insert of a key present; 9 other edit of a missing key" (document 01, 'Each call
--- and when it says no'). They know nothing of pages.
+-- The key rules of edits, by the records that each edit sees: "8 insert of a key present; 9 other edit of a missing key" (document 01, 'Each call
+-- and when it says no'). They know nothing of pages: where a key is looked for is a parameter, a whole table or what is read for the key.
 -- Assumes nothing.
-use Prim.Native.Nat.{ℕ, suc}
+use Prim.Native.Nat.{ℕ, suc, _+_}
 use mathlib.Core.Path.{_≡_}
 use mathlib.Core.Bool.{Bool, true, false}
 use mathlib.Core.List.{List, [], _∷_, _++_}
@@ -9,11 +9,11 @@ use mathlib.Core.Option.{Option, none, some}
 use lib.ListN.{length}
 use lib.Dec.{eqb}
 use Rattle.codec.specs.Lists.{pick}
-use Rattle.device.specs.Calls.{keyPresent, keyMissing}
+use Rattle.device.specs.Calls.{unsound, keyPresent, keyMissing, refusal}
 use Rattle.page.specs.Layout.{Rec}
 use Rattle.image.specs.Table.{find}
-use Rattle.edit.specs.EditList.{Edit, insert, update, delete}
-use Rattle.edit.specs.Ledger.{applyEdit, applyEdits}
+use Rattle.edit.specs.EditList.{Edit, insert, update, delete, keyOf}
+use Rattle.edit.specs.Ledger.{applyEdit}
 use Rattle.edit.specs.declared.Judged.{Judged}
 use Rattle.edit.specs.declared.Judged.the-variants.{Good, Faulty}
 
@@ -31,12 +31,53 @@ keyRule (insert k v) t = pick (holds k t) keyPresent 0
 keyRule (update k v) t = pick (holds k t) 0 keyMissing
 keyRule (delete k) t = pick (holds k t) 0 keyMissing
 
--- "Then edit by edit", "Each edit sees those before it": the first of the edits es on the table t that breaks its rule; the first of them is edit i
-unfoldable pub keysFrom : ℕ → List Edit → List Rec → Judged
-keysFrom i [] t = Good
-keysFrom i (e ∷ es) t =
-    let rest = keysFrom (suc i) es (applyEdit e t) in
-    pick (eqb (keyRule e t) 0) rest (Faulty (record { number = keyRule e t; edit = i }))
+-- ---- where a key is looked for
+
+-- the records that are read for each key, or none where they cannot be trusted
+abbrev pub Source : Type 0
+Source = ℕ → Option (List Rec)
+
+-- the whole of a table, for every key
+abbrev pub wholly : List Rec → Source
+wholly t k = some t
+
+abbrev pub madeIn : Edit → Option (List Rec) → Option (List Rec)
+madeIn e none = none
+madeIn e (some t) = some (applyEdit e t)
+
+-- "Each edit sees those before it": what is read for each key, with the edit made
+abbrev pub made : Edit → Source → Source
+made e s k = madeIn e (s k)
+
+abbrev pub madeAll : List Edit → Source → Source
+madeAll [] s = s
+madeAll (e ∷ es) s = madeAll es (made e s)
+
+-- ---- a list of edits
+
+-- what is said of edit i, by what is read for its key: "a leaf's 4 comes just before the 8 or 9" (document 02 (b)) and has no edit number
+unfoldable pub keyFault : ℕ → Edit → Option (List Rec) → Judged
+keyFault i e none = Faulty (refusal unsound)
+keyFault i e (some t) = pick (eqb (keyRule e t) 0) Good (Faulty (record { number = keyRule e t; edit = i }))
+
+-- the first, or where it is good the second
+abbrev pub orFault : Judged → Judged → Judged
+orFault Good rest = rest
+orFault (Faulty r) rest = Faulty r
+
+-- "Then edit by edit": the first of the edits es that is refused; the first of them is edit i
+unfoldable pub keysFrom : ℕ → List Edit → Source → Judged
+keysFrom i [] s = Good
+keysFrom i (e ∷ es) s = orFault (keyFault i e (s (keyOf e))) (keysFrom (suc i) es (made e s))
+
+-- the keys that are looked for on the way: those of the edits up to the first that is refused
+abbrev pub onIfGood : Judged → List ℕ → List ℕ
+onIfGood Good ks = ks
+onIfGood (Faulty r) ks = []
+
+unfoldable pub keysRead : ℕ → List Edit → Source → List ℕ
+keysRead i [] s = []
+keysRead i (e ∷ es) s = keyOf e ∷ onIfGood (keyFault i e (s (keyOf e))) (keysRead (suc i) es (made e s))
 
 -- ---- the same as propositions
 
@@ -52,17 +93,33 @@ pub data Broken : Edit → List Rec → ℕ → Type 0 where
   no-update : (k : ℕ) (v : List ℕ) (t : List Rec) → find k t ≡ none → Broken (update k v) t 9
   no-delete : (k : ℕ) (t : List Rec) → find k t ≡ none → Broken (delete k) t 9
 
--- each edit's rule is kept on the table that those before it leave
-abbrev pub AllKept : List Edit → List Rec → Type 0
-AllKept [] t = Unit {0}
-AllKept (e ∷ es) t = Kept e t × AllKept es (applyEdit e t)
+-- the same of what is read for the edit's key: it can be trusted, and keeps the rule
+abbrev pub KeptIn : Edit → Option (List Rec) → Type 0
+KeptIn e none = ⊥
+KeptIn e (some t) = Kept e t
 
--- edit i of es is the first whose rule is broken, with this number: by the ledger's table after the edits before it
-pub record FirstBroken (es : List Edit) (t : List Rec) (number i : ℕ) : Type 0 where
+-- each edit's rule is kept by what those before it leave
+abbrev pub AllKeptBy : List Edit → Source → Type 0
+AllKeptBy [] s = Unit {0}
+AllKeptBy (e ∷ es) s = KeptIn e (s (keyOf e)) × AllKeptBy es (made e s)
+
+-- edit i is refused by what is read for its key, with this number and edit number
+pub data FaultIn (e : Edit) (i : ℕ) : Option (List Rec) → ℕ → ℕ → Type 0 where
+  unread : FaultIn e i none 4 0
+  rule : (t : List Rec) (n : ℕ) → Broken e t n → FaultIn e i (some t) n i
+
+-- the first of the edits es, numbered from i on, that is refused, with its number and edit number: by what the edits before it leave
+pub record FirstFault (i : ℕ) (es : List Edit) (s : Source) (number edit : ℕ) : Type 0 where
   pub before : List Edit
   pub culprit : Edit
   pub rest : List Edit
   pub shape : es ≡ before ++ culprit ∷ rest
-  pub place : i ≡ length before
-  pub kept : AllKept before t
-  pub broken : Broken culprit (applyEdits before t) number
+  pub kept : AllKeptBy before s
+  pub fault : FaultIn culprit (i + length before) (madeAll before s (keyOf culprit)) number edit
+
+-- the same by the ledger's table
+abbrev pub AllKept : List Edit → List Rec → Type 0
+AllKept es t = AllKeptBy es (wholly t)
+
+abbrev pub FirstBroken : List Edit → List Rec → ℕ → ℕ → Type 0
+FirstBroken es t number i = FirstFault 0 es (wholly t) number i

@@ -1,46 +1,43 @@
--- One descent: the routed slot by a search of the index, and what a sound image says of the pages on the way.
+-- One descent: the routed slot by a search of the index, the place that it leads to, and what the code knows of the leaf there.
 -- Assumes nothing.
 use Prim.Native.Nat.{ℕ, zero, suc, _+_, _-_, _*_, _≤_, _<_}
 use mathlib.Core.Path.{_≡_, refl, sym, ap, _∙_}
 use mathlib.Core.Bool.{Bool, true, false}
-use mathlib.Core.List.{List, [], _∷_, map}
+use mathlib.Core.List.{List, [], _∷_}
 use native.Mathlib.Omega.{arith}
 use native.Mathlib.Numerals.{add-one}
 use native.Mathlib.Nat.{not-suc-le-zero}
-use lib.ListN.{length, getD, drop, drop-of-length-le}
+use lib.ListN.{length, getD, drop}
 use lib.Dec.{leb, ltb, eqb}
 use borrow.Author.Tests.{ltb-true, ltb-false, eqb-true, eqb-false, le-leb, lt-leb}
 use Rattle.codec.specs.Lists.{pick}
-use Rattle.codec.proofs.Tests.{All-map}
-use Rattle.page.specs.Layout.{pageSize, leafKind, indexKind, topKey, Rec, recOf}
-use Rattle.page.specs.Page.{records, entries, laidOut, pageOk, keysRise, RecOk}
+use Rattle.codec.proofs.Tests.{everything, All-map}
+use Rattle.page.specs.Layout.{pageSize, leafKind, topKey, Rec, recOf}
+use Rattle.page.specs.Page.{records, laidOut, pageOk, keysRise, RecOk}
 use Rattle.page.specs.Operations.{pageOf}
 use Rattle.page.specs.Search.{searched}
 use Rattle.page.specs.declared.Search.{Search}
 use Rattle.page.specs.declared.Search.the-variants.{At, Missing}
-use Rattle.page.proofs.Facts.{pageOk-true, records-ok}
-use Rattle.image.specs.PageZero.{pageCount, isPage, rootOf}
-use Rattle.image.specs.Image.{childOf, children, nextSep, sound}
-use Rattle.image.specs.Facts.{Rising, Index, Leaves}
-use Rattle.image.specs.Table.{table, listing, inImage, foundIn, above}
+use Rattle.page.proofs.Facts.{records-ok}
+use Rattle.image.specs.PageZero.{pageCount, isPage}
+use Rattle.image.specs.Image.{childOf, firstKey, places, leafOk, leafAt}
+use Rattle.image.specs.Facts.{Rising, Index}
+use Rattle.image.specs.Table.{above}
 use Rattle.image.specs.Route.{lastFrom, route}
+use Rattle.image.specs.Descent.{leafFor, leafSound}
+use Rattle.image.specs.Calls.{indexCall}
+use Rattle.image.specs.declared.Place.{Place}
+use Rattle.image.specs.declared.Root.the-variants as roots
 use Rattle.image.specs.declared.Next.the-variants.{Last}
+use Rattle.image.proofs.Zero.{size-true, ready-facts}
 use Rattle.image.proofs.Rising.{From, rising-from, rising-below, rise-rising}
-use Rattle.image.proofs.Zero.{Size, size-true, ready-facts}
-use Rattle.image.proofs.Soundness.{sound-facts, sound-tree}
-use Rattle.image.proofs.Order.{table-rising}
-use Rattle.image.proofs.Routing.{orElse, aboveFirst, above-none, routedPage, tree-routed, found-routed, next-routed}
+use Rattle.image.proofs.Soundness.{page-rising}
+use Rattle.image.proofs.Routing.{routed, above-none}
+use Rattle.image.proofs.Belonging.{above-all, leaf-is, belongs, own-page}
 use Rattle.image.proofs.Values.{page-fits}
-use Rattle.image.proofs.CodePages.{drop-next}
-use Rattle.image.proofs.CodeTree.{index-page, index-laid, index-records, index-two, index-leaf}
+use Rattle.image.proofs.Read.{call-opened}
 
 -- ---- the routed slot
-
--- separators above k do not count
-above-all : (k d i : ℕ) (cs : List Rec) → From (suc k) cs → lastFrom k d i cs ≡ d
-unfolding lastFrom
-above-all k d i [] f = refl
-above-all k d i (c ∷ cs) f = rw (lt-leb (c .key) k (f .0)) (above-all k d (suc i) cs (f .1))
 
 -- the slot that a search tells: the key's own, or the one before its place
 abbrev pub slotOf : Search → ℕ
@@ -79,90 +76,65 @@ pub route-searched : (p : List ℕ) → laidOut p ≡ true → keysRise (records
 unfolding route
 route-searched p ok rise k s e = ap slotOf e ∙ route-from k 0 0 0 (records p) (suc topKey) (laid-rising p ok rise) refl
 
--- ---- the pages on the way, in a sound image
+-- ---- one step down, by the slot
 
-leaf-at : (img : List ℕ) (only : Bool) (lo : ℕ) (cs : List Rec) (i : ℕ) (d : Rec) → Leaves img only lo cs → i < length cs →
-    pageOk leafKind (childOf (getD cs i d)) (pageOf img (childOf (getD cs i d))) ≡ true
-leaf-at img only lo [] i d h less = absurd (not-suc-le-zero less)
-leaf-at img only lo (c ∷ cs) zero d h less = h .0 .page
-leaf-at img only lo (c ∷ cs) (suc i) d h less = leaf-at img only (nextSep cs) cs i d (h .1) (omega arith)
+module _ (lo : ℕ) (cs : List Rec) (hi : ℕ) (z : Place) (d : Rec) where
+  pub place-first : 1 ≤ length cs → getD (places lo cs hi) 0 z ≡ record { page = childOf (getD cs 0 d); from = lo; below = firstKey (drop 1 cs) hi }
+  unfolding places
+  place-first h = go cs h
+    where
+      go : (l : List Rec) → 1 ≤ length l → getD (places lo l hi) 0 z ≡ record { page = childOf (getD l 0 d); from = lo; below = firstKey (drop 1 l) hi }
+      go [] q = absurd (not-suc-le-zero q)
+      go (c ∷ l) q = refl
 
--- what the code knows of the index page p, and of the leaf of its i-th record
-pub record Way (img p : List ℕ) : Type 0 where
-  pub laid : laidOut p ≡ true
-  pub rise : keysRise (records p) ≡ true
-  pub inside : (k i : ℕ) → i ≡ route k (records p) → i < length (records p)
-  pub two : (i : ℕ) → i < length (records p) → length (getD (records p) i (recOf 0 []) .value) ≡ 2
+place-next : (lo : ℕ) (cs : List Rec) (hi : ℕ) (z : Place) (d : Rec) (i : ℕ) → suc i < length cs →
+    getD (places lo cs hi) (suc i) z ≡ record { page = childOf (getD cs (suc i) d); from = getD cs (suc i) d .key; below = firstKey (drop (suc (suc i)) cs) hi }
+unfolding places
+place-next lo [] hi z d i h = absurd (not-suc-le-zero h)
+place-next lo (b ∷ []) hi z d i h = absurd (omega arith)
+place-next lo (b ∷ c ∷ cs) hi z d zero h = refl
+place-next lo (b ∷ c ∷ cs) hi z d (suc i) h = place-next (c .key) (c ∷ cs) hi z d i (omega arith)
 
-pub record LeafAt (img p : List ℕ) (i leaf : ℕ) : Type 0 where
-  pub less : i < length (records p)
-  pub child : leaf ≡ childOf (getD (records p) i (recOf 0 []))
-  pub ok : pageOk leafKind leaf (pageOf img leaf) ≡ true
-  pub fits : pageSize * leaf + pageSize ≤ length img
+pub place-later : (lo : ℕ) (cs : List Rec) (hi : ℕ) (z : Place) (d : Rec) (i : ℕ) → (i ≡ 0 → ⊥) → i < length cs →
+    getD (places lo cs hi) i z ≡ record { page = childOf (getD cs i d); from = getD cs i d .key; below = firstKey (drop (i + 1) cs) hi }
+place-later lo cs hi z d zero some h = absurd (some refl)
+place-later lo cs hi z d (suc i) some h =
+    let e : suc (suc i) ≡ suc i + 1 = omega arith in
+    place-next lo cs hi z d i h ∙ ap (λ (n : ℕ). record { page = childOf (getD cs (suc i) d); from = getD cs (suc i) d .key; below = firstKey (drop n cs) hi }) e
 
-module _ (img : List ℕ) (h : sound img ≡ true) where
-  pub sound-size : Size (length img)
-  sound-size = size-true (length img) (sound-facts img h .size)
+-- the slot that a key belongs to is one of a page that lists a record
+pub route-inside : (kind own : ℕ) (p : List ℕ) → pageOk kind own p ≡ true → 1 ≤ length (records p) → (k : ℕ) → route k (records p) < length (records p)
+route-inside kind own p ok some k = routed k 0 (records p) (suc topKey) (recOf 0 []) (page-rising kind own p ok) some .inside
 
-  pub sound-root : pageSize * rootOf img + pageSize ≤ length img
-  sound-root = page-fits img (rootOf img) (ready-facts img (rootOf img) (sound-facts img h .zero) .page)
+-- ---- the leaf that is read
 
-  -- "Keys are .. to 999,999,999,999"
-  pub above-largest : (k : ℕ) → topKey ≤ k → above k (table img) ≡ Last
-  above-largest k q =
-      above-none k (table img)
-      (All-map (λ (r : Rec). r .key < suc topKey) (λ (r : Rec). r .key < suc k) (λ r b. omega arith) (table img)
-      (rising-below 1 (table img) (suc topKey) (table-rising img h)))
+module _ (img : List ℕ) (root : ℕ) (e : indexCall img ≡ roots.At root) where
+  pub index : Index img root
+  index = call-opened img root e .index
 
-  module _ (p : List ℕ) (e : p ≡ pageOf img (rootOf img)) where
-    index : Index img (rootOf img)
-    index = sound-facts img h .index
+  pub root-fits : pageSize * root + pageSize ≤ length img
+  root-fits = page-fits img root (ready-facts img root (call-opened img root e .zero) .page)
 
-    cs-is : records p ≡ children img (rootOf img)
-    cs-is = index-records img (rootOf img) index p e
+  leaf-page : (k : ℕ) → isPage (pageCount img) (leafFor img root k .page) ≡ true
+  leaf-page k =
+      let b = belongs img root index k in
+      ap (λ (p : Place). isPage (pageCount img) (p .page)) (leaf-is img root k b) ∙ own-page img root index k b
 
-    pub way : Way img p
-    way =
-        record {
-          laid = index-laid img (rootOf img) index p e;
-          rise = pageOk-true indexKind (rootOf img) p (index-page img (rootOf img) index p e) .rise;
-          inside =
-              λ k i r.
-              let t = tree-routed img (rootOf img) (sound-tree img (sound-facts img h)) k (recOf 0 []) .inside in
-              omega (arith, ap (λ (cs : List Rec). route k cs) cs-is, ap (λ (cs : List Rec). length cs) cs-is);
-          two = λ i less. index-two img (rootOf img) index p e i (recOf 0 []) less;
-        }
+  pub leaf-fits : (k : ℕ) (p : Place) → p ≡ leafFor img root k → pageSize * p .page + pageSize ≤ length img
+  leaf-fits k p f = page-fits img (p .page) (ap (λ (q : Place). isPage (pageCount img) (q .page)) f ∙ leaf-page k)
 
-    pub leaf-way : (i leaf : ℕ) → leaf ≡ childOf (getD (records p) i (recOf 0 [])) → i < length (records p) → LeafAt img p i leaf
-    leaf-way i leaf l less =
-        let cs = children img (rootOf img) in
-        let f : leaf ≡ childOf (getD cs i (recOf 0 [])) = l ∙ ap (λ (x : List Rec). childOf (getD x i (recOf 0 []))) cs-is in
-        let sound-leaf = leaf-at img (eqb (length cs) 1) 0 cs i (recOf 0 []) (sound-facts img h .leaves) (omega (arith, ap (λ (x : List Rec). length x) cs-is)) in
-        record {
-          less = less;
-          child = l;
-          ok = rw f sound-leaf;
-          fits = page-fits img leaf (ap (isPage (pageCount img)) l ∙ index-leaf img (rootOf img) index p e i (recOf 0 []) less);
-        }
+  -- "An image has N pages, 8 to 64"
+  pub leaf-few : (k : ℕ) (p : Place) → p ≡ leafFor img root k → p .page < 64
+  leaf-few k p f = omega (arith, leaf-fits k p f, size-true (length img) (call-opened img root e .size) .high)
 
-    -- the leaf that k belongs to alone answers a lookup; it or the leaf after it answers a next key
-    module _ (k i leaf : ℕ) (r : i ≡ route k (records p)) (l : LeafAt img p i leaf) where
-      routed-is : routedPage k (children img (rootOf img)) (recOf 0 []) ≡ leaf
-      routed-is = sym (l .child ∙ ap (λ (j : ℕ). childOf (getD (records p) j (recOf 0 []))) r ∙ ap (λ (x : List Rec). routedPage k x (recOf 0 [])) cs-is)
+-- a leaf that is sound is a sound page
+pub sound-page : (img : List ℕ) (root : ℕ) (p : Place) → leafSound img root p ≡ true → pageOk leafKind (p .page) (pageOf img (p .page)) ≡ true
+unfolding leafSound leafAt leafOk
+sound-page img root p h = everything _ h .0
 
-      pub lookup-leaf : foundIn k (listing img) ≡ foundIn k (map (inImage leaf) (entries (pageOf img leaf)))
-      lookup-leaf =
-          found-routed img h k (recOf 0 []) ∙ ap (λ (q : ℕ). foundIn k (map (inImage q) (entries (pageOf img q)))) routed-is
-
-      pub next-leaf : above k (table img) ≡ orElse (above k (records (pageOf img leaf))) (aboveFirst img k (drop (i + 1) (records p)))
-      next-leaf =
-          next-routed img h k (recOf 0 [])
-          ∙ ap (λ (q : ℕ). orElse (above k (records (pageOf img q))) (aboveFirst img k (drop (suc (route k (children img (rootOf img)))) (children img (rootOf img))))) routed-is
-          ∙ rw (← cs-is, ← r, add-one)
-
--- the next key in the first of the leaves from the i-th on
-pub first-leaf : (img p : List ℕ) (k i leaf : ℕ) → LeafAt img p i leaf → aboveFirst img k (drop i (records p)) ≡ above k (records (pageOf img leaf))
-first-leaf img p k i leaf l = rw (drop-next (records p) i (recOf 0 []) (l .less), l .child)
-
-pub first-none : (img p : List ℕ) (k i : ℕ) → length (records p) ≤ i → aboveFirst img k (drop i (records p)) ≡ Last
-first-none img p k i q = rw (drop-of-length-le (records p) {i = i} q)
+-- "Keys are .. to 999,999,999,999"
+pub above-largest : (kind own : ℕ) (p : List ℕ) → pageOk kind own p ≡ true → (k : ℕ) → topKey ≤ k → above k (records p) ≡ Last
+above-largest kind own p ok k q =
+    above-none k (records p)
+    (All-map (λ (r : Rec). r .key < suc topKey) (λ (r : Rec). r .key < suc k) (λ r b. omega arith) (records p)
+    (rising-below 0 (records p) (suc topKey) (page-rising kind own p ok)))

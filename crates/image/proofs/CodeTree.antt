@@ -17,7 +17,7 @@ use Rattle.page.specs.Operations.{pageOf}
 use Rattle.page.proofs.Facts.{pageOk-true}
 use Rattle.page.proofs.CheckBytes.{same-test}
 use Rattle.image.specs.PageZero.{pageCount, isPage}
-use Rattle.image.specs.Image.{childOf, children, reached, indexOk, nextSep, leafOk, leavesOk, treeOk}
+use Rattle.image.specs.Image.{childOf, children, reached, indexOk, firstKey, places, leafOk, leafAt, leavesOk, treeOk}
 use Rattle.image.specs.Facts.{Rising, Index}
 use Rattle.image.proofs.Zero.{Size}
 use Rattle.image.proofs.Rising.{From, Below, rising-from}
@@ -133,26 +133,24 @@ module _ (only : Bool) (lo hi own : ℕ) (p : List ℕ) where
 
 -- ---- the leaves, one by one
 
-pub sep-here : (cs : List Rec) (i : ℕ) (d : Rec) → i < length cs → nextSep (drop i cs) ≡ getD cs i d .key
-unfolding nextSep
-sep-here cs i d h = rw (drop-next cs i d h)
+pub sep-here : (cs : List Rec) (i : ℕ) (d : Rec) (end : ℕ) → i < length cs → firstKey (drop i cs) end ≡ getD cs i d .key
+sep-here cs i d end h = rw (drop-next cs i d h)
 
-pub sep-end : (cs : List Rec) (i : ℕ) → length cs ≤ i → nextSep (drop i cs) ≡ suc topKey
-unfolding nextSep
-sep-end cs i h = rw (drop-of-length-le cs {i = i} h)
+pub sep-end : (cs : List Rec) (i end : ℕ) → length cs ≤ i → firstKey (drop i cs) end ≡ end
+sep-end cs i end h = rw (drop-of-length-le cs {i = i} h)
 
 module _ (img : List ℕ) (only : Bool) (lo : ℕ) (cs : List Rec) (i : ℕ) where
   pub leaves-end : length cs ≤ i → leavesOk img only lo (drop i cs) ≡ true
-  unfolding leavesOk
+  unfolding leavesOk leafAt places allB
   leaves-end h = rw (drop-of-length-le cs {i = i} h)
 
-  module _ (d : Rec) (less : i < length cs) (hi : ℕ) (e : hi ≡ nextSep (drop (i + 1) cs)) (leaf : ℕ) (f : leaf ≡ childOf (getD cs i d)) where
+  module _ (d : Rec) (less : i < length cs) (hi : ℕ) (e : hi ≡ firstKey (drop (i + 1) cs) (suc topKey)) (leaf : ℕ) (f : leaf ≡ childOf (getD cs i d)) where
     pub leaves-on : leafOk only lo hi leaf (pageOf img leaf) ≡ true → leavesOk img only hi (drop (i + 1) cs) ≡ leavesOk img only lo (drop i cs)
-    unfolding leavesOk
+    unfolding leavesOk leafAt places allB
     leaves-on t = rw (drop-next cs i d less, ← e, ← f, t)
 
     pub leaves-stop : leafOk only lo hi leaf (pageOf img leaf) ≡ false → leavesOk img only lo (drop i cs) ≡ false
-    unfolding leavesOk
+    unfolding leavesOk leafAt places allB
     leaves-stop t = rw (drop-next cs i d less, ← e, ← f, t)
 
 -- ---- the tree

@@ -30,58 +30,71 @@ use Rattle.image.proofs.Values.{Listed, listing-listed}
 
 -- ---- lookup and table
 
--- what a lookup's answer among the entries es says of their records
-abbrev Tells : List ℕ → ℕ → List Entry → Lookup → Type 0
-Tells img k es (lookups.Found o n) = (find k (recs es) ≡ some (part img o n)) × (length (part img o n) ≡ n) × (o + n ≤ length img)
-Tells img k es lookups.Missing = find k (recs es) ≡ none
-Tells img k es (lookups.Refused r) = ⊥
+-- what a lookup's answer says of records whose values stand in the image
+abbrev pub Told : List ℕ → ℕ → List Rec → Lookup → Type 0
+Told img k rs (lookups.Found o n) = (find k rs ≡ some (part img o n)) × (length (part img o n) ≡ n) × (o + n ≤ length img)
+Told img k rs lookups.Missing = find k rs ≡ none
+Told img k rs (lookups.Refused r) = ⊥
 
-tells : (img : List ℕ) (k : ℕ) (es : List Entry) → All (Listed img) es → Tells img k es (foundIn k es)
+tells : (img : List ℕ) (k : ℕ) (es : List Entry) → All (Listed img) es → Told img k (recs es) (foundIn k es)
 unfolding find foundIn
 tells img k [] h = refl
 tells img k (e ∷ es) h = go (eqb (e .rec .key) k) refl (tells img k es (h .1))
   where
-    on : (a : Lookup) → eqb (e .rec .key) k ≡ false → Tells img k es a → Tells img k (e ∷ es) a
+    on : (a : Lookup) → eqb (e .rec .key) k ≡ false → Told img k (recs es) a → Told img k (recs (e ∷ es)) a
     on (lookups.Found o n) d t = (rw d (t .0), t .1, t .2)
     on lookups.Missing d t = rw d t
     on (lookups.Refused r) d t = t
 
-    go : (t : Bool) → eqb (e .rec .key) k ≡ t → Tells img k es (foundIn k es) →
-        Tells img k (e ∷ es) (pick t (lookups.Found (e .at + 16) (length (e .rec .value))) (foundIn k es))
+    go : (t : Bool) → eqb (e .rec .key) k ≡ t → Told img k (recs es) (foundIn k es) →
+        Told img k (recs (e ∷ es)) (pick t (lookups.Found (e .at + 16) (length (e .rec .value))) (foundIn k es))
     go true d t = (rw d (ap some (sym (h .0 .value))), ap length (h .0 .value), h .0 .inside)
     go false d t = on (foundIn k es) d t
 
+-- entries whose values stand in the image where they say
+module _ (img : List ℕ) (k : ℕ) (es : List Entry) (h : All (Listed img) es) where
+  pub entries-tell : (a : Lookup) → foundIn k es ≡ a → Told img k (recs es) a
+  entries-tell a e = subst (Told img k (recs es)) e (tells img k es h)
+
+  pub entries-answer : (r : Refusal) → foundIn k es ≡ lookups.Refused r → ⊥
+  entries-answer r e = entries-tell (lookups.Refused r) e
+
+  pub found-entries : (v : List ℕ) → find k (recs es) ≡ some v → (o : ℕ) × (n : ℕ) × (foundIn k es ≡ lookups.Found o n) × (part img o n ≡ v)
+  found-entries v e = go (foundIn k es) refl (tells img k es h)
+    where
+      go : (a : Lookup) → foundIn k es ≡ a → Told img k (recs es) a → (o : ℕ) × (n : ℕ) × (foundIn k es ≡ lookups.Found o n) × (part img o n ≡ v)
+      go (lookups.Found o n) f t = (o, n, f, Option·some-injective (part img o n) v (sym (t .0) ∙ e))
+      go lookups.Missing f t = let z : _≡_ {A = ℕ} 0 1 = cc (t, e) in absurd (omega arith)
+      go (lookups.Refused r) f t = absurd t
+
+  pub missing-entries : find k (recs es) ≡ none → foundIn k es ≡ lookups.Missing
+  missing-entries e = go (foundIn k es) (tells img k es h)
+    where
+      go : (a : Lookup) → Told img k (recs es) a → a ≡ lookups.Missing
+      go (lookups.Found o n) t = let z : _≡_ {A = ℕ} 0 1 = cc (t .0, e) in absurd (omega arith)
+      go lookups.Missing t = refl
+      go (lookups.Refused r) t = absurd t
+
+-- those of a sound image
 module _ (img : List ℕ) (s : sound img ≡ true) (k : ℕ) where
-  listing-tells : Tells img k (listing img) (foundIn k (listing img))
-  listing-tells = tells img k (listing img) (listing-listed img s)
+  by-table : find k (table img) ≡ find k (recs (listing img))
+  by-table = ap (find k) (sym (recs-listing img))
 
   pub lookup-found : (o n : ℕ) → foundIn k (listing img) ≡ lookups.Found o n →
       (find k (table img) ≡ some (part img o n)) × (length (part img o n) ≡ n) × (o + n ≤ length img)
-  lookup-found o n e =
-      let t : Tells img k (listing img) (lookups.Found o n) = subst (Tells img k (listing img)) e listing-tells in
-      (ap (find k) (sym (recs-listing img)) ∙ t .0, t .1, t .2)
+  lookup-found o n e = let t = entries-tell img k (listing img) (listing-listed img s) (lookups.Found o n) e in (by-table ∙ t .0, t .1, t .2)
 
   pub lookup-missing : foundIn k (listing img) ≡ lookups.Missing → find k (table img) ≡ none
-  lookup-missing e = ap (find k) (sym (recs-listing img)) ∙ subst (Tells img k (listing img)) e listing-tells
+  lookup-missing e = by-table ∙ entries-tell img k (listing img) (listing-listed img s) lookups.Missing e
 
   pub lookup-answers : (r : Refusal) → foundIn k (listing img) ≡ lookups.Refused r → ⊥
-  lookup-answers r e = subst (Tells img k (listing img)) e listing-tells
+  lookup-answers r e = entries-answer img k (listing img) (listing-listed img s) r e
 
   pub found-lookup : (v : List ℕ) → find k (table img) ≡ some v → (o : ℕ) × (n : ℕ) × (foundIn k (listing img) ≡ lookups.Found o n) × (part img o n ≡ v)
-  found-lookup v e = go (foundIn k (listing img)) refl listing-tells
-    where
-      go : (a : Lookup) → foundIn k (listing img) ≡ a → Tells img k (listing img) a → (o : ℕ) × (n : ℕ) × (foundIn k (listing img) ≡ lookups.Found o n) × (part img o n ≡ v)
-      go (lookups.Found o n) f t = (o, n, f, Option·some-injective (part img o n) v (sym (lookup-found o n f .0) ∙ e))
-      go lookups.Missing f t = let z : _≡_ {A = ℕ} 0 1 = cc (lookup-missing f, e) in absurd (omega arith)
-      go (lookups.Refused r) f t = absurd t
+  found-lookup v e = found-entries img k (listing img) (listing-listed img s) v (sym by-table ∙ e)
 
   pub missing-lookup : find k (table img) ≡ none → foundIn k (listing img) ≡ lookups.Missing
-  missing-lookup e = go (foundIn k (listing img)) refl listing-tells
-    where
-      go : (a : Lookup) → foundIn k (listing img) ≡ a → Tells img k (listing img) a → a ≡ lookups.Missing
-      go (lookups.Found o n) f t = let z : _≡_ {A = ℕ} 0 1 = cc (lookup-found o n f .0, e) in absurd (omega arith)
-      go lookups.Missing f t = refl
-      go (lookups.Refused r) f t = absurd t
+  missing-lookup e = missing-entries img k (listing img) (listing-listed img s) (sym by-table ∙ e)
 
 -- ---- find and the table's records
 

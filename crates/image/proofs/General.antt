@@ -57,3 +57,11 @@ module _ {A : Type 0} (P : A → Type 0) where
   pub All-left : (a b : List A) → All P (a ++ b) → All P a
   All-left [] b h = tt
   All-left (x ∷ a) b h = (h .0, All-left a b (h .1))
+
+  pub All-right : (a b : List A) → All P (a ++ b) → All P b
+  All-right [] b h = h
+  All-right (x ∷ a) b h = All-right a b (h .1)
+
+  pub All-middle : (a : List A) (x : A) (b : List A) → All P (a ++ x ∷ b) → P x
+  All-middle [] x b h = h .0
+  All-middle (y ∷ a) x b h = All-middle a x b (h .1)

@@ -13,9 +13,9 @@ use Rattle.page.specs.Page.{Entry, recs, entries, records, formOk}
 use Rattle.page.specs.Operations.{pageOf}
 use Rattle.page.proofs.Facts.{pageOk-true, leaf-form, recs-entries}
 use Rattle.image.specs.PageZero.{rootOf}
-use Rattle.image.specs.Image.{childOf, children, nextSep, sound}
+use Rattle.image.specs.Image.{childOf, children, startOf, nextSep, sound}
 use Rattle.image.specs.Facts.{Rising, Leaves}
-use Rattle.image.specs.Table.{leafRecords, table, inImage, leafEntries, listing}
+use Rattle.image.specs.Table.{leafRecords, table, inImage, pageEntries, leafEntries, listing}
 use Rattle.image.proofs.General.{map-append, All-append}
 use Rattle.image.proofs.Rising.{From, rising-append, rising-start, rising-split}
 use Rattle.image.proofs.Soundness.{sep-rising, index-rising, sound-facts}
@@ -25,6 +25,10 @@ use Rattle.image.proofs.Soundness.{sep-rising, index-rising, sound-fact
 pub recs-inImage : (q : ℕ) (es : List Entry) → recs (map (inImage q) es) ≡ recs es
 recs-inImage q [] = refl
 recs-inImage q (e ∷ es) = ap (λ (l : List Rec). e .rec ∷ l) (recs-inImage q es)
+
+-- a page's entries are its records
+pub recs-page : (img : List ℕ) (q : ℕ) → recs (pageEntries img q) ≡ records (pageOf img q)
+recs-page img q = recs-inImage q (entries (pageOf img q)) ∙ recs-entries (pageOf img q)
 
 module _ (img : List ℕ) where
   pub leafRecords-append : (a b : List Rec) → leafRecords img (a ++ b) ≡ leafRecords img a ++ leafRecords img b
@@ -48,7 +52,7 @@ module _ (img : List ℕ) where
   recs-leafEntries (c ∷ cs) =
       let p = pageOf img (childOf c) in
       map-append (λ (e : Entry). e .rec) (map (inImage (childOf c)) (entries p)) (leafEntries img cs)
-      ∙ ap (λ (l : List Rec). l ++ recs (leafEntries img cs)) (recs-inImage (childOf c) (entries p) ∙ recs-entries p)
+      ∙ ap (λ (l : List Rec). l ++ recs (leafEntries img cs)) (recs-page img (childOf c))
       ∙ ap (λ (l : List Rec). records p ++ l) (recs-leafEntries cs)
 
 pub recs-listing : (img : List ℕ) → recs (listing img) ≡ table img
@@ -56,11 +60,6 @@ unfolding listing table
 recs-listing img = recs-leafEntries img (children img (rootOf img))
 
 -- ---- keys rise
-
--- where the keys of a leaf start, by the index records before its own: at lo, or at its separator
-abbrev pub startOf : List Rec → ℕ → ℕ → ℕ
-startOf [] lo sep = lo
-startOf (b ∷ pre) lo sep = sep
 
 module _ (img : List ℕ) (only : Bool) where
   pub leaves-rising : (lo : ℕ) (cs : List Rec) → Rising lo cs (suc topKey) → Leaves img only lo cs → Rising lo (leafRecords img cs) (suc topKey)

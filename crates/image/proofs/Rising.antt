@@ -10,6 +10,7 @@ use Rattle.codec.specs.Lists.{All}
 use Rattle.codec.proofs.Tests.{both, first, second}
 use Rattle.page.specs.Layout.{Rec}
 use Rattle.page.specs.Page.{startsAt, keysRise}
+use Rattle.image.specs.Image.{firstKey}
 use Rattle.image.specs.Facts.{Rising}
 
 -- the keys are not below lo, below hi
@@ -51,11 +52,6 @@ rising-start lo lo′ (r ∷ l) hi q f h = (f .0, h .1)
 pub rising-append : (lo : ℕ) (a : List Rec) (mid : ℕ) (b : List Rec) (hi : ℕ) → Rising lo a mid → Rising mid b hi → Rising lo (a ++ b) hi
 rising-append lo [] mid b hi h g = rising-lo mid lo b hi h g
 rising-append lo (r ∷ a) mid b hi h g = (h .0, rising-append (suc (r .key)) a mid b hi (h .1) g)
-
--- the first key, or hi
-abbrev pub firstKey : List Rec → ℕ → ℕ
-firstKey [] hi = hi
-firstKey (r ∷ l) hi = r .key
 
 pub rising-split : (lo : ℕ) (a b : List Rec) (hi : ℕ) → Rising lo (a ++ b) hi → Rising lo a (firstKey b hi) × Rising (firstKey b hi) b hi
 rising-split lo [] [] hi h = (h, omega arith)

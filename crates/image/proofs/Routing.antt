@@ -8,8 +8,8 @@ use mathlib.Core.List.{List, [], _∷_, _++_, map, append-nil}
 use mathlib.Core.Option.{none, some}
 use native.Mathlib.Omega.{arith}
 use native.Mathlib.Nat.{not-suc-le-zero}
-use lib.ListN.{length, getD, take, drop, length-drop, drop-of-length-le}
-use lib.Seq.{split-at, drop-cons}
+use lib.ListN.{length, getD, take, drop, length-drop}
+use lib.Seq.{split-at}
 use lib.Dec.{leb, ltb, eqb}
 use borrow.Author.Tests.{leb-true, leb-false, lt-leb, lt-ltb, le-ltb, ne-eqb}
 use Rattle.codec.specs.Lists.{All, pick}
@@ -18,17 +18,17 @@ use Rattle.page.specs.Layout.{topKey, Rec}
 use Rattle.page.specs.Page.{Entry, recs, entries, records}
 use Rattle.page.specs.Operations.{pageOf}
 use Rattle.image.specs.PageZero.{rootOf}
-use Rattle.image.specs.Image.{childOf, children, nextSep, sound}
+use Rattle.image.specs.Image.{childOf, children, firstKey, startOf, nextSep, sound}
 use Rattle.image.specs.Facts.{Rising, Leaves}
-use Rattle.image.specs.Table.{leafRecords, table, inImage, leafEntries, listing, find, foundIn, above}
+use Rattle.image.specs.Table.{leafRecords, table, inImage, leafEntries, listing, find, foundIn, above, orElse}
 use Rattle.image.specs.Route.{lastFrom, route}
 use Rattle.image.specs.declared.Lookup.the-variants.{Found, Missing}
 use Rattle.image.specs.declared.Next.{Next}
-use Rattle.image.specs.declared.Next.the-variants.{Key, Last, Refused}
+use Rattle.image.specs.declared.Next.the-variants.{Key, Last}
 use Rattle.image.proofs.General.{All-unmap, All-left}
-use Rattle.image.proofs.Rising.{From, Below, firstKey, rising-hi, rising-from, rising-below}
+use Rattle.image.proofs.Rising.{From, Below, rising-hi, rising-from, rising-below}
 use Rattle.image.proofs.Soundness.{Tree, index-rising, sound-facts, sound-tree}
-use Rattle.image.proofs.Order.{leafRecords-append, leafEntries-append, recs-leafEntries, startOf, leaves-before, leaves-from, leaves-after}
+use Rattle.image.proofs.Order.{leafRecords-append, leafEntries-append, recs-leafEntries, leaves-before, leaves-from, leaves-after}
 
 -- ---- the routed place
 
@@ -126,12 +126,6 @@ found-seek k [] = refl
 found-seek k (e ∷ es) = ap (pick (eqb (e .rec .key) k) (Found (e .at + 16) (length (e .rec .value)))) (found-seek k es)
 
 -- ---- a next key
-
--- the first answer, or where it is Last the second
-abbrev pub orElse : Next → Next → Next
-orElse (Key j) y = Key j
-orElse Last y = y
-orElse (Refused r) y = Refused r
 
 -- a key that is not above k is passed over, one that is answers
 pub above-skip : (k : ℕ) (r : Rec) (l : List Rec) → r .key ≤ k → above k (r ∷ l) ≡ above k l
@@ -302,28 +296,6 @@ module _ (img : List ℕ) (root : ℕ) (t : Tree img root) (k : ℕ) (z : Rec) w
   tree-above =
       ap (λ (l : List Rec). above k (leafRecords img l)) shape
       ∙ above-here img (eqb (length cs) 1) (take i cs) (getD cs i z) (drop (suc i) cs) seps held k (tree-routed .low) (tree-routed .high) many
-
-  -- the leaf after the routed one has a record, and larger keys
-  pub tree-after : suc (route k (children img root)) < length (children img root) → After img k (getD (children img root) (suc (route k (children img root))) z)
-  tree-after h =
-      leaf-after img (eqb (length cs) 1) (take i cs) (getD cs i z) (drop (suc i) cs) seps held k (tree-routed .low) (tree-routed .high) many
-      (getD cs (suc i) z) (drop (suc (suc i)) cs) (drop-cons cs (suc i) z h)
-
-  -- the three ends of a next key: in the routed leaf, in the one after it, and where there is none
-  pub next-here : (j : ℕ) → above k (records (pageOf img (routedPage k (children img root) z))) ≡ Key j → above k (leafRecords img (children img root)) ≡ Key j
-  next-here j e = tree-above ∙ ap (λ (x : Next). orElse x (aboveFirst img k (drop (suc i) cs))) e
-
-  module _ (none-here : above k (records (pageOf img (routedPage k (children img root) z))) ≡ Last) where
-    pub next-after : suc (route k (children img root)) < length (children img root) →
-        above k (leafRecords img (children img root)) ≡ above k (records (pageOf img (childOf (getD (children img root) (suc (route k (children img root))) z))))
-    next-after h =
-        tree-above ∙ ap (λ (x : Next). orElse x (aboveFirst img k (drop (suc i) cs))) none-here ∙ ap (aboveFirst img k) (drop-cons cs (suc i) z h)
-
-    pub next-end : length (children img root) ≤ suc (route k (children img root)) → above k (leafRecords img (children img root)) ≡ Last
-    next-end h =
-        tree-above
-        ∙ ap (λ (x : Next). orElse x (aboveFirst img k (drop (suc i) cs))) none-here
-        ∙ ap (aboveFirst img k) (drop-of-length-le cs {i = suc i} h)
 
 -- ---- the same of a sound image
 

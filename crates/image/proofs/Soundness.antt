@@ -9,6 +9,7 @@ use native.Mathlib.Omega.{arith}
 use lib.ListN.{length}
 use lib.Dec.{leb, ltb, eqb}
 use borrow.Author.Tests.{leb-true, le-leb, ltb-true, lt-ltb}
+use Rattle.codec.specs.Lists.{allB}
 use Rattle.codec.proofs.Tests.{both, first, second, everything, all-every, allB-true, true-allB, All-map}
 use Rattle.codec.proofs.Agree.{either}
 use Rattle.device.specs.Calls.{isImageSize}
@@ -17,7 +18,7 @@ use Rattle.page.specs.Page.{records, pageOk, RecOk}
 use Rattle.page.specs.Operations.{pageOf}
 use Rattle.page.proofs.Facts.{pageOk-true, records-ok}
 use Rattle.image.specs.PageZero.{pageCount, isPage, rootOf, pageZero}
-use Rattle.image.specs.Image.{childOf, children, indexOk, nextSep, leafOk, leavesOk, treeOk, soundFrom, sound}
+use Rattle.image.specs.Image.{childOf, children, indexOk, nextSep, places, leafOk, leafAt, leavesOk, treeOk, soundFrom, sound}
 use Rattle.image.specs.Facts.{Rising, Index, Leaf, Leaves, Sound}
 use Rattle.image.specs.declared.PageZero.{PageZero}
 use Rattle.image.specs.declared.PageZero.the-variants.{Wrong, Waiting, Ready}
@@ -118,7 +119,7 @@ sep-rising lo [] h = omega arith
 sep-rising lo (c ∷ cs) h = (omega arith, h .1)
 
 pub leaves-facts : (img : List ℕ) (only : Bool) (lo : ℕ) (cs : List Rec) → Rising lo cs (suc topKey) → leavesOk img only lo cs ≡ true → Leaves img only lo cs
-unfolding leavesOk
+unfolding leavesOk leafAt places allB nextSep
 leaves-facts img only lo [] s h = tt
 leaves-facts img only lo (c ∷ cs) s h =
     let leaf : Bool = leafOk only lo (nextSep cs) (childOf c) (pageOf img (childOf c)) in
@@ -128,7 +129,7 @@ leaves-facts img only lo (c ∷ cs) s h =
     )
 
 pub facts-leaves : (img : List ℕ) (only : Bool) (lo : ℕ) (cs : List Rec) → Leaves img only lo cs → leavesOk img only lo cs ≡ true
-unfolding leavesOk
+unfolding leavesOk leafAt places allB nextSep
 facts-leaves img only lo [] k = refl
 facts-leaves img only lo (c ∷ cs) k =
     both (facts-leaf only lo (nextSep cs) (childOf c) (pageOf img (childOf c)) (k .0)) (facts-leaves img only (nextSep cs) cs (k .1))

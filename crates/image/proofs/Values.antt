@@ -10,14 +10,14 @@ use lib.Dec.{eqb}
 use Rattle.codec.specs.Lists.{part, All}
 use Rattle.codec.specs.Numbers.{number}
 use Rattle.page.specs.Layout.{pageSize, leafKind, Rec, size, readHead}
-use Rattle.page.specs.Page.{Entry, entries, Held}
+use Rattle.page.specs.Page.{Entry, entries, pageOk, Held}
 use Rattle.page.specs.Operations.{pageOf}
 use Rattle.page.proofs.Records.{up8-least, record-at, length-at, record-is}
 use Rattle.page.proofs.Facts.{pageOk-true, ok-is}
 use Rattle.image.specs.PageZero.{pageCount, isPage, rootOf}
 use Rattle.image.specs.Image.{childOf, children, nextSep, sound}
 use Rattle.image.specs.Facts.{Leaves}
-use Rattle.image.specs.Table.{inImage, leafEntries, listing}
+use Rattle.image.specs.Table.{inImage, pageEntries, leafEntries, listing}
 use Rattle.image.proofs.General.{part-part, All-append}
 use Rattle.image.proofs.Zero.{isPage-true}
 use Rattle.image.proofs.Soundness.{sound-facts}
@@ -55,15 +55,16 @@ held-listed img q start k (e ∷ es) h =
       held-listed img q start k es (h .1),
     )
 
+pub page-listed : (img : List ℕ) (q : ℕ) → isPage (pageCount img) q ≡ true → pageOk leafKind q (pageOf img q) ≡ true → All (Listed img) (pageEntries img q)
+page-listed img q k ok =
+    let p = pageOf img q in
+    held-listed img q (readHead p .start) k (entries p) (ok-is p (pageOk-true leafKind q p ok .laid) .body .held)
+
 leaves-listed : (img : List ℕ) (only : Bool) (lo : ℕ) (cs : List Rec) → All (λ (p : ℕ). isPage (pageCount img) p ≡ true) (map childOf cs) → Leaves img only lo cs → All (Listed img) (leafEntries img cs)
 unfolding leafEntries
 leaves-listed img only lo [] k h = tt
 leaves-listed img only lo (c ∷ cs) k h =
-    let q = childOf c in
-    let p = pageOf img q in
-    All-append (Listed img) (map (inImage q) (entries p)) (leafEntries img cs)
-    (held-listed img q (readHead p .start) (k .0) (entries p) (ok-is p (pageOk-true leafKind q p (h .0 .page) .laid) .body .held))
-    (leaves-listed img only (nextSep cs) cs (k .1) (h .1))
+    All-append (Listed img) (pageEntries img (childOf c)) (leafEntries img cs) (page-listed img (childOf c) (k .0) (h .0 .page)) (leaves-listed img only (nextSep cs) cs (k .1) (h .1))
 
 pub listing-listed : (img : List ℕ) → sound img ≡ true → All (Listed img) (listing img)
 unfolding listing

@@ -1,14 +1,12 @@
 -- When an image is sound: page 0, the index page, and each leaf within its bounds (document 01, "An image is sound if ..").
 -- Each part is a test that stands alone, with a record of the facts that it stands for.
 -- Assumes nothing.
-use Prim.Native.Nat.{ℕ, suc, _≤_, _<_}
-use mathlib.Core.Path.{_≡_}
-use mathlib.Core.Logic.{_⊎_}
+use Prim.Native.Nat.{ℕ, suc}
 use mathlib.Core.Bool.{Bool, true, false, _&&_, _||_, not}
 use mathlib.Core.List.{List, [], _∷_, map}
 use lib.ListN.{length}
 use lib.Dec.{leb, ltb, eqb}
-use Rattle.codec.specs.Lists.{every, allB, All}
+use Rattle.codec.specs.Lists.{every, allB}
 use Rattle.codec.specs.Numbers.{number}
 use Rattle.device.specs.Calls.{isImageSize}
 use Rattle.page.specs.Layout.{leafKind, indexKind, topKey, Rec}
@@ -17,6 +15,7 @@ use Rattle.page.specs.Operations.{pageOf}
 use Rattle.image.specs.PageZero.{pageCount, isPage, pageZero}
 use Rattle.image.specs.declared.PageZero.{PageZero}
 use Rattle.image.specs.declared.PageZero.the-variants.{Wrong, Waiting, Ready}
+use Rattle.image.specs.declared.Place.{Place}
 
 -- ---- the index
 
@@ -51,15 +50,31 @@ indexOk img root =
     ∷ distinct (reached img root)
     ∷ [])
 
--- ---- the leaves
+-- ---- ranges of keys
+
+-- the first key, or hi where there is none
+abbrev pub firstKey : List Rec → ℕ → ℕ
+firstKey [] hi = hi
+firstKey (r ∷ l) hi = r .key
+
+-- where the keys of a page start, by the index records before its own: at lo, or at its separator
+abbrev pub startOf : List Rec → ℕ → ℕ → ℕ
+startOf [] lo sep = lo
+startOf (b ∷ pre) lo sep = sep
 
 -- the end of a leaf's keys, by the index records after its own: "below the next separator", or past the largest key
 unfoldable pub nextSep : List Rec → ℕ
-nextSep [] = suc topKey
-nextSep (c ∷ cs) = c .key
+nextSep cs = firstKey cs (suc topKey)
 
--- a leaf p, by itself and within its bounds: "each leaf's keys are not below its separator (first leaf excepted) and are below
--- the next separator; no leaf is empty unless it is the only one"
+-- the pages that the index records cs name, each with its range of keys, where the range of them all is from lo on and below hi: "each leaf's
+-- keys are not below its separator (first leaf excepted) and are below the next separator"
+unfoldable pub places : ℕ → List Rec → ℕ → List Place
+places lo [] hi = []
+places lo (c ∷ cs) hi = record { page = childOf c; from = lo; below = firstKey cs hi } ∷ places (firstKey cs hi) cs hi
+
+-- ---- the leaves
+
+-- a leaf p, by itself and within its range: "no leaf is empty unless it is the only one"
 unfoldable pub leafOk : Bool → ℕ → ℕ → ℕ → List ℕ → Bool
 leafOk only lo hi own p =
     let rs = records p in
@@ -70,10 +85,13 @@ leafOk only lo hi own p =
     ∷ allB (λ (r : Rec). ltb (r .key) hi) rs
     ∷ [])
 
+-- the leaf at a place
+unfoldable pub leafAt : List ℕ → Bool → Place → Bool
+leafAt img only p = leafOk only (p .from) (p .below) (p .page) (pageOf img (p .page))
+
 -- the leaves of the index records cs, where the keys of the first start at lo, whatever its separator
 unfoldable pub leavesOk : List ℕ → Bool → ℕ → List Rec → Bool
-leavesOk img only lo [] = true
-leavesOk img only lo (c ∷ cs) = leafOk only lo (nextSep cs) (childOf c) (pageOf img (childOf c)) && leavesOk img only (nextSep cs) cs
+leavesOk img only lo cs = allB (leafAt img only) (places lo cs (suc topKey))
 
 -- ---- the image
 

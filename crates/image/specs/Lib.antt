@@ -3,7 +3,9 @@ pub mod Image
 pub mod Facts
 pub mod Table
 pub mod Route
+pub mod Descent
 pub mod Live
 pub mod Fresh
 pub mod Calls
 pub mod Says
+pub mod WhatIsRead

@@ -14,7 +14,7 @@ use Rattle.image.specs.Image.{children, childOf}
 use Rattle.image.specs.declared.Lookup.{Lookup}
 use Rattle.image.specs.declared.Lookup.the-variants.{Found, Missing}
 use Rattle.image.specs.declared.Next.{Next}
-use Rattle.image.specs.declared.Next.the-variants.{Key, Last}
+use Rattle.image.specs.declared.Next.the-variants.{Key, Last, Refused}
 
 -- the records of the leaves that the index records cs name
 unfoldable pub leafRecords : List ℕ → List Rec → List Rec
@@ -29,10 +29,13 @@ table img = leafRecords img (children img (rootOf img))
 abbrev pub inImage : ℕ → Entry → Entry
 inImage q e = record { at = pageSize * q + e .at; rec = e .rec }
 
--- the same records with their offsets in the image
+-- the records of page q with their offsets in the image
+abbrev pub pageEntries : List ℕ → ℕ → List Entry
+pageEntries img q = map (inImage q) (entries (pageOf img q))
+
 unfoldable pub leafEntries : List ℕ → List Rec → List Entry
 leafEntries img [] = []
-leafEntries img (c ∷ cs) = map (inImage (childOf c)) (entries (pageOf img (childOf c))) ++ leafEntries img cs
+leafEntries img (c ∷ cs) = pageEntries img (childOf c) ++ leafEntries img cs
 
 unfoldable pub listing : List ℕ → List Entry
 listing img = leafEntries img (children img (rootOf img))
@@ -51,3 +54,9 @@ foundIn k (e ∷ es) = pick (eqb (e .rec .key) k) (Found (e .at + 16) (length (e
 unfoldable pub above : ℕ → List Rec → Next
 above k [] = Last
 above k (r ∷ rs) = pick (ltb k (r .key)) (Key (r .key)) (above k rs)
+
+-- the first answer, or where it is Last the second
+abbrev pub orElse : Next → Next → Next
+orElse (Key j) y = Key j
+orElse Last y = y
+orElse (Refused r) y = Refused r

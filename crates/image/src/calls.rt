@@ -2,17 +2,19 @@
 use crate::Lookup;
 use crate::Next;
 use crate::PageZero;
+use crate::Root;
 use crate::descent::find_key;
 use crate::descent::next_above;
 use crate::format::put_fresh;
 use crate::page_zero::page_zero;
 use crate::pages::TOP_KEY;
+use crate::tree::index_ok;
 use crate::tree::tree_ok;
 use device::Answer;
 use device::Refusal;
 use device::is_image_size;
 ghost use mathlib.Core.Path.{_≡_};
-ghost use Rattle.image.specs.Calls.{formatCall, checkCall, lookupCall, valueCall, nextCall};
+ghost use Rattle.image.specs.Calls.{formatCall, rootCall, indexCall, checkCall, ranged, lookupCall, valueCall, nextCall};
 
 // Writes a fresh store.
 pub fn format(image: &mut [u8]) -> Answer
@@ -26,20 +28,45 @@ pub fn format(image: &mut [u8]) -> Answer
     Answer::Accepted
 }
 
+// The root, by page 0.
+pub fn root_in(image: &[u8]) -> Root
+    ensures { λ r. ⌜ r ≡ rootCall (now (image .entry)) ⌝ }
+{
+    if !is_image_size(image.len()) {
+        return Root::Refused(Refusal::of(Refusal::IMAGE_SIZE));
+    }
+    match page_zero(image) {
+        PageZero::Wrong => Root::Refused(Refusal::of(Refusal::UNSOUND)),
+        PageZero::Waiting {
+            headers: _,
+            root: _,
+        } => Root::Refused(Refusal::of(Refusal::MARK_WAITS)),
+        PageZero::Ready { root } => Root::At(root),
+    }
+}
+
+// The root, by page 0 and the index: what every reading call reads first.
+pub fn index_in(image: &[u8]) -> Root
+    ensures { λ r. ⌜ r ≡ indexCall (now (image .entry)) ⌝ }
+{
+    match root_in(image) {
+        Root::Refused(r) => Root::Refused(r),
+        Root::At(root) => {
+            if !index_ok(image, root) {
+                return Root::Refused(Refusal::of(Refusal::UNSOUND));
+            }
+            Root::At(root)
+        }
+    }
+}
+
 // Whether an image is sound.
 pub fn check(image: &[u8]) -> Answer
     ensures { λ r. ⌜ r ≡ checkCall (now (image .entry)) ⌝ }
 {
-    if !is_image_size(image.len()) {
-        return Answer::Refused(Refusal::of(Refusal::IMAGE_SIZE));
-    }
-    match page_zero(image) {
-        PageZero::Wrong => Answer::Refused(Refusal::of(Refusal::UNSOUND)),
-        PageZero::Waiting {
-            headers: _,
-            root: _,
-        } => Answer::Refused(Refusal::of(Refusal::MARK_WAITS)),
-        PageZero::Ready { root } => {
+    match root_in(image) {
+        Root::Refused(r) => Answer::Refused(r),
+        Root::At(root) => {
             if !tree_ok(image, root) {
                 return Answer::Refused(Refusal::of(Refusal::UNSOUND));
             }
@@ -48,21 +75,29 @@ pub fn check(image: &[u8]) -> Answer
     }
 }
 
+// What a leaf answers, unless the key is out of range.
+fn ranged(key: u64, found: Lookup) -> Lookup
+    ensures { λ r. ⌜ r ≡ ranged key found ⌝ }
+{
+    let Lookup::Refused(_) = found else {
+        if key < 1 {
+            return Lookup::Refused(Refusal::of(Refusal::KEY_RANGE));
+        }
+        if TOP_KEY < key {
+            return Lookup::Refused(Refusal::of(Refusal::KEY_RANGE));
+        }
+        return found;
+    };
+    found
+}
+
 // Where the value of a key stands in the image.
 pub fn lookup(image: &[u8], key: u64) -> Lookup
     ensures { λ r. ⌜ r ≡ lookupCall (now (image .entry)) key ⌝ }
 {
-    match check(image) {
-        Answer::Refused(r) => Lookup::Refused(r),
-        Answer::Accepted => {
-            if key < 1 {
-                return Lookup::Refused(Refusal::of(Refusal::KEY_RANGE));
-            }
-            if TOP_KEY < key {
-                return Lookup::Refused(Refusal::of(Refusal::KEY_RANGE));
-            }
-            find_key(image, key)
-        }
+    match index_in(image) {
+        Root::Refused(r) => Lookup::Refused(r),
+        Root::At(root) => ranged(key, find_key(image, root, key)),
     }
 }
 
@@ -84,8 +119,8 @@ pub fn value(image: &[u8], key: u64) -> &[u8]
 pub fn next_key(image: &[u8], key: u64) -> Next
     ensures { λ r. ⌜ r ≡ nextCall (now (image .entry)) key ⌝ }
 {
-    match check(image) {
-        Answer::Refused(r) => Next::Refused(r),
-        Answer::Accepted => next_above(image, key),
+    match index_in(image) {
+        Root::Refused(r) => Next::Refused(r),
+        Root::At(root) => next_above(image, root, key),
     }
 }

@@ -18,6 +18,19 @@ pub enum PageZero {
     Ready { root: usize },
 }
 
+// The root that page 0 names, or why it is not read.
+pub enum Root {
+    At(usize),
+    Refused(Refusal),
+}
+
+// A page on the way down from the root, and the range of the keys that belong to it.
+pub struct Place {
+    pub page: usize,
+    pub from: u64,
+    pub below: u64,
+}
+
 // What a lookup answers: the value's offset in the image and its length, or that the key is missing.
 pub enum Lookup {
     Found { offset: usize, length: usize },

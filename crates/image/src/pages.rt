@@ -18,6 +18,9 @@ pub const INDEX: u8 = 2;
 // The largest key, and the largest separator.
 pub const TOP_KEY: u64 = 999999999999;
 
+// The end of the range of all keys.
+pub const KEYS_END: u64 = 1000000000000;
+
 // Page n of an image, as a part of it.
 pub fn page_of(image: &[u8], n: usize) -> &[u8]
     requires { ⌜ pageSize * n + pageSize ≤ length (now image) ⌝ }

@@ -11,7 +11,7 @@ ghost use Rattle.page.specs.Layout.{pageSize};
 ghost use Rattle.page.specs.Page.{records, laidOut};
 ghost use Rattle.page.specs.Operations.{pageOf};
 ghost use Rattle.image.specs.PageZero.{pageCount, isPage};
-ghost use Rattle.image.specs.Image.{children, indexOk, nextSep, leafOk, leavesOk, treeOk};
+ghost use Rattle.image.specs.Image.{children, indexOk, firstKey, leafOk, leavesOk, treeOk};
 
 // Whether the root is an index whose pages are distinct, in 1 to N-1, none the root: page 0 and the root are marked, and then
 // each page as it is named.
@@ -65,15 +65,15 @@ pub fn leaf_ok(image: &[u8], only: bool, lo: u64, hi: u64, own: usize) -> bool
     pages::key_at(page, n - 1) < hi
 }
 
-// Where the keys of the i-th leaf of an index end: at the next separator, or past the largest key.
-pub fn sep_after(page: &[u8], i: usize) -> u64
+// Where the keys of the page in slot i end: at the next separator, or with the range of them all.
+pub fn sep_after(page: &[u8], i: usize, end: u64) -> u64
     requires { ⌜ (laidOut (now page) ≡ true) × (i < length (records (now page))) ⌝ }
-    ensures { λ r. ⌜ r ≡ nextSep (drop (i + 1) (records (now (page .entry)))) ⌝ }
+    ensures { λ r. ⌜ r ≡ firstKey (drop (i + 1) (records (now (page .entry)))) end ⌝ }
 {
     if i + 1 < pages::count(page) {
         return pages::key_at(page, i + 1);
     }
-    pages::TOP_KEY + 1
+    end
 }
 
 // Whether each leaf of a sound index is sound within its bounds.
@@ -87,7 +87,7 @@ pub fn leaves_ok(image: &[u8], root: usize) -> bool
     let mut lo = 0;
     let mut i = 0;
     while i < leaves {
-        let hi = sep_after(page, i);
+        let hi = sep_after(page, i, pages::KEYS_END);
         if !leaf_ok(image, only, lo, hi, pages::child_at(page, i)) {
             return false;
         }

@@ -1,138 +1,153 @@
--- What the preview call answers: each refusal where its ground is the first that holds, else the part that the last edit of the key decides, which is exactly
--- what the ledger's table after the list holds.
+-- What the preview call answers: each refusal where its ground is the first that holds, else the part that the last edit of the key decides. On a sound image that is
+-- exactly what the ledger's table after the list holds.
 -- Assumes nothing.
-use Prim.Native.Nat.{ℕ, _+_, _≤_}
+use Prim.Native.Nat.{ℕ, _≤_}
 use mathlib.Core.Path.{_≡_, refl, sym, ap, _∙_, subst}
 use mathlib.Core.Logic.{_⊎_, inl, inr}
 use mathlib.Core.Bool.{Bool, true, false}
-use mathlib.Core.List.{List}
+use mathlib.Core.List.{List, [], _∷_}
 use mathlib.Core.Option.{Option, none, some}
 use lib.ListN.{length}
-use Rattle.codec.specs.Lists.{pick}
+use Rattle.codec.specs.Lists.{pick, All}
 use Rattle.device.specs.Calls.{refusal}
 use Rattle.device.specs.declared.Refusal.{Refusal}
-use Rattle.device.specs.declared.Answer.{Answer}
-use Rattle.device.specs.declared.Answer.the-variants as answers
+use Rattle.page.specs.Layout.{Rec}
+use Rattle.image.specs.PageZero.{rootOf}
 use Rattle.image.specs.Image.{sound}
 use Rattle.image.specs.Table.{table, listing, find, foundIn}
-use Rattle.image.specs.Calls.{checkCall, keyOk, lookupFrom, lookupCall}
+use Rattle.image.specs.Descent.{recordsFor}
+use Rattle.image.specs.Calls.{indexCall, keyOk, leafLookup, lookupFrom, lookupCall}
+use Rattle.image.specs.Says.{Opened, Read, Unread, readRecords}
+use Rattle.image.specs.declared.Root.{Root}
+use Rattle.image.specs.declared.Root.the-variants as roots
 use Rattle.image.specs.declared.Lookup.{Lookup}
 use Rattle.image.specs.declared.Lookup.the-variants as lookups
-use Rattle.image.proofs.Answers.{check-sound, sound-check, lookup-value, lookup-none}
-use Rattle.image.proofs.Exact.{lookup-answers}
+use Rattle.image.proofs.KeyRange.{keyOk-true, true-keyOk, keyOk-false, false-keyOk}
+use Rattle.image.proofs.Read.{OpeningSays, opening-says, opened-call, not-opened-call, read-or-not, read-lookup, unread-lookup, ranged-in}
+use Rattle.image.proofs.Says.{read-tells}
+use Rattle.image.proofs.Answers.{check-sound, sound-check, sound-opened, leaf-sound, records-sound, lookup-value, lookup-none}
 use Rattle.edit.specs.EditList.{Edit, insert, update, delete, keyOf, Listed, listed, faulty, editList}
 use Rattle.edit.specs.Ledger.{applyEdits}
 use Rattle.edit.specs.Reads.{listBytes, Whole}
-use Rattle.edit.specs.Keys.{keysFrom, FirstBroken}
+use Rattle.edit.specs.Keys.{wholly, keysFrom, keysRead, AllKept, FirstBroken}
 use Rattle.edit.specs.declared.Judged.{Judged}
 use Rattle.edit.specs.declared.Judged.the-variants.{Good, Faulty}
-use Rattle.edit.proofs.Faults.{keyOk-true, true-keyOk, keyOk-false, false-keyOk}
+use Rattle.edit.proofs.General.{by-test}
 use Rattle.edit.proofs.Parsing.{list-whole, whole-list, list-fault, fault-list}
-use Rattle.edit.proofs.Keys.{kept-keys, keys-kept, keys-broken, broken-keys}
-use Rattle.preview.specs.Calls.{inImage, brings, seen, rulesOf, keysOf, listOf, checkedOf, previewCall, partOf, previewValueCall}
+use Rattle.edit.proofs.Keys.{kept-keys, keys-kept, keys-fault, fault-keys, SameFor, Alike, keys-same}
+use Rattle.preview.specs.Calls.{inImage, brings, seen, rulesOf, keysOf, listOf, openedOf, previewCall, partOf, previewValueCall}
 use Rattle.preview.specs.Says.{previewed, lookedUp, held, bytesIn}
-use Rattle.preview.specs.Answers.{NoEdit, LastEdit, Asked, Answers, bad-image, bad-list, bad-key, bad-edit, in-list, deleted, in-image, missing}
+use Rattle.preview.specs.Answers.{NoEdit, LastEdit, Asked, AskedSound, Answers, bad-image, bad-list, bad-key, bad-edit, in-list, deleted, bad-leaf, in-image, missing}
 use Rattle.preview.specs.declared.Preview.{Preview}
 use Rattle.preview.specs.declared.Preview.the-variants.{InList, InImage, Missing, Refused}
 use Rattle.preview.proofs.LastEdit.{no-edit, last-edit, last-or-none}
-use Rattle.preview.proofs.Shown.{Shows, seen-shows}
+use Rattle.preview.proofs.Shown.{Shows, seen-shows, sound-shows, Inside, seen-inside}
+
+all-of : {A : Type 0} (P : A → Type 0) → ((x : A) → P x) → (l : List A) → All P l
+all-of P f [] = tt
+all-of P f (x ∷ l) = (f x, all-of P f l)
+
+-- an answer that shows what is held comes to it
+shows-held : (img bytes : List ℕ) (a : Preview) (x : Option (List ℕ)) → Shows img bytes x a → previewed img bytes a ≡ held x
+unfolding previewed held
+shows-held img bytes (InList o n) x s = sym (ap held (s .0))
+shows-held img bytes (InImage o n) x s = sym (ap held (s .0))
+shows-held img bytes Missing x s = sym (ap held s)
+shows-held img bytes (Refused r) x s = absurd s
+
+-- a leaf that is read is not refused
+read-answers : (img : List ℕ) (k root : ℕ) → Read img k root → (s : Refusal) → leafLookup img root k ≡ lookups.Refused s → ⊥
+read-answers img k root r s e = read-tells img k root r (lookups.Refused s) (sym (read-lookup img k root r) ∙ e)
 
 module _ (img bytes : List ℕ) (k : ℕ) where
   -- ---- where nothing is refused
 
-  accepted-call : checkCall img ≡ answers.Accepted → (es : List Edit) → Whole bytes es → previewCall img bytes k ≡ keysOf img k es
-  unfolding previewCall checkedOf listOf
-  accepted-call c es w = rw (c, whole-list bytes es w)
+  opened-list : (root : ℕ) → Opened img root → (es : List Edit) → Whole bytes es → previewCall img bytes k ≡ keysOf (recordsFor img root) (leafLookup img root k) k es
+  unfolding previewCall openedOf listOf
+  opened-list root o es w = rw (opened-call img root o, whole-list bytes es w)
 
-  module _ (es : List Edit) (A : Asked img bytes k es) where
+  module _ (root : ℕ) (es : List Edit) (A : Asked img bytes k root es) where
     asked-ranged : keyOk k ≡ true
     asked-ranged = true-keyOk k (A .low) (A .high)
 
-    pub asked-call : previewCall img bytes k ≡ seen img k es
+    pub asked-call : previewCall img bytes k ≡ seen (leafLookup img root k) k es
     unfolding keysOf rulesOf
-    asked-call = accepted-call (A .checked) es (A .whole) ∙ rw (asked-ranged, kept-keys 0 es (table img) (A .kept))
+    asked-call = opened-list root (A .opened) es (A .whole) ∙ rw (asked-ranged, kept-keys 0 es (recordsFor img root) (A .kept))
 
-    pub asked-lookup : lookupCall img k ≡ foundIn k (listing img)
+    -- a key in range is looked up in its leaf
+    asked-lookup : lookupCall img k ≡ leafLookup img root k
     unfolding lookupCall lookupFrom
-    asked-lookup = rw (A .checked, asked-ranged)
+    asked-lookup = rw (opened-call img root (A .opened)) (ranged-in k asked-ranged (leafLookup img root k))
 
     -- which of the two slices, and where
-    pub asked-none : NoEdit k es → previewCall img bytes k ≡ inImage (lookupCall img k)
+    pub asked-none : NoEdit k es → previewCall img bytes k ≡ inImage (leafLookup img root k)
     unfolding seen
-    asked-none h = asked-call ∙ no-edit k 0 (inImage (foundIn k (listing img))) es h ∙ ap inImage (sym asked-lookup)
+    asked-none h = asked-call ∙ no-edit k 0 (inImage (leafLookup img root k)) es h
 
     pub asked-last : (l : LastEdit k es) → previewCall img bytes k ≡ brings (length (listBytes (l .before))) (l .edit)
     unfolding seen
-    asked-last l = asked-call ∙ last-edit k (inImage (foundIn k (listing img))) es l
+    asked-last l = asked-call ∙ last-edit k (inImage (leafLookup img root k)) es l
 
   -- ---- the cases, in the order of document 02
 
   pub preview-answers : Answers img bytes k (previewCall img bytes k)
-  unfolding previewCall checkedOf listOf keysOf rulesOf inImage brings
-  preview-answers = check (checkCall img) refl
+  unfolding previewCall openedOf listOf keysOf rulesOf inImage brings
+  preview-answers = opening (indexCall img) (opening-says img)
     where
-      image : (es : List Edit) → Asked img bytes k es → NoEdit k es → (a : Lookup) → lookupCall img k ≡ a → Answers img bytes k (inImage a)
-      image es A h (lookups.Found o n) e = in-image es A h o n e
-      image es A h lookups.Missing e = missing es A h e
-      image es A h (lookups.Refused r) e = absurd (lookup-answers img (check-sound img (A .checked)) k r (sym (asked-lookup es A) ∙ e))
+      image : (root : ℕ) (es : List Edit) (A : Asked img bytes k root es) → NoEdit k es → Read img k root ⊎ Unread img k root → (a : Lookup) → leafLookup img root k ≡ a → Answers img bytes k (inImage a)
+      image root es A h x (lookups.Found o n) e = in-image root es A h o n (asked-lookup root es A ∙ e)
+      image root es A h x lookups.Missing e = missing root es A h (asked-lookup root es A ∙ e)
+      image root es A h (inr u) (lookups.Refused r) e = let four : record { number = 4; edit = 0 } ≡ r = cc (unread-lookup img k root u, e) in subst (λ (s : Refusal). Answers img bytes k (Refused s)) four (bad-leaf root es A h u)
+      image root es A h (inl r) (lookups.Refused s) e = absurd (read-answers img k root r s e)
 
-      decided : (es : List Edit) → Asked img bytes k es → (l : LastEdit k es) → (e : Edit) → l .edit ≡ e → keyOf e ≡ k → Answers img bytes k (brings (length (listBytes (l .before))) e)
-      decided es A l (insert j v) e own = in-list es A l v (inl (e ∙ ap (λ (x : ℕ). insert x v) own))
-      decided es A l (update j v) e own = in-list es A l v (inr (e ∙ ap (λ (x : ℕ). update x v) own))
-      decided es A l (delete j) e own = deleted es A l (e ∙ ap delete own)
+      decided : (root : ℕ) (es : List Edit) → Asked img bytes k root es → (l : LastEdit k es) → (e : Edit) → l .edit ≡ e → keyOf e ≡ k → Answers img bytes k (brings (length (listBytes (l .before))) e)
+      decided root es A l (insert j v) e own = in-list root es A l v (inl (e ∙ ap (λ (x : ℕ). insert x v) own))
+      decided root es A l (update j v) e own = in-list root es A l v (inr (e ∙ ap (λ (x : ℕ). update x v) own))
+      decided root es A l (delete j) e own = deleted root es A l (e ∙ ap delete own)
 
-      shown : (es : List Edit) → Asked img bytes k es → NoEdit k es ⊎ LastEdit k es → Answers img bytes k (seen img k es)
-      shown es A (inl h) = subst (Answers img bytes k) (sym (asked-none es A h) ∙ asked-call es A) (image es A h (lookupCall img k) refl)
-      shown es A (inr l) = subst (Answers img bytes k) (sym (asked-last es A l) ∙ asked-call es A) (decided es A l (l .edit) refl (l .own))
+      shown : (root : ℕ) (es : List Edit) → Asked img bytes k root es → NoEdit k es ⊎ LastEdit k es → Answers img bytes k (seen (leafLookup img root k) k es)
+      shown root es A (inl h) =
+          subst (Answers img bytes k) (sym (asked-none root es A h) ∙ asked-call root es A) (image root es A h (read-or-not img k root (A .opened)) (leafLookup img root k) refl)
+      shown root es A (inr l) = subst (Answers img bytes k) (sym (asked-last root es A l) ∙ asked-call root es A) (decided root es A l (l .edit) refl (l .own))
 
-      keys : checkCall img ≡ answers.Accepted → (es : List Edit) → Whole bytes es → 1 ≤ k → k ≤ 999999999999 → (j : Judged) → keysFrom 0 es (table img) ≡ j →
-          Answers img bytes k (rulesOf (seen img k es) j)
-      keys c es w low high (Faulty r) e = bad-edit c es w low high (r .number) (r .edit) (keys-broken es (table img) r e)
-      keys c es w low high Good e = shown es (record { checked = c; whole = w; low = low; high = high; kept = keys-kept es (table img) e }) (last-or-none k es)
+      keys : (root : ℕ) → Opened img root → (es : List Edit) → Whole bytes es → 1 ≤ k → k ≤ 999999999999 → (j : Judged) → keysFrom 0 es (recordsFor img root) ≡ j →
+          Answers img bytes k (rulesOf (seen (leafLookup img root k) k es) j)
+      keys root o es w low high (Faulty r) e = bad-edit root o es w low high (r .number) (r .edit) (keys-fault es (recordsFor img root) r e)
+      keys root o es w low high Good e = shown root es (record { opened = o; whole = w; low = low; high = high; kept = keys-kept es (recordsFor img root) e }) (last-or-none k es)
 
-      key : checkCall img ≡ answers.Accepted → (es : List Edit) → Whole bytes es → (b : Bool) → keyOk k ≡ b →
-          Answers img bytes k (pick b (rulesOf (seen img k es) (keysFrom 0 es (table img))) (Refused (refusal 6)))
-      key c es w true e = let q = keyOk-true k e in keys c es w (q .0) (q .1) (keysFrom 0 es (table img)) refl
-      key c es w false e = bad-key c es w (keyOk-false k e)
+      key : (root : ℕ) → Opened img root → (es : List Edit) → Whole bytes es → (b : Bool) → keyOk k ≡ b →
+          Answers img bytes k (pick b (rulesOf (seen (leafLookup img root k) k es) (keysFrom 0 es (recordsFor img root))) (Refused (refusal 6)))
+      key root o es w true e = let q = keyOk-true k e in keys root o es w (q .0) (q .1) (keysFrom 0 es (recordsFor img root)) refl
+      key root o es w false e = bad-key root o es w (keyOk-false k e)
 
-      list : checkCall img ≡ answers.Accepted → (l : Listed) → editList bytes ≡ l → Answers img bytes k (listOf img k l)
-      list c (faulty n i) e = bad-list c n i (list-fault bytes n i e)
-      list c (listed es) e = key c es (list-whole bytes es e) (keyOk k) refl
+      list : (root : ℕ) → Opened img root → (l : Listed) → editList bytes ≡ l → Answers img bytes k (listOf (recordsFor img root) (leafLookup img root k) k l)
+      list root o (faulty n i) e = bad-list root o n i (list-fault bytes n i e)
+      list root o (listed es) e = key root o es (list-whole bytes es e) (keyOk k) refl
 
-      check : (a : Answer) → checkCall img ≡ a → Answers img bytes k (checkedOf img bytes k a)
-      check (answers.Refused r) e = bad-image r e
-      check answers.Accepted e = list e (editList bytes) refl
+      opening : (x : Root) → OpeningSays img x → Answers img bytes k (openedOf img bytes k x)
+      opening (roots.Refused r) n = bad-image r n
+      opening (roots.At root) o = list root o (editList bytes) refl
 
   -- and each case excludes the others: it is the answer where it holds
   pub answers-preview : (a : Preview) → Answers img bytes k a → previewCall img bytes k ≡ a
-  unfolding previewCall checkedOf listOf keysOf rulesOf inImage brings
-  answers-preview _ (bad-image r c) = rw c
-  answers-preview _ (bad-list c n i f) = rw (c, fault-list bytes n i f)
-  answers-preview _ (bad-key c es w q) = accepted-call c es w ∙ rw (false-keyOk k q)
-  answers-preview _ (bad-edit c es w low high n i f) = accepted-call c es w ∙ rw (true-keyOk k low high, broken-keys es (table img) n i f)
-  answers-preview _ (in-list es A l v (inl e)) = asked-last es A l ∙ ap (brings (length (listBytes (l .before)))) e
-  answers-preview _ (in-list es A l v (inr e)) = asked-last es A l ∙ ap (brings (length (listBytes (l .before)))) e
-  answers-preview _ (deleted es A l e) = asked-last es A l ∙ ap (brings (length (listBytes (l .before)))) e
-  answers-preview _ (in-image es A h o n e) = asked-none es A h ∙ ap inImage e
-  answers-preview _ (missing es A h e) = asked-none es A h ∙ ap inImage e
+  unfolding previewCall openedOf listOf keysOf rulesOf inImage brings
+  answers-preview _ (bad-image r n) = rw (not-opened-call img r n)
+  answers-preview _ (bad-list root o n i f) = rw (opened-call img root o, fault-list bytes n i f)
+  answers-preview _ (bad-key root o es w q) = opened-list root o es w ∙ rw (false-keyOk k q)
+  answers-preview _ (bad-edit root o es w low high n i f) = opened-list root o es w ∙ rw (true-keyOk k low high, fault-keys es (recordsFor img root) n i f)
+  answers-preview _ (in-list root es A l v (inl e)) = asked-last root es A l ∙ ap (brings (length (listBytes (l .before)))) e
+  answers-preview _ (in-list root es A l v (inr e)) = asked-last root es A l ∙ ap (brings (length (listBytes (l .before)))) e
+  answers-preview _ (deleted root es A l e) = asked-last root es A l ∙ ap (brings (length (listBytes (l .before)))) e
+  answers-preview _ (bad-leaf root es A h u) = asked-none root es A h ∙ ap inImage (unread-lookup img k root u)
+  answers-preview _ (in-image root es A h o n e) = asked-none root es A h ∙ ap inImage (sym (asked-lookup root es A) ∙ e)
+  answers-preview _ (missing root es A h e) = asked-none root es A h ∙ ap inImage (sym (asked-lookup root es A) ∙ e)
 
-  -- ---- demand 2: "The part is exactly the value that the table would then hold"
+  -- ---- "the pages read alone, and the look's list, give the answer by the same rules": the ledger's, on the records of the leaf that the key belongs to
 
-  module _ (es : List Edit) (A : Asked img bytes k es) where
-    pub preview-shows : Shows img bytes (find k (applyEdits es (table img))) (previewCall img bytes k)
-    preview-shows =
-        subst (Shows img bytes (find k (applyEdits es (table img)))) (sym (asked-call es A))
-        (seen-shows img bytes (check-sound img (A .checked)) k es (A .whole .reads) (A .kept))
-
-    pub preview-exact : previewed img bytes (previewCall img bytes k) ≡ held (find k (applyEdits es (table img)))
-    unfolding previewed held
-    preview-exact = go (previewCall img bytes k) (find k (applyEdits es (table img))) preview-shows
-      where
-        go : (a : Preview) (x : Option (List ℕ)) → Shows img bytes x a → previewed img bytes a ≡ held x
-        go (InList o n) x s = sym (ap held (s .0))
-        go (InImage o n) x s = sym (ap held (s .0))
-        go Missing x s = sym (ap held s)
-        go (Refused r) x s = absurd s
+  pub preview-read : (root : ℕ) (es : List Edit) → Asked img bytes k root es → (r : Read img k root) → previewed img bytes (previewCall img bytes k) ≡ held (find k (applyEdits es (readRecords r)))
+  preview-read root es A r =
+      ap (previewed img bytes) (asked-call root es A)
+      ∙ shows-held img bytes (seen (leafLookup img root k) k es) (find k (applyEdits es (readRecords r))) (seen-shows img bytes k root es (A .whole .reads) (A .kept) r)
 
   -- the companion hands back the value's bytes; "refused or missing, the part is empty"
   pub part-exact : previewValueCall img bytes k ≡ bytesIn (previewed img bytes (previewCall img bytes k))
@@ -145,53 +160,75 @@ module _ (img bytes : List ℕ) (k : ℕ) where
       go Missing = refl
       go (Refused r) = refl
 
-  -- where image, list and the key asked are not refused, a refusal is the first edit's whose rule is broken
-  pub refused-broken : checkCall img ≡ answers.Accepted → (es : List Edit) → Whole bytes es → 1 ≤ k → k ≤ 999999999999 → (r : Refusal) → previewCall img bytes k ≡ Refused r →
-      FirstBroken es (table img) (r .number) (r .edit)
-  refused-broken c es w low high r q = go (keysFrom 0 es (table img)) refl
-    where
-      go : (j : Judged) → keysFrom 0 es (table img) ≡ j → FirstBroken es (table img) (r .number) (r .edit)
-      go Good e =
-          absurd (
-          subst (Shows img bytes (find k (applyEdits es (table img)))) q
-          (preview-shows es (record { checked = c; whole = w; low = low; high = high; kept = keys-kept es (table img) e }))
-          )
-      go (Faulty s) e =
-          let b = keys-broken es (table img) s e in
-          let p : previewCall img bytes k ≡ Refused s = answers-preview (Refused s) (bad-edit c es w low high (s .number) (s .edit) b) in
-          let same : s ≡ r = cc (p, q) in
-          subst (λ (x : Refusal). FirstBroken es (table img) (x .number) (x .edit)) same b
-
   -- the part of an answer lies in its slice
-  abbrev pub Inside : Preview → Type 0
-  Inside (InList o n) = o + n ≤ length bytes
-  Inside (InImage o n) = o + n ≤ length img
-  Inside Missing = Unit {0}
-  Inside (Refused r) = Unit {0}
-
-  pub preview-inside : (a : Preview) → previewCall img bytes k ≡ a → Inside a
-  preview-inside a e = subst Inside e (go (previewCall img bytes k) preview-answers refl)
+  pub preview-inside : (a : Preview) → previewCall img bytes k ≡ a → Inside img bytes a
+  unfolding previewCall openedOf listOf keysOf rulesOf
+  preview-inside a e = subst (Inside img bytes) e (opening (indexCall img) (opening-says img))
     where
-      asked : (es : List Edit) → Asked img bytes k es → (a : Preview) → previewCall img bytes k ≡ a → Inside a
-      asked es A a e = lies a (subst (Shows img bytes (find k (applyEdits es (table img)))) e (preview-shows es A))
-        where
-          lies : (a : Preview) → Shows img bytes (find k (applyEdits es (table img))) a → Inside a
-          lies (InList o n) s = s .2
-          lies (InImage o n) s = s .2
-          lies Missing s = tt
-          lies (Refused r) s = tt
+      rules : (x : Preview) → Inside img bytes x → (j : Judged) → Inside img bytes (rulesOf x j)
+      rules x h (Faulty r) = tt
+      rules x h Good = h
 
-      go : (a : Preview) → Answers img bytes k a → previewCall img bytes k ≡ a → Inside a
-      go _ (bad-image r c) e = tt
-      go _ (bad-list c n i f) e = tt
-      go _ (bad-key c es w q) e = tt
-      go _ (bad-edit c es w low high n i f) e = tt
-      go _ (in-list es A l v q) e = asked es A _ e
-      go _ (deleted es A l q) e = tt
-      go _ (in-image es A h o n q) e = asked es A _ e
-      go _ (missing es A h q) e = tt
+      list : (root : ℕ) → Opened img root → (l : Listed) → editList bytes ≡ l → Inside img bytes (listOf (recordsFor img root) (leafLookup img root k) k l)
+      list root o (faulty n i) e = tt
+      list root o (listed es) e =
+          by-test (Inside img bytes) (keyOk k)
+          (λ q. rules (seen (leafLookup img root k) k es) (seen-inside img bytes k root o es (list-whole bytes es e .reads)) (keysFrom 0 es (recordsFor img root)))
+          (λ q. tt)
 
--- ---- a lookup, by the table
+      opening : (x : Root) → OpeningSays img x → Inside img bytes (openedOf img bytes k x)
+      opening (roots.Refused r) n = tt
+      opening (roots.At root) o = list root o (editList bytes) refl
+
+-- ---- "On a sound image every answer is as it was": by the whole table
+
+-- each key's leaf holds for it what the table holds
+sound-alike : (img : List ℕ) → sound img ≡ true → (j : ℕ) → Alike (recordsFor img (rootOf img)) (wholly (table img)) j
+sound-alike img h j =
+    let r = records-sound img h j in
+    subst (λ (o : Option (List Rec)). SameFor j o (some (table img))) (sym (r .1)) (r .2)
+
+module _ (img bytes : List ℕ) (h : sound img ≡ true) where
+  pub keys-sound : (es : List Edit) → keysFrom 0 es (recordsFor img (rootOf img)) ≡ keysFrom 0 es (wholly (table img))
+  keys-sound es = keys-same 0 es (recordsFor img (rootOf img)) (wholly (table img)) (all-of (Alike (recordsFor img (rootOf img)) (wholly (table img))) (sound-alike img h) (keysRead 0 es (recordsFor img (rootOf img))))
+
+  pub preview-sound : (k : ℕ) → previewCall img bytes k ≡ listOf (wholly (table img)) (foundIn k (listing img)) k (editList bytes)
+  unfolding previewCall openedOf listOf keysOf
+  preview-sound k = rw (opened-call img (rootOf img) (sound-opened img h), leaf-sound img h k) (go (editList bytes))
+    where
+      go : (l : Listed) → listOf (recordsFor img (rootOf img)) (foundIn k (listing img)) k l ≡ listOf (wholly (table img)) (foundIn k (listing img)) k l
+      go (faulty n i) = refl
+      go (listed es) = rw (keys-sound es)
+
+  module _ (k : ℕ) (es : List Edit) (w : Whole bytes es) (low : 1 ≤ k) (high : k ≤ 999999999999) where
+    by-rules : (j : Judged) → keysFrom 0 es (wholly (table img)) ≡ j → previewCall img bytes k ≡ rulesOf (seen (foundIn k (listing img)) k es) j
+    unfolding listOf keysOf
+    by-rules j e = preview-sound k ∙ rw (whole-list bytes es w, true-keyOk k low high, e)
+
+    shows : AllKept es (table img) → Shows img bytes (find k (applyEdits es (table img))) (previewCall img bytes k)
+    unfolding rulesOf
+    shows kept = subst (Shows img bytes (find k (applyEdits es (table img)))) (sym (by-rules Good (kept-keys 0 es (wholly (table img)) kept))) (sound-shows img bytes h k es (w .reads) kept)
+
+    -- where image, list and the key asked are not refused, a refusal is the first edit's whose rule is broken
+    pub refused-broken : (r : Refusal) → previewCall img bytes k ≡ Refused r → FirstBroken es (table img) (r .number) (r .edit)
+    unfolding rulesOf
+    refused-broken r q = go (keysFrom 0 es (wholly (table img))) refl
+      where
+        go : (j : Judged) → keysFrom 0 es (wholly (table img)) ≡ j → FirstBroken es (table img) (r .number) (r .edit)
+        go Good e = absurd (subst (Shows img bytes (find k (applyEdits es (table img)))) q (shows (keys-kept es (wholly (table img)) e)))
+        go (Faulty s) e =
+            let same : s ≡ r = cc (by-rules (Faulty s) e, q) in
+            subst (λ (x : Refusal). FirstBroken es (table img) (x .number) (x .edit)) same (keys-fault es (wholly (table img)) s e)
+
+    pub broken-refused : (n i : ℕ) → FirstBroken es (table img) n i → previewCall img bytes k ≡ Refused (record { number = n; edit = i })
+    unfolding rulesOf
+    broken-refused n i f = by-rules (Faulty (record { number = n; edit = i })) (fault-keys es (wholly (table img)) n i f)
+
+-- demand 2: "The part is exactly the value that the table would then hold"
+pub preview-exact : (img bytes : List ℕ) (k : ℕ) (es : List Edit) → AskedSound img bytes k es → previewed img bytes (previewCall img bytes k) ≡ held (find k (applyEdits es (table img)))
+preview-exact img bytes k es A =
+    shows-held img bytes (previewCall img bytes k) (find k (applyEdits es (table img)))
+    (shows img bytes (check-sound img (A .checked)) k es (A .whole) (A .low) (A .high) (A .kept))
 
 -- what a lookup in a sound image comes to is what the table holds
 pub lookup-exact : (img : List ℕ) → sound img ≡ true → (k : ℕ) → keyOk k ≡ true → lookedUp img (lookupCall img k) ≡ held (find k (table img))

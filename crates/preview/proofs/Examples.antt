@@ -1,25 +1,26 @@
 -- The definition, computed: previews on a fresh store of 8 pages, which holds no quote.
 -- Assumes nothing.
 use Prim.Native.Nat.{ℕ}
-use mathlib.Core.Path.{_≡_, refl, ap, ap₂}
+use mathlib.Core.Path.{_≡_, refl, ap, ap₂, _∙_}
 use mathlib.Core.List.{List, [], _∷_, map}
-use Rattle.codec.specs.Lists.{pick, part}
+use Rattle.codec.specs.Lists.{part}
 use Rattle.codec.specs.Numbers.{number, bytesOf}
-use Rattle.device.specs.Calls.{refusal}
-use Rattle.image.specs.Table.{table, listing, find, foundIn}
+use Rattle.page.specs.Layout.{Rec}
+use Rattle.image.specs.Table.{find}
+use Rattle.image.specs.declared.Lookup.{Lookup}
 use Rattle.image.specs.declared.Lookup.the-variants as lookups
 use Rattle.image.specs.Fresh.{fresh}
 use Rattle.image.specs.Calls.{keyOk}
 use Rattle.image.proofs.Fresh.{fresh-sound, fresh-table}
 use Rattle.image.proofs.Exact.{missing-lookup}
-use Rattle.image.proofs.Answers.{sound-check}
-use Rattle.edit.specs.EditList.{Edit, insert, update, delete, editBytes, editOf, editIn, faultIn, Listed, listed, faulty, joined, editsIn, editList}
+use Rattle.edit.specs.EditList.{Edit, insert, update, delete, editBytes, editOf, editIn, faultIn, Listed, joined, editsIn, editList}
 use Rattle.edit.specs.Ledger.{add, replace, without, applyEdit}
 use Rattle.edit.specs.Reads.{listBytes}
-use Rattle.edit.specs.Keys.{holds, keyRule, keysFrom}
-use Rattle.preview.specs.Calls.{inImage, brings, seenFrom, seen, rulesOf, keysOf, listOf, checkedOf, previewCall}
+use Rattle.edit.specs.Keys.{holds, keyRule, wholly, keyFault, keysFrom}
+use Rattle.preview.specs.Calls.{inImage, brings, seenFrom, seen, rulesOf, keysOf, listOf, previewCall}
 use Rattle.preview.specs.declared.Preview.{Preview}
 use Rattle.preview.specs.declared.Preview.the-variants.{InList, Missing, Refused}
+use Rattle.preview.proofs.Answers.{preview-sound}
 
 -- the edits of a list, the key that is asked, and the answer
 pub record Row : Type 0 where
@@ -49,22 +50,17 @@ rows =
     record { edits = []; key = 0; answer = Refused (record { number = 5; edit = 0 }) } ∷
     []
 
--- what a fresh store leaves of the definition
+-- what a fresh store leaves of the definition: it is sound, and its table is empty
 abbrev onFresh : ℕ → Listed → Preview
-onFresh k (faulty n i) = Refused (record { number = n; edit = i })
-onFresh k (listed es) = pick (keyOk k) (rulesOf (seenFrom k 0 Missing es) (keysFrom 0 es [])) (Refused (refusal 6))
+onFresh k l = listOf (wholly []) lookups.Missing k l
 
 fresh-call : (bytes : List ℕ) (k : ℕ) → previewCall (fresh 8) bytes k ≡ onFresh k (editList bytes)
-unfolding previewCall checkedOf listOf keysOf seen inImage find
+unfolding find
 fresh-call bytes k =
     let sound = fresh-sound 8 refl in
     let empty = fresh-table 8 in
     let none = missing-lookup (fresh 8) sound k (ap (find k) empty) in
-    rw (sound-check (fresh 8) sound) (go (editList bytes) none empty)
-  where
-    go : (l : Listed) → foundIn k (listing (fresh 8)) ≡ lookups.Missing → table (fresh 8) ≡ [] → listOf (fresh 8) k l ≡ onFresh k l
-    go (faulty n i) none empty = refl
-    go (listed es) none empty = rw (none, empty)
+    preview-sound (fresh 8) bytes sound k ∙ ap₂ (λ (t : List Rec) (a : Lookup). listOf (wholly t) a k (editList bytes)) empty none
 
 computed : (rs : List Row) → map given rs ≡ map (λ (r : Row). onFresh (r .key) (editList (listBytes (r .edits)))) rs
 computed [] = refl
@@ -72,5 +68,5 @@ computed (r ∷ rs) = ap₂ (λ (a : Preview) (l : List Preview). a ∷ l) (fres
 
 -- every row's answer is the call's
 pub previews-worked : map given rows ≡ map (λ (r : Row). r .answer) rows
-unfolding rows editBytes bytesOf editList editsIn joined faultIn editIn editOf part number keyOk rulesOf seenFrom brings keysFrom keyRule holds find applyEdit add replace without
+unfolding rows editBytes bytesOf editList editsIn joined faultIn editIn editOf part number keyOk listOf keysOf rulesOf seen inImage seenFrom brings keysFrom keyFault keyRule holds find applyEdit add replace without
 previews-worked = computed rows

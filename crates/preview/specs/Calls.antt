@@ -1,4 +1,4 @@
--- What a preview answers, and the part that it hands back (document 02 (a)).
+-- What a preview answers, and the part that it hands back (document 02 (a) and (b)).
 -- Assumes nothing.
 use Prim.Native.Nat.{ℕ, _+_}
 use mathlib.Core.List.{List, [], _∷_}
@@ -6,14 +6,14 @@ use lib.ListN.{length}
 use lib.Dec.{eqb}
 use Rattle.codec.specs.Lists.{part, pick}
 use Rattle.device.specs.Calls.{keyRange, refusal}
-use Rattle.device.specs.declared.Answer.{Answer}
-use Rattle.device.specs.declared.Answer.the-variants as answers
-use Rattle.image.specs.Table.{table, listing, foundIn}
-use Rattle.image.specs.Calls.{checkCall, keyOk}
+use Rattle.image.specs.Descent.{recordsFor}
+use Rattle.image.specs.Calls.{indexCall, keyOk, leafLookup}
+use Rattle.image.specs.declared.Root.{Root}
+use Rattle.image.specs.declared.Root.the-variants as roots
 use Rattle.image.specs.declared.Lookup.{Lookup}
 use Rattle.image.specs.declared.Lookup.the-variants as lookups
 use Rattle.edit.specs.EditList.{Edit, insert, update, delete, keyOf, headSize, editBytes, Listed, listed, faulty, editList}
-use Rattle.edit.specs.Keys.{keysFrom}
+use Rattle.edit.specs.Keys.{Source, keysFrom}
 use Rattle.edit.specs.declared.Judged.{Judged}
 use Rattle.edit.specs.declared.Judged.the-variants.{Good, Faulty}
 use Rattle.preview.specs.declared.Preview.{Preview}
@@ -21,7 +21,7 @@ use Rattle.preview.specs.declared.Preview.the-variants.{InList, InImage,
 
 -- ---- what is seen of a key
 
--- where no edit has the key: what the image holds for it
+-- where no edit has the key: what the leaf that it belongs to holds for it, or that leaf's 4, "last of all"
 unfoldable pub inImage : Lookup → Preview
 inImage (lookups.Found o n) = InImage o n
 inImage lookups.Missing = Missing
@@ -38,8 +38,9 @@ unfoldable pub seenFrom : ℕ → ℕ → Preview → List Edit → Preview
 seenFrom k at answer [] = answer
 seenFrom k at answer (e ∷ es) = seenFrom k (at + length (editBytes e)) (pick (eqb (keyOf e) k) (brings at e) answer) es
 
-unfoldable pub seen : List ℕ → ℕ → List Edit → Preview
-seen img k es = seenFrom k 0 (inImage (foundIn k (listing img))) es
+-- `stored` is what the image holds for the key
+unfoldable pub seen : Lookup → ℕ → List Edit → Preview
+seen stored k es = seenFrom k 0 (inImage stored) es
 
 -- ---- the call
 
@@ -47,22 +48,22 @@ unfoldable pub rulesOf : Preview → Judged → Preview
 rulesOf answer (Faulty r) = Refused r
 rulesOf answer Good = answer
 
--- "then 6 for the key asked, then 8 and 9": "The key rules of edits hold for the whole list"
-unfoldable pub keysOf : List ℕ → ℕ → List Edit → Preview
-keysOf img k es = pick (keyOk k) (rulesOf (seen img k es) (keysFrom 0 es (table img))) (Refused (refusal keyRange))
+-- "then 6 for the key asked, then 8 and 9": "The key rules of edits hold for the whole list", by what is read for each edit's key
+unfoldable pub keysOf : Source → Lookup → ℕ → List Edit → Preview
+keysOf read stored k es = pick (keyOk k) (rulesOf (seen stored k es) (keysFrom 0 es read)) (Refused (refusal keyRange))
 
 -- "then the list's"
-unfoldable pub listOf : List ℕ → ℕ → Listed → Preview
-listOf img k (faulty n i) = Refused (record { number = n; edit = i })
-listOf img k (listed es) = keysOf img k es
+unfoldable pub listOf : Source → Lookup → ℕ → Listed → Preview
+listOf read stored k (faulty n i) = Refused (record { number = n; edit = i })
+listOf read stored k (listed es) = keysOf read stored k es
 
--- "Refused: check's"
-unfoldable pub checkedOf : List ℕ → List ℕ → ℕ → Answer → Preview
-checkedOf img bytes k (answers.Refused r) = Refused r
-checkedOf img bytes k answers.Accepted = listOf img k (editList bytes)
+-- "Refused: check's", of page 0 and the index; each key is looked for in the one leaf that it belongs to
+unfoldable pub openedOf : List ℕ → List ℕ → ℕ → Root → Preview
+openedOf img bytes k (roots.Refused r) = Refused r
+openedOf img bytes k (roots.At root) = listOf (recordsFor img root) (leafLookup img root k) k (editList bytes)
 
 unfoldable pub previewCall : List ℕ → List ℕ → ℕ → Preview
-previewCall img bytes k = checkedOf img bytes k (checkCall img)
+previewCall img bytes k = openedOf img bytes k (indexCall img)
 
 -- ---- its companion
 

@@ -2,22 +2,23 @@
 use crate::Preview;
 use crate::keys::judge_keys;
 use crate::seen::see;
-use device::Answer;
 use device::Refusal;
 use edit::Judged;
 use edit::judge;
-use image::calls::check;
+use image::Root;
+use image::calls::index_in;
 use image::pages::TOP_KEY;
 ghost use mathlib.Core.Path.{_≡_};
-ghost use mathlib.Core.Bool.{true};
-ghost use Rattle.image.specs.Image.{sound};
+ghost use Rattle.image.specs.Descent.{recordsFor};
+ghost use Rattle.image.specs.Calls.{indexCall, leafLookup};
+ghost use Rattle.image.specs.declared.Root.the-variants as roots;
 ghost use Rattle.edit.specs.EditList.{listed, editsOf, editList};
 ghost use Rattle.preview.specs.Calls.{keysOf, listOf, previewCall, previewValueCall};
 
 // Judges the key that is asked and the keys of a well-formed list, and looks the key up as after the list.
-fn look(image: &[u8], edits: &[u8], key: u64) -> Preview
-    requires { ⌜ (sound (now image) ≡ true) × (editList (now edits) ≡ listed (editsOf (editList (now edits)))) ⌝ }
-    ensures { λ r. ⌜ r ≡ keysOf (now (image .entry)) key (editsOf (editList (now (edits .entry)))) ⌝ }
+fn look(image: &[u8], root: usize, edits: &[u8], key: u64) -> Preview
+    requires { ⌜ (indexCall (now image) ≡ roots.At root) × (editList (now edits) ≡ listed (editsOf (editList (now edits)))) ⌝ }
+    ensures { λ r. ⌜ r ≡ keysOf (recordsFor (now (image .entry)) root) (leafLookup (now (image .entry)) root key) key (editsOf (editList (now (edits .entry)))) ⌝ }
 {
     if key < 1 {
         return Preview::Refused(Refusal::of(Refusal::KEY_RANGE));
@@ -25,20 +26,20 @@ fn look(image: &[u8], edits: &[u8], key: u64) -> Preview
     if TOP_KEY < key {
         return Preview::Refused(Refusal::of(Refusal::KEY_RANGE));
     }
-    match judge_keys(image, edits) {
+    match judge_keys(image, root, edits) {
         Judged::Faulty(refusal) => Preview::Refused(refusal),
-        Judged::Good => see(image, edits, key),
+        Judged::Good => see(image, root, edits, key),
     }
 }
 
-// Judges the list, on a sound image.
-fn look_after(image: &[u8], edits: &[u8], key: u64) -> Preview
-    requires { ⌜ sound (now image) ≡ true ⌝ }
-    ensures { λ r. ⌜ r ≡ listOf (now (image .entry)) key (editList (now (edits .entry))) ⌝ }
+// Judges the list, under a sound index.
+fn look_after(image: &[u8], root: usize, edits: &[u8], key: u64) -> Preview
+    requires { ⌜ indexCall (now image) ≡ roots.At root ⌝ }
+    ensures { λ r. ⌜ r ≡ listOf (recordsFor (now (image .entry)) root) (leafLookup (now (image .entry)) root key) key (editList (now (edits .entry))) ⌝ }
 {
     match judge(edits) {
         Judged::Faulty(refusal) => Preview::Refused(refusal),
-        Judged::Good => look(image, edits, key),
+        Judged::Good => look(image, root, edits, key),
     }
 }
 
@@ -46,9 +47,9 @@ fn look_after(image: &[u8], edits: &[u8], key: u64) -> Preview
 pub fn preview(image: &[u8], edits: &[u8], key: u64) -> Preview
     ensures { λ r. ⌜ r ≡ previewCall (now (image .entry)) (now (edits .entry)) key ⌝ }
 {
-    match check(image) {
-        Answer::Refused(refusal) => Preview::Refused(refusal),
-        Answer::Accepted => look_after(image, edits, key),
+    match index_in(image) {
+        Root::Refused(refusal) => Preview::Refused(refusal),
+        Root::At(root) => look_after(image, root, edits, key),
     }
 }
 

@@ -15,3 +15,10 @@ pub enum Preview {
     Missing,
     Refused(Refusal),
 }
+
+// Whether a key is there when an edit comes to it; unread where the leaf that it belongs to is unsound.
+pub enum Presence {
+    Present,
+    Absent,
+    Unread,
+}

@@ -3,10 +3,10 @@ use crate::Preview;
 use image::Lookup;
 use image::descent::find_key;
 ghost use mathlib.Core.Path.{_≡_};
-ghost use mathlib.Core.Bool.{true};
 ghost use lib.Dec.{eqb};
 ghost use Rattle.codec.specs.Lists.{pick};
-ghost use Rattle.image.specs.Image.{sound};
+ghost use Rattle.image.specs.Calls.{indexCall, leafLookup};
+ghost use Rattle.image.specs.declared.Root.the-variants as roots;
 ghost use Rattle.edit.specs.EditList.{listed, editsOf, editList};
 ghost use Rattle.preview.specs.Calls.{inImage, seen};
 
@@ -31,10 +31,10 @@ fn brought(kind: u8, offset: usize, length: usize) -> Preview
     }
 }
 
-// What is seen of a key after a well-formed list: what the last edit of the key brings; the image is looked at only if no edit has the key.
-pub(crate) fn see(image: &[u8], list: &[u8], key: u64) -> Preview
-    requires { ⌜ (sound (now image) ≡ true) × (editList (now list) ≡ listed (editsOf (editList (now list)))) ⌝ }
-    ensures { λ r. ⌜ r ≡ seen (now (image .entry)) key (editsOf (editList (now (list .entry)))) ⌝ }
+// What is seen of a key after a well-formed list: what the last edit of the key brings; the leaf of the key is read only if no edit has the key.
+pub(crate) fn see(image: &[u8], root: usize, list: &[u8], key: u64) -> Preview
+    requires { ⌜ (indexCall (now image) ≡ roots.At root) × (editList (now list) ≡ listed (editsOf (editList (now list)))) ⌝ }
+    ensures { λ r. ⌜ r ≡ seen (leafLookup (now (image .entry)) root key) key (editsOf (editList (now (list .entry)))) ⌝ }
 {
     let mut own = false;
     let mut answer = Preview::Missing;
@@ -51,5 +51,5 @@ pub(crate) fn see(image: &[u8], list: &[u8], key: u64) -> Preview
     if own {
         return answer;
     }
-    in_image(find_key(image, key))
+    in_image(find_key(image, root, key))
 }

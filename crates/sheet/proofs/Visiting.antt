@@ -15,10 +15,10 @@ use Rattle.page.specs.Page.{Entry, recs}
 use Rattle.image.specs.Facts.{Rising}
 use Rattle.image.specs.Image.{sound}
 use Rattle.image.specs.Table.{listing, foundIn, above}
-use Rattle.image.specs.Calls.{keyOk, lookupFrom, lookupCall, nextFrom, nextCall}
+use Rattle.image.specs.Calls.{keyOk, lookupCall, nextCall}
 use Rattle.image.specs.declared.Lookup.the-variants as lookups
 use Rattle.image.specs.declared.Next.the-variants as nexts
-use Rattle.image.proofs.Answers.{sound-check}
+use Rattle.image.proofs.Answers.{lookup-sound, next-sound}
 use Rattle.device.specs.declared.Refusal.{Refusal}
 use Rattle.image.proofs.Rising.{rising-le}
 use Rattle.image.proofs.Exact.{above-answers}
@@ -148,8 +148,7 @@ module _ (img : List ℕ) (h : sound img ≡ true) where
   rising-listing = rw (recs-listing img) (table-rising img h)
 
   next-above : (k : ℕ) → nextCall img k ≡ above k (recs (listing img))
-  unfolding nextCall nextFrom
-  next-above k = rw (sound-check img h, recs-listing img)
+  next-above k = next-sound img h k ∙ ap (above k) (sym (recs-listing img))
 
   module _ (before slot k : ℕ) where
     pub next-none : nextCall img k ≡ nexts.Last → visits.End ≡ firstOf (rowsAfter before slot (later k (listing img)))
@@ -165,7 +164,7 @@ module _ (img : List ℕ) (h : sound img ≡ true) where
       pub found : lookupCall img j ≡ lookups.Found (entry .at + 16) (length (entry .rec .value))
 
     pub looked : (j : ℕ) → nextCall img k ≡ nexts.Key j → Looked j
-    unfolding lookupCall lookupFrom keyOk
+    unfolding keyOk
     looked j e =
         let A = above-ahead k j (listing img) (sym (next-above k) ∙ e) in
         let F = later-first k 1 (listing img) (suc topKey) (A .entry) (A .rest) rising-listing (A .is) in
@@ -178,7 +177,7 @@ module _ (img : List ℕ) (h : sound img ≡ true) where
           rest = A .rest;
           is = A .is;
           key = A .key;
-          found = rw (sound-check img h, ok) (ap (λ (m : ℕ). foundIn m (listing img)) (sym same) ∙ F .found);
+          found = lookup-sound img h j ∙ rw ok (ap (λ (m : ℕ). foundIn m (listing img)) (sym same) ∙ F .found);
         }
 
     pub row-found : (j o n : ℕ) → nextCall img k ≡ nexts.Key j → lookupCall img j ≡ lookups.Found o n →

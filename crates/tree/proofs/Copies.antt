@@ -14,11 +14,10 @@ use Rattle.page.specs.Page.{records, RecOk}
 use Rattle.page.specs.Operations.{sizes, pageOf}
 use Rattle.page.proofs.Facts.{length-records}
 use Rattle.page.proofs.Listed.{few-listed}
-use Rattle.image.specs.Image.{childOf, children, reached, nextSep}
+use Rattle.image.specs.Image.{childOf, children, reached, nextSep, startOf}
 use Rattle.image.specs.Facts.{Rising, Leaf, Leaves}
 use Rattle.image.specs.Table.{leafRecords}
 use Rattle.image.proofs.Rising.{From, rising-le}
-use Rattle.image.proofs.Order.{startOf}
 use Rattle.tree.specs.State.{State, done, filled}
 use Rattle.tree.specs.Edits.{indexRec, indexed, copied}
 use Rattle.tree.specs.Grounds.{entrySize, pagesFor, tooFew}

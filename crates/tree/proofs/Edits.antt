@@ -16,12 +16,11 @@ use Rattle.page.specs.Operations.{made, pageOf}
 use Rattle.page.specs.Search.{searched}
 use Rattle.page.specs.declared.Search.{Search}
 use Rattle.page.specs.declared.Search.the-variants.{At, Missing}
-use Rattle.image.specs.Image.{childOf, children, nextSep}
+use Rattle.image.specs.Image.{childOf, children, nextSep, startOf, firstKey}
 use Rattle.image.specs.Facts.{Rising}
 use Rattle.image.specs.Table.{leafRecords, find}
 use Rattle.image.specs.Route.{route}
-use Rattle.image.proofs.Rising.{firstKey}
-use Rattle.image.proofs.Order.{startOf, leafRecords-append}
+use Rattle.image.proofs.Order.{leafRecords-append}
 use Rattle.image.proofs.Routing.{Routed, routed, before-below, after-above, find-here}
 use Rattle.edit.specs.EditList.{Edit, keyOf}
 use Rattle.edit.specs.EditList as edits

@@ -18,11 +18,10 @@ use Rattle.page.proofs.Facts.{pageOk-true, leaf-form, records-ok}
 use Rattle.page.proofs.Listed.{few-listed}
 use Rattle.page.proofs.Sizes.{page-sizes}
 use Rattle.page.proofs.Made.{All-made}
-use Rattle.image.specs.Image.{childOf, children, reached, nextSep}
+use Rattle.image.specs.Image.{childOf, children, reached, nextSep, startOf}
 use Rattle.image.specs.Facts.{Rising, Leaf}
 use Rattle.image.specs.Table.{leafRecords}
 use Rattle.image.proofs.Rising.{From}
-use Rattle.image.proofs.Order.{startOf}
 use Rattle.edit.proofs.General.{by-test, by-tests}
 use Rattle.tree.specs.State.{State, withPage}
 use Rattle.tree.specs.Edits.{inPlace, moved, put, dropped}

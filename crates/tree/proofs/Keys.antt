@@ -15,7 +15,7 @@ use Rattle.image.proofs.General.{All-left}
 use Rattle.edit.specs.EditList.{Edit}
 use Rattle.edit.specs.Reads.{Proper}
 use Rattle.edit.specs.Keys.{Kept, Broken, AllKept, FirstBroken}
-use Rattle.edit.proofs.Keys.{broken-number, kept-append}
+use Rattle.edit.proofs.Keys.{broken-number, kept-append, first-broken}
 use Rattle.tree.specs.State.{State, Step, done, refused, begin}
 use Rattle.tree.specs.Edits.{edited}
 use Rattle.tree.specs.Whole.{finished, onward, editsFrom, editsOn}
@@ -88,15 +88,8 @@ module _ (a : List ℕ) (h : sound a ≡ true) (es : List Edit) (P : All Proper 
   -- 8 or 9 is the number of the first broken rule
   pub grounds-broken : 8 ≤ k → k ≤ 9 → FirstBroken es (table a) k i
   grounds-broken low high =
-      record {
-        before = G .before;
-        culprit = G .culprit;
-        rest = G .rest;
-        shape = G .shape;
-        place = G .number;
-        kept = before-kept;
-        broken = subst (λ (t : List Rec). Broken (G .culprit) t k) (G .holding) (reason-broken (G .state) (G .culprit) k reason low high);
-      }
+      first-broken es (table a) k i (G .before) (G .culprit) (G .rest) (G .shape) (G .number) before-kept
+      (subst (λ (t : List Rec). Broken (G .culprit) t k) (G .holding) (reason-broken (G .state) (G .culprit) k reason low high))
 
   -- an edit that is refused with 10 or 11 keeps its rule, as those before it do
   pub grounds-kept : 10 ≤ k → AllKept (G .before ++ G .culprit ∷ []) (table a)

@@ -11,11 +11,10 @@ use Rattle.codec.specs.Lists.{All}
 use Rattle.page.specs.Layout.{Rec}
 use Rattle.page.specs.Page.{records}
 use Rattle.page.specs.Operations.{pageOf}
-use Rattle.image.specs.Image.{childOf, nextSep}
+use Rattle.image.specs.Image.{childOf, nextSep, startOf}
 use Rattle.image.specs.Facts.{Leaf, Leaves}
 use Rattle.image.specs.Table.{leafRecords}
 use Rattle.image.proofs.Rising.{rising-le, rising-lo, rising-hi}
-use Rattle.image.proofs.Order.{startOf}
 use Rattle.tree.specs.Good.{named}
 use Rattle.tree.proofs.Counts.{hit-self}
 

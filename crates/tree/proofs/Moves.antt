@@ -15,11 +15,10 @@ use Rattle.page.specs.Layout.{leafKind, indexKind, Rec, readHead}
 use Rattle.page.specs.Page.{records, formOk}
 use Rattle.page.specs.Operations.{pageOf}
 use Rattle.page.proofs.Facts.{true-pageOk, form-leaf}
-use Rattle.image.specs.Image.{childOf, children, reached, nextSep}
+use Rattle.image.specs.Image.{childOf, children, reached, nextSep, startOf}
 use Rattle.image.specs.Facts.{Rising, Leaf}
 use Rattle.image.specs.Table.{leafRecords}
 use Rattle.image.proofs.Rising.{From, rising-rise}
-use Rattle.image.proofs.Order.{startOf}
 use Rattle.edit.proofs.General.{all-right}
 use Rattle.tree.specs.State.{State, withPage}
 use Rattle.tree.specs.Grounds.{tableOf}

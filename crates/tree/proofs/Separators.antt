@@ -15,9 +15,9 @@ use Rattle.page.specs.Layout.{pageSize, lineSize, slotCount, topKey, Rec}
 use Rattle.page.specs.Page.{RecOk}
 use Rattle.page.specs.Operations.{made}
 use Rattle.image.specs.Facts.{Rising}
-use Rattle.image.proofs.Rising as rising
+use Rattle.image.specs.Image as ranges
+use Rattle.image.specs.Image.{startOf}
 use Rattle.image.proofs.Rising.{rising-le}
-use Rattle.image.proofs.Order.{startOf}
 use Rattle.tree.specs.Edits.{keptSep, firstKey}
 use Rattle.tree.specs.Grounds.{entrySize}
 use Rattle.tree.specs.Moved.{Kept}
@@ -48,7 +48,7 @@ pub rising-some : (lo : ℕ) (l : List Rec) (hi : ℕ) → Rising lo l hi → 1 
 rising-some lo [] hi h s = absurd (not-suc-le-zero s)
 rising-some lo (r ∷ l) hi h s = omega (arith, h .0, rising-le (suc (r .key)) l hi (h .1))
 
-pub first-key : (l : List Rec) (hi : ℕ) → 1 ≤ length l → rising.firstKey l hi ≡ firstKey l
+pub first-key : (l : List Rec) (hi : ℕ) → 1 ≤ length l → ranges.firstKey l hi ≡ firstKey l
 unfolding firstKey
 first-key [] hi h = absurd (not-suc-le-zero h)
 first-key (r ∷ l) hi h = refl

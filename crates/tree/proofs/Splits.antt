@@ -14,11 +14,10 @@ use Rattle.codec.specs.Numbers.{bytesOf}
 use Rattle.page.specs.Layout.{pageSize, lineSize, slotCount, leafKind, Rec, recOf}
 use Rattle.page.specs.Page.{records, RecOk}
 use Rattle.page.specs.Operations.{sizes, pageOf}
-use Rattle.image.specs.Image.{childOf, children, nextSep}
+use Rattle.image.specs.Image.{childOf, children, nextSep, startOf}
 use Rattle.image.specs.Facts.{Rising}
 use Rattle.image.specs.Table.{leafRecords}
 use Rattle.image.proofs.Rising.{From, rising-split}
-use Rattle.image.proofs.Order.{startOf}
 use Rattle.image.proofs.General.{All-left}
 use Rattle.edit.proofs.General.{by-tests, all-right}
 use Rattle.tree.specs.State.{State, done, filled}

@@ -15,14 +15,14 @@ use Rattle.page.specs.Page.{records, laidOut, formOk, pageOk}
 use Rattle.page.specs.Operations.{pageOf}
 use Rattle.page.proofs.Facts.{pageOk-true, true-pageOk, index-form, form-index}
 use Rattle.image.specs.PageZero.{pageCount, isPage}
-use Rattle.image.specs.Image.{childOf, children, reached, nextSep}
+use Rattle.image.specs.Image.{childOf, children, reached, nextSep, startOf}
 use Rattle.image.specs.Facts.{Rising, Leaf, Leaves}
 use Rattle.image.specs.Table.{leafRecords}
 use Rattle.image.proofs.Rising.{rising-append, rising-split, rising-rise, rising-lo}
 use Rattle.image.proofs.Frame.{tree-reached}
 use Rattle.image.proofs.Soundness as image
 use Rattle.image.proofs.Soundness.{page-rising, sep-rising, sep-next as sep-le}
-use Rattle.image.proofs.Order.{startOf, leaves-from, leafRecords-append}
+use Rattle.image.proofs.Order.{leaves-from, leafRecords-append}
 use Rattle.image.proofs.General.{All-append, All-left}
 use Rattle.edit.proofs.General.{all-right}
 use Rattle.tree.specs.State.{State}

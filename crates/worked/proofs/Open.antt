@@ -8,9 +8,9 @@ use Rattle.page.specs.Layout.{up8, size, recordBytes, recordIn, recordAt, padde
 use Rattle.page.specs.Operations.{seal, written, insertHead, updateHead, deleteHead, insert, update, delete, fillHead, fillBytes, fill, sizes, made, pageOf, putPage}
 use Rattle.page.specs.Page.{entries, records, recOk, headOk, heldB, offB, apartB, laidOut, formOk, startsAt, keysRise, pageOk}
 use Rattle.page.specs.Search.{searched}
-use Rattle.image.specs.Calls.{checkFrom, checkCall, keyOk}
+use Rattle.image.specs.Calls.{rootFrom, rootCall, checkFrom, checkCall, keyOk}
 use Rattle.image.specs.Fresh.{zeroPage, freshZero, fresh}
-use Rattle.image.specs.Image.{childOf, children, reached, among, distinct, indexOk, nextSep, leafOk, leavesOk, treeOk}
+use Rattle.image.specs.Image.{childOf, children, reached, among, distinct, indexOk, nextSep, places, leafOk, leafAt, leavesOk, treeOk}
 use Rattle.image.specs.PageZero.{isPage, rootOf, markBytes, noMark, markOk, wordsPast, pageZero}
 use Rattle.image.specs.Route.{lastFrom, route}
 use Rattle.image.specs.Table.{leafRecords, table}
@@ -26,5 +26,5 @@ use Rattle.worked.specs.Row.{lentTape, transacted, after, refusalIn, edi
 use Rattle.worked.specs.Rows.{value, inserts}
 
 unfoldable pub opened : ℕ
-unfolding part splice insertAt removeAt eqs every allB number bytesOf unit follows isCommand front scan decode flushCount headBytes commandBytes tapeBytes up8 size recordBytes recordIn recordAt padded slotBytes slotsIn headerBytes readHead unusedHead seal written insertHead updateHead deleteHead insert update delete fillHead fillBytes fill sizes made pageOf putPage entries records recOk headOk heldB offB apartB laidOut formOk startsAt keysRise pageOk searched checkFrom checkCall keyOk zeroPage freshZero fresh childOf children reached among distinct indexOk nextSep leafOk leavesOk treeOk isPage rootOf markBytes noMark markOk wordsPast pageZero lastFrom route leafRecords table editBytes editOf editIn faultIn joined editsIn editList freeWord wordStores flushesFrom flushesOf stageA headerLine changedFrom changedPages sameRoot ownPage logStores logFlushes logTape headerStores headerFlushes ending replayTape joinLines byHeader byRoot byLog choose roomInLog takenFor commitOf isFull inPlace indexRec indexed keptSep splitFrom splitPoint firstKey copied split moved put dropped editAt edited others begin takePage taken filled onward editsFrom pagesFrom putBack editedImage editsOn refusedWith acceptedWith committed outcomeOf listOf checkedOf transactionCall lentTape transacted after refusalIn editNumberIn bytesIn flushesIn kindAndPlace kindsAndPlaces readOff readAll found value inserts
+unfolding part splice insertAt removeAt eqs every allB number bytesOf unit follows isCommand front scan decode flushCount headBytes commandBytes tapeBytes up8 size recordBytes recordIn recordAt padded slotBytes slotsIn headerBytes readHead unusedHead seal written insertHead updateHead deleteHead insert update delete fillHead fillBytes fill sizes made pageOf putPage entries records recOk headOk heldB offB apartB laidOut formOk startsAt keysRise pageOk searched rootFrom rootCall checkFrom checkCall keyOk zeroPage freshZero fresh childOf children reached among distinct indexOk nextSep places leafOk leafAt leavesOk treeOk isPage rootOf markBytes noMark markOk wordsPast pageZero lastFrom route leafRecords table editBytes editOf editIn faultIn joined editsIn editList freeWord wordStores flushesFrom flushesOf stageA headerLine changedFrom changedPages sameRoot ownPage logStores logFlushes logTape headerStores headerFlushes ending replayTape joinLines byHeader byRoot byLog choose roomInLog takenFor commitOf isFull inPlace indexRec indexed keptSep splitFrom splitPoint firstKey copied split moved put dropped editAt edited others begin takePage taken filled onward editsFrom pagesFrom putBack editedImage editsOn refusedWith acceptedWith committed outcomeOf listOf checkedOf transactionCall lentTape transacted after refusalIn editNumberIn bytesIn flushesIn kindAndPlace kindsAndPlaces readOff readAll found value inserts
 opened = 0

@@ -3,9 +3,11 @@
 //! from the reference, so that a slip in the reference can't hide here.
 
 pub mod damage;
+pub mod harms;
 pub mod images;
 pub mod lists;
 pub mod logs;
+pub mod narrow;
 pub mod previews;
 pub mod random;
 pub mod stores;

@@ -31,18 +31,16 @@ fn try_one(random: &mut Random, call: &Call, input: &Input, tally: &mut Tally) -
 /// Every call once, on one input.
 fn round(random: &mut Random, tally: &mut Tally) {
     let input = any_input(random);
-    for call in [&FORMAT, &CHECK, &RUN, &CUT] {
+    for call in [&FORMAT, &RUN, &CUT] {
         try_one(random, call, &input, tally);
     }
-    if let (0, buffers) = try_one(random, &LOOKUP, &input, tally) {
-        value_is_inside(&buffers);
-    }
-    if let (0, buffers) = try_one(random, &NEXT_KEY, &input, tally) {
-        key_is_above(&buffers);
-    }
+    reads(random, &input, tally);
     let look = try_one(random, &PREVIEW, &input, tally);
     let made = try_one(random, &TRANSACTION, &input, tally);
     look_agrees(&look, &made);
+    if made.0 == 4 {
+        *tally.entry((BESIDE[2], look.0)).or_default() += 1;
+    }
     if let (0, buffers) = made {
         play(
             random,
@@ -62,6 +60,34 @@ fn round(random: &mut Random, tally: &mut Tally) {
         );
     }
 }
+
+/// Check, and the two calls that read one leaf or two.
+fn reads(random: &mut Random, input: &Input, tally: &mut Tally) {
+    let (checked, _) = try_one(random, &CHECK, input, tally);
+    let (found, lookup) = try_one(random, &LOOKUP, input, tally);
+    let (above, next) = try_one(random, &NEXT_KEY, input, tally);
+    if found == 0 {
+        value_is_inside(&lookup);
+    }
+    if above == 0 {
+        key_is_above(&next);
+    }
+    for (name, number) in [(BESIDE[0], found), (BESIDE[1], above)] {
+        let agrees = match checked {
+            0 => [0, 6].contains(&number),
+            4 => [0, 4, 6].contains(&number),
+            _ => number == checked,
+        };
+        assert!(agrees, "check {checked}, {name} {number}");
+        if checked == 4 {
+            *tally.entry((name, number)).or_default() += 1;
+        }
+    }
+}
+
+/// What is answered where check says 4: damage in a leaf that a call does not
+/// read is nothing to it.
+const BESIDE: [&str; 3] = ["lookup, check 4", "next key, check 4", "preview, check 4"];
 
 /// Runs and cuts the tape that an accepted call wrote, whole or damaged, if it
 /// had room to answer bytes and flushes.
@@ -98,12 +124,14 @@ fn value_is_inside(buffers: &Buffers) {
 }
 
 /// A look and the transaction of the same list: it is refused alike, but for the
-/// key asked and for what plays no part in a look; and it shows what the
-/// transaction makes.
+/// key asked, for what plays no part in a look and for leaves that it does not
+/// read; and it shows what the transaction makes.
 fn look_agrees((number, look): &(u8, Buffers), (made, transaction): &(u8, Buffers)) {
     let agrees = match made {
         // The look has no work buffer, so all that comes after may hold.
         2 => *number != 1,
+        // Nor does it read every leaf; page 0 is judged by both.
+        4 => ![1, 3].contains(number),
         0 | 12 | 13 => [0, 6].contains(number),
         10 | 11 => [0, 6, 8, 9].contains(number),
         8 | 9 => [6, *made].contains(number),
@@ -194,14 +222,17 @@ fn bad_input_gets_its_refusal() {
         RUN,
         CUT,
     ] {
-        every_answer_came(&call, &tally);
+        every_answer_came(call.name, call.known, &tally);
     }
+    every_answer_came(BESIDE[0], &[0, 4, 6], &tally);
+    every_answer_came(BESIDE[1], &[0, 4], &tally);
+    every_answer_came(BESIDE[2], &[0, 4], &tally);
 }
 
-fn every_answer_came(call: &Call, tally: &Tally) {
-    for number in call.known {
-        let times = tally.get(&(call.name, *number)).copied().unwrap_or(0);
-        println!("{:<12}{number:>3}{times:>8}", call.name);
+fn every_answer_came(name: &'static str, known: &[u8], tally: &Tally) {
+    for number in known {
+        let times = tally.get(&(name, *number)).copied().unwrap_or(0);
+        println!("{name:<18}{number:>3}{times:>8}");
         assert!(times > 3, "came too seldom");
     }
 }

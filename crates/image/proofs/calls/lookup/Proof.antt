@@ -1,70 +1,42 @@
--- `lookup` answers what `lookupCall` says: check's refusals, then the key's range, then the descent.
+-- `lookup`: page 0 and the index, then the leaf, then the key's range.
 -- Assumes nothing.
-use mathlib.Core.Path.{_≡_, sym, ap, _∙_}
-use borrow.Author.Tests.{le-leb, lt-leb}
-use Rattle.device.specs.declared.Answer.the-variants.{Accepted}
-use Rattle.image.specs.Calls.{checkCall, keyOk, lookupFrom, lookupCall}
-use Rattle.image.specs.declared.Lookup.the-variants.{Refused}
-use Rattle.image.proofs.Answers.{check-sound, lookup-range, lookup-refused}
+use mathlib.Core.Path.{sym, ap, _∙_}
+use Rattle.image.specs.Calls.{ranged, lookupFrom, lookupCall}
 use borrow.Author.Needs.{needs}
 use Rattle.image.proofs.calls.lookup.Statement.{statement}
 use Rattle.image.proofs.calls.lookup.Tie as tie
 
-check-requires : tie.Need-check-requires
-check-requires c κs = search needs
+index-in-requires : tie.Need-index-in-requires
+index-in-requires c κs = search needs
 
 enum-known-r : tie.Need-enum-known-r
 enum-known-r c = search needs
 
-enum-told : tie.Need-enum-told
-enum-told c = search needs
-
-accepted : (c : tie.After-enum-told) → checkCall (c .before .before .before .before .args .image .now) ≡ Accepted
-accepted c = sym (c .before .before .check .ensures) ∙ c .enum-told .given .1
-
-of-requires : tie.Need-of-requires
-of-requires c κs = search needs
-
-returns : tie.Need-returns
-unfolding keyOk
-returns c =
-    let a = c .before .before .before .before .before .before .args in
-    ap Refused (c .of .ensures) ∙ sym (lookup-range (a .image .now) (accepted (c .before .before)) (a .key) (rw (lt-leb 1 (a .key) (c .before .if1 .taken))))
-
-of-requires-2 : tie.Need-of-requires-2
-of-requires-2 c κs = search needs
-
-returns-2 : tie.Need-returns-2
-unfolding keyOk
-returns-2 c =
-    let a = c .before .before .before .before .before .before .before .args in
-    ap Refused (c .of2 .ensures) ∙ sym (lookup-range (a .image .now) (accepted (c .before .before .before)) (a .key) (rw (le-leb 1 (a .key) (c .before .before .if1 .left), lt-leb (a .key) 999999999999 (c .before .if2 .taken))))
+enum-known-root : tie.Need-enum-known-root
+enum-known-root c = search needs
 
 find-key-requires : tie.Need-find-key-requires
-find-key-requires c κs = check-sound (c .before .before .before .before .before .before .args .image .now) (accepted (c .before .before))
+find-key-requires c κs = sym (c .before .before .before .index-in .ensures) ∙ c .before .root .given .1
 
-returns-3 : tie.Need-returns-3
-returns-3 c =
-    let a = c .before .before .before .before .before .args in
-    sym (lookup-refused (a .image .now) (c .before .r .given .0 .0) (sym (c .before .before .before .check .ensures) ∙ c .before .r .given .1) (a .key))
+ranged-requires : tie.Need-ranged-requires
+ranged-requires c κs = search needs
 
-returns-4 : tie.Need-returns-4
-unfolding lookupCall lookupFrom keyOk
-returns-4 c =
-    let a = c .before .before .before .before .before .before .before .args in
-    c .find-key .ensures ∙ rw (accepted (c .before .before .before), le-leb 1 (a .key) (c .before .before .if1 .left), le-leb (a .key) 999999999999 (c .before .if2 .left))
+returns : tie.Need-returns
+unfolding lookupCall lookupFrom
+returns c = rw (sym (c .before .before .before .index-in .ensures) ∙ c .before .r .given .1)
+
+returns-2 : tie.Need-returns-2
+unfolding lookupCall lookupFrom
+returns-2 c = c .ranged .ensures ∙ ap (ranged (c .before .before .before .before .before .before .before .args .key)) (c .before .find-key .ensures) ∙ rw (sym (c .before .before .before .before .before .index-in .ensures) ∙ c .before .before .before .root .given .1)
 
 pub lookup-spec : {M : Type 1} → statement M
 lookup-spec =
     tie.close
     (tie.spec
-    check-requires
+    index-in-requires
     enum-known-r
-    enum-told
-    of-requires
-    returns
-    of-requires-2
-    returns-2
+    enum-known-root
     find-key-requires
-    returns-3
-    returns-4)
+    ranged-requires
+    returns
+    returns-2)

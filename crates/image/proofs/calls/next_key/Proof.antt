@@ -1,39 +1,32 @@
--- `next_key` answers what `nextCall` says: check's refusals, then the descent.
+-- `next_key`: page 0 and the index, then the descent.
 -- Assumes nothing.
-use mathlib.Core.Path.{_≡_, sym, _∙_}
-use Rattle.device.specs.declared.Answer.the-variants.{Accepted}
-use Rattle.image.specs.Calls.{checkCall}
-use Rattle.image.proofs.Answers.{check-sound, next-call, next-refused}
+use mathlib.Core.Path.{sym, _∙_}
+use Rattle.image.specs.Calls.{nextFrom, nextCall}
 use borrow.Author.Needs.{needs}
 use Rattle.image.proofs.calls.next_key.Statement.{statement}
 use Rattle.image.proofs.calls.next_key.Tie as tie
 
-check-requires : tie.Need-check-requires
-check-requires c κs = search needs
+index-in-requires : tie.Need-index-in-requires
+index-in-requires c κs = search needs
 
 enum-known-r : tie.Need-enum-known-r
 enum-known-r c = search needs
 
-enum-told : tie.Need-enum-told
-enum-told c = search needs
-
-accepted : (c : tie.After-enum-told) → checkCall (c .before .before .before .before .args .image .now) ≡ Accepted
-accepted c = sym (c .before .before .check .ensures) ∙ c .enum-told .given .1
+enum-known-root : tie.Need-enum-known-root
+enum-known-root c = search needs
 
 next-above-requires : tie.Need-next-above-requires
-next-above-requires c κs = check-sound (c .before .before .before .before .args .image .now) (accepted c)
+next-above-requires c κs = sym (c .before .before .before .index-in .ensures) ∙ c .before .root .given .1
 
 returns : tie.Need-returns
-returns c =
-    let a = c .before .before .before .before .before .args in
-    sym (next-refused (a .image .now) (c .before .r .given .0 .0) (sym (c .before .before .before .check .ensures) ∙ c .before .r .given .1) (a .key))
+unfolding nextCall nextFrom
+returns c = rw (sym (c .before .before .before .index-in .ensures) ∙ c .before .r .given .1)
 
 returns-2 : tie.Need-returns-2
-returns-2 c =
-    let a = c .before .before .before .before .before .args in
-    c .next-above .ensures ∙ sym (next-call (a .image .now) (accepted (c .before)) (a .key))
+unfolding nextCall
+returns-2 c = c .next-above .ensures ∙ rw (sym (c .before .before .before .before .index-in .ensures) ∙ c .before .before .root .given .1)
 
 pub next-key-spec : {M : Type 1} → statement M
 next-key-spec =
     tie.close
-    (tie.spec check-requires enum-known-r enum-told next-above-requires returns returns-2)
+    (tie.spec index-in-requires enum-known-r enum-known-root next-above-requires returns returns-2)

@@ -1,14 +1,13 @@
 -- `value` lends the part of the image that the lookup names.
 -- Assumes nothing.
 use Prim.Native.Nat.{ℕ, _+_, _≤_}
-use mathlib.Core.Path.{sym, ap, _∙_, subst}
+use mathlib.Core.Path.{sym, ap, _∙_}
 use native.Mathlib.Omega.{arith}
 use native.Mathlib.Nat.{add-sub-cancel-left}
 use lib.ListN.{length, take, drop}
 use Rattle.codec.specs.Lists.{part}
 use Rattle.image.specs.Calls.{valueAt, valueCall}
-use Rattle.image.specs.Says.{LookupSays}
-use Rattle.image.proofs.Answers.{lookup-says}
+use Rattle.image.proofs.Says.{found-inside}
 use borrow.Author.Needs.{needs}
 use Rattle.image.proofs.calls.value.Statement.{statement}
 use Rattle.image.proofs.calls.value.Tie as tie
@@ -22,7 +21,7 @@ enum-known-offset c = search needs
 inside : (c : tie.After-offset) → c .offset .given .0 .0 + c .offset .given .0 .1 .0 ≤ length (c .before .before .before .before .args .image .now)
 inside c =
     let a = c .before .before .before .before .args in
-    subst (LookupSays (a .image .now) (a .key)) (sym (c .before .before .lookup .ensures) ∙ c .offset .given .1) (lookup-says (a .image .now) (a .key)) .4
+    found-inside (a .image .now) (a .key) _ _ (sym (c .before .before .lookup .ensures) ∙ c .offset .given .1)
 
 add-end : tie.Need-add-end
 add-end c = omega (arith, inside (c .before))

@@ -1,4 +1,4 @@
--- `sep_after` reads the separator of the record after the i-th, or answers the number past the largest key.
+-- `sep_after` reads the separator of the record after the i-th, or answers the end that it is given.
 -- Assumes nothing.
 use Prim.Native.Nat.{_+_}
 use mathlib.Core.Path.{sym, _∙_}
@@ -27,17 +27,14 @@ key-at-requires c κs = search needs
 returns : tie.Need-returns
 returns c =
     let a = c .before .before .before .before .args in
-    c .key-at .ensures ∙ sym (sep-here (records (a .page .now)) (a .i + 1) (recOf 0 []) (omega (arith, c .before .before .count .ensures, c .before .if1 .taken)))
-
-add-result : tie.Need-add-result
-add-result c = search needs
+    c .key-at .ensures ∙ sym (sep-here (records (a .page .now)) (a .i + 1) (recOf 0 []) (a .end) (omega (arith, c .before .before .count .ensures, c .before .if1 .taken)))
 
 returns-2 : tie.Need-returns-2
 returns-2 c =
     let a = c .before .before .before .args in
-    sym (sep-end (records (a .page .now)) (a .i + 1) (omega (arith, c .before .count .ensures, c .if1 .left)))
+    sym (sep-end (records (a .page .now)) (a .i + 1) (a .end) (omega (arith, c .before .count .ensures, c .if1 .left)))
 
 pub sep-after-spec : {M : Type 1} → statement M
 sep-after-spec =
     tie.close
-    (tie.spec add-if1 count-requires add-key-at key-at-requires returns add-result returns-2)
+    (tie.spec add-if1 count-requires add-key-at key-at-requires returns returns-2)

@@ -1,4 +1,4 @@
--- `see`: what the edits that are left make of what is seen so far, or of the image's answer, is what all of them make of the image's.
+-- `see`: what the edits that are left make of what is seen so far, or of the image's answer, is what all of them make of the image's answer.
 -- Assumes nothing.
 use Prim.Native.Nat.{_+_, _-_, _≤_}
 use mathlib.Core.Path.{_≡_, refl, sym, ap, ap₂, _∙_}
@@ -8,7 +8,7 @@ use native.Mathlib.Omega.{arith}
 use lib.ListN.{length}
 use borrow.Author.Needs.{needs}
 use Rattle.codec.specs.Lists.{pick}
-use Rattle.image.specs.Table.{listing, foundIn}
+use Rattle.image.specs.Calls.{leafLookup}
 use Rattle.edit.specs.EditList.{editsOf, editList}
 use Rattle.edit.proofs.Parsing.{list-whole}
 use Rattle.edit.proofs.Heads.{Ahead, head-none, head-fits, head-rest}
@@ -19,10 +19,10 @@ use Rattle.preview.proofs.seen.see.Statement.{statement}
 use Rattle.preview.proofs.seen.see.Tie as tie
 
 abbrev Inv-loop : tie.InvT-loop
-Inv-loop image list key own₀ answer₀ at₀ own answer at = (at ≤ length list) × (A : Ahead list at) × (seenFrom key at (pick own answer (inImage (foundIn key (listing image)))) (A .edits) ≡ seen image key (editsOf (editList list)))
+Inv-loop image root list key own₀ answer₀ at₀ own answer at = (at ≤ length list) × (A : Ahead list at) × (seenFrom key at (pick own answer (inImage (leafLookup image root key))) (A .edits) ≡ seen (leafLookup image root key) key (editsOf (editList list)))
 
 abbrev μ-loop : tie.MeasureT-loop
-μ-loop image list key own₀ answer₀ at₀ own answer at = length list - at
+μ-loop image root list key own₀ answer₀ at₀ own answer at = length list - at
 
 loop-holds : tie.Need-loop-holds Inv-loop μ-loop
 unfolding seen
@@ -69,7 +69,7 @@ loop-again c =
     let key = c .before .long-at .ensures in
     let rest = head-rest (l .inv .1) more _ m in
     let a = c .before .before .before .before .before .before .before .before .args in
-    let stored = inImage (foundIn (a .key) (listing (a .image .now))) in
+    let stored = inImage (leafLookup (a .image .now) (a .root) (a .key)) in
     let to : (own : Bool) (answer : Preview) → c .if1 .own ≡ own → c .if1 .answer ≡ answer → _ =
     λ own answer p q. ap₂ (λ (o : Bool) (x : Preview). seenFrom (a .key) (l .at + 10 + c .before .before .wide .result) (pick o x stored) (rest .edits)) p q in (
       fits c,
@@ -82,12 +82,12 @@ loop-again c =
 
 -- no edit is left
 ended : (c : tie.After-loop Inv-loop μ-loop) (own : Bool) → c .before .loop .own ≡ own →
-    pick own (c .before .loop .answer) (inImage (foundIn (c .before .before .before .before .args .key) (listing (c .before .before .before .before .args .image .now)))) ≡ seen (c .before .before .before .before .args .image .now) (c .before .before .before .before .args .key) (editsOf (editList (c .before .before .before .before .args .list .now)))
+    pick own (c .before .loop .answer) (inImage (leafLookup (c .before .before .before .before .args .image .now) (c .before .before .before .before .args .root) (c .before .before .before .before .args .key))) ≡ seen (leafLookup (c .before .before .before .before .args .image .now) (c .before .before .before .before .args .root) (c .before .before .before .before .args .key)) (c .before .before .before .before .args .key) (editsOf (editList (c .before .before .before .before .args .list .now)))
 unfolding seenFrom
 ended c own e =
     let l = c .before .loop in
     let a = c .before .before .before .before .args in
-    let stored = inImage (foundIn (a .key) (listing (a .image .now))) in
+    let stored = inImage (leafLookup (a .image .now) (a .root) (a .key)) in
     ap (λ (o : Bool). pick o (l .answer) stored) (sym e) ∙ sym (ap (seenFrom (a .key) (l .at) (pick (l .own) (l .answer) stored)) (head-none (l .inv .1) (c .loop-test .left))) ∙ l .inv .2
 
 returns : tie.Need-returns Inv-loop μ-loop

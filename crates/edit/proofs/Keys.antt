@@ -18,7 +18,7 @@ use Rattle.image.specs.Table.{find}
 use Rattle.edit.specs.EditList.{Edit, insert, update, delete, keyOf}
 use Rattle.edit.specs.Ledger.{applyEdit, applyEdits}
 use Rattle.edit.specs.Keys.{isSome, holds, keyRule, Source, wholly, madeIn, made, madeAll, keyFault, orFault, keysFrom, onIfGood, keysRead}
-use Rattle.edit.specs.Keys.{Kept, Broken, present, no-update, no-delete, KeptIn, AllKeptBy, FaultIn, unread, rule, FirstFault, AllKept, FirstBroken}
+use Rattle.edit.specs.Keys.{Kept, Broken, present, no-update, no-delete, KeptIn, AllKeptBy, FaultIn, untrusted, rule, FirstFault, AllKept, FirstBroken}
 use Rattle.edit.specs.declared.Judged.{Judged}
 use Rattle.edit.specs.declared.Judged.the-variants.{Good, Faulty}
 use Rattle.edit.proofs.General.{by-test}
@@ -99,7 +99,7 @@ module _ (i : ℕ) (e : Edit) where
 
   in-fault : (o : Option (List Rec)) (n j : ℕ) → FaultIn e i o n j → keyFault i e o ≡ Faulty (record { number = n; edit = j })
   unfolding keyFault
-  in-fault _ _ _ unread = refl
+  in-fault _ _ _ untrusted = refl
   in-fault _ _ _ (rule t n b) = rw (broken-rule e t n b, ne-eqb n 0 (broken-some e t n b))
 
   -- what the answer says of what is read
@@ -109,7 +109,7 @@ module _ (i : ℕ) (e : Edit) where
 
   pub fault-says : (o : Option (List Rec)) → FaultSays o (keyFault i e o)
   unfolding keyFault
-  fault-says none = unread
+  fault-says none = untrusted
   fault-says (some t) = go (keyRule e t) (rule-says e t)
     where
       go : (n : ℕ) → Ruled e t n → FaultSays (some t) (pick (eqb n 0) Good (Faulty (record { number = n; edit = i })))

@@ -105,7 +105,7 @@ AllKeptBy (e ∷ es) s = KeptIn e (s (keyOf e)) × AllKeptBy es (made e s)
 
 -- edit i is refused by what is read for its key, with this number and edit number
 pub data FaultIn (e : Edit) (i : ℕ) : Option (List Rec) → ℕ → ℕ → Type 0 where
-  unread : FaultIn e i none 4 0
+  untrusted : FaultIn e i none 4 0
   rule : (t : List Rec) (n : ℕ) → Broken e t n → FaultIn e i (some t) n i
 
 -- the first of the edits es, numbered from i on, that is refused, with its number and edit number: by what the edits before it leave

@@ -21,7 +21,7 @@ use Rattle.image.specs.Image.{childOf, children, treeOk, soundFrom, soun
 use Rattle.image.specs.Table.{table, listing, find, foundIn, above, orElse}
 use Rattle.image.specs.Descent.{leafFor, recordsFor}
 use Rattle.image.specs.Calls.{rootFrom, rootCall, checkFrom, checkCall, keyOk, leafLookup, lookupFrom, lookupCall, valueAt, valueCall, nextAfter, nextFrom, nextCall}
-use Rattle.image.specs.Says.{Member, Smallest, AtMost, Opened, Belongs, GoodLeaf, Read}
+use Rattle.image.specs.Says.{Member, Smallest, AtMost, Opened, Belongs, GoodLeaf, ReadSound}
 use Rattle.image.specs.declared.PageZero.{PageZero}
 use Rattle.image.specs.declared.PageZero.the-variants.{Wrong, Waiting, Ready}
 use Rattle.image.specs.declared.Lookup.the-variants as lookups
@@ -82,7 +82,7 @@ module _ (img : List ℕ) (s : sound img ≡ true) where
     abbrev b : Belongs k (children img (rootOf img))
     b = belongs img root (sound-opened .index) k
 
-    abbrev pub sound-read : Read img k (rootOf img)
+    abbrev pub sound-read : ReadSound img k (rootOf img)
     sound-read = record { opened = sound-opened; belongs = b; good = sound-good (b .before) (b .own) (b .later) (b .shape) }
 
     pub leaf-sound : leafLookup img (rootOf img) k ≡ foundIn k (listing img)

@@ -23,7 +23,7 @@ use Rattle.image.specs.Facts.{Index}
 use Rattle.image.specs.Table.{pageEntries, foundIn, above}
 use Rattle.image.specs.Descent.{leafFor, leafSound, recordsFor}
 use Rattle.image.specs.Calls.{rootFrom, rootCall, indexFrom, indexCall, keyOk, leafLookup, ranged, leafNext, nextAfter}
-use Rattle.image.specs.Says.{Opened, NotOpened, bad-size, wrong-zero, mark-waits, bad-index, Belongs, GoodLeaf, Read, Unread}
+use Rattle.image.specs.Says.{Opened, NotOpened, bad-size, wrong-zero, mark-waits, bad-index, Belongs, GoodLeaf, ReadSound, ReadUnsound}
 use Rattle.image.specs.declared.PageZero.{PageZero}
 use Rattle.image.specs.declared.PageZero.the-variants.{Wrong, Waiting, Ready}
 use Rattle.image.specs.declared.Place.{Place}
@@ -82,13 +82,13 @@ good-or-not img root k index b = go (leafSound img root (leafFor img root k)) re
     go true e = inl (leaf-good img root index k b e)
     go false e = inr (λ g. true≢false (sym (good-leaf img root index k b g) ∙ e))
 
-pub read-or-not : (img : List ℕ) (k root : ℕ) → Opened img root → Read img k root ⊎ Unread img k root
+pub read-or-not : (img : List ℕ) (k root : ℕ) → Opened img root → ReadSound img k root ⊎ ReadUnsound img k root
 read-or-not img k root o = go (good-or-not img root k (o .index) b)
   where
     b : Belongs k (children img root)
     b = belongs img root (o .index) k
 
-    go : GoodLeaf img (b .before) (b .own) (b .later) ⊎ (GoodLeaf img (b .before) (b .own) (b .later) → ⊥) → Read img k root ⊎ Unread img k root
+    go : GoodLeaf img (b .before) (b .own) (b .later) ⊎ (GoodLeaf img (b .before) (b .own) (b .later) → ⊥) → ReadSound img k root ⊎ ReadUnsound img k root
     go (inl g) = inl (record { opened = o; belongs = b; good = g })
     go (inr g) = inr (record { opened = o; belongs = b; bad = g })
 
@@ -96,40 +96,40 @@ module _ (img : List ℕ) (k root : ℕ) where
   abbrev p : Place
   p = leafFor img root k
 
-  pub read-sound : Read img k root → leafSound img root (leafFor img root k) ≡ true
+  pub read-sound : ReadSound img k root → leafSound img root (leafFor img root k) ≡ true
   read-sound r = good-leaf img root (r .opened .index) k (r .belongs) (r .good)
 
-  pub unread-unsound : Unread img k root → leafSound img root (leafFor img root k) ≡ false
-  unread-unsound u = not-true (leafSound img root p) (λ t. u .bad (leaf-good img root (u .opened .index) k (u .belongs) t))
+  pub read-unsound : ReadUnsound img k root → leafSound img root (leafFor img root k) ≡ false
+  read-unsound u = not-true (leafSound img root p) (λ t. u .bad (leaf-good img root (u .opened .index) k (u .belongs) t))
 
   page-is : (b : Belongs k (children img root)) → leafFor img root k .page ≡ childOf (b .own)
   page-is b = ap (λ (q : Place). q .page) (leaf-is img root k b)
 
-  pub read-lookup : (r : Read img k root) → leafLookup img root k ≡ foundIn k (pageEntries img (childOf (r .belongs .own)))
+  pub read-lookup : (r : ReadSound img k root) → leafLookup img root k ≡ foundIn k (pageEntries img (childOf (r .belongs .own)))
   unfolding leafLookup
   read-lookup r = rw (read-sound r) (ap (λ (q : ℕ). foundIn k (pageEntries img q)) (page-is (r .belongs)))
 
-  pub unread-lookup : Unread img k root → leafLookup img root k ≡ lookups.Refused (refusal 4)
+  pub unsound-lookup : ReadUnsound img k root → leafLookup img root k ≡ lookups.Refused (refusal 4)
   unfolding leafLookup
-  unread-lookup u = rw (unread-unsound u)
+  unsound-lookup u = rw (read-unsound u)
 
-  pub read-records : (r : Read img k root) → recordsFor img root k ≡ some (records (pageOf img (childOf (r .belongs .own))))
+  pub read-records : (r : ReadSound img k root) → recordsFor img root k ≡ some (records (pageOf img (childOf (r .belongs .own))))
   unfolding recordsFor
   read-records r = rw (read-sound r) (ap (λ (q : ℕ). some (records (pageOf img q))) (page-is (r .belongs)))
 
-  pub unread-records : Unread img k root → recordsFor img root k ≡ none
+  pub unsound-records : ReadUnsound img k root → recordsFor img root k ≡ none
   unfolding recordsFor
-  unread-records u = rw (unread-unsound u)
+  unsound-records u = rw (read-unsound u)
 
 -- the smallest key above the number n, in the leaf of k
 module _ (img : List ℕ) (n k root : ℕ) where
-  pub read-next : (r : Read img k root) → leafNext img root n (leafFor img root k) ≡ above n (records (pageOf img (childOf (r .belongs .own))))
+  pub read-next : (r : ReadSound img k root) → leafNext img root n (leafFor img root k) ≡ above n (records (pageOf img (childOf (r .belongs .own))))
   unfolding leafNext
   read-next r = rw (read-sound img k root r) (ap (λ (q : Place). above n (records (pageOf img (q .page)))) (leaf-is img root k (r .belongs)))
 
-  pub unread-next : Unread img k root → leafNext img root n (leafFor img root k) ≡ nexts.Refused (refusal 4)
+  pub unsound-next : ReadUnsound img k root → leafNext img root n (leafFor img root k) ≡ nexts.Refused (refusal 4)
   unfolding leafNext
-  unread-next u = rw (unread-unsound img k root u)
+  unsound-next u = rw (read-unsound img k root u)
 
 -- ---- the leaf after
 
@@ -154,7 +154,7 @@ module _ (img : List ℕ) (k root : ℕ) (opened : Opened img root) (b : Belongs
     after-good g = goes-on ∙ read-next img k (d .key) root (record { opened = opened; belongs = belongs-after img root index k b d ds e; good = g })
 
     pub after-bad : (GoodLeaf img (b .before ++ b .own ∷ []) d ds → ⊥) → nextAfter img root k (leafFor img root k) ≡ nexts.Refused (refusal 4)
-    after-bad g = goes-on ∙ unread-next img k (d .key) root (record { opened = opened; belongs = belongs-after img root index k b d ds e; bad = g })
+    after-bad g = goes-on ∙ unsound-next img k (d .key) root (record { opened = opened; belongs = belongs-after img root index k b d ds e; bad = g })
 
 -- ---- 6, after what the leaf says
 

@@ -22,7 +22,7 @@ use Rattle.image.specs.Facts.{Rising}
 use Rattle.image.specs.Table.{pageEntries, find, foundIn, above, orElse}
 use Rattle.image.specs.Descent.{leafFor}
 use Rattle.image.specs.Calls.{indexCall, keyOk, ranged, lookupFrom, lookupCall, nextAfter, nextFrom, nextCall}
-use Rattle.image.specs.Says.{AtMost, NotOpened, GoodLeaf, Read, Unread, readRecords, LookupSays, not-opened, bad-leaf, bad-key, found, missing, NextSays, next-not-opened, next-bad-leaf, here, bad-after, after, last}
+use Rattle.image.specs.Says.{AtMost, NotOpened, GoodLeaf, ReadSound, ReadUnsound, readRecords, LookupSays, not-opened, bad-leaf, bad-key, found, missing, NextSays, next-not-opened, next-bad-leaf, here, bad-after, after, last}
 use Rattle.image.specs.declared.Root.{Root}
 use Rattle.image.specs.declared.Root.the-variants as roots
 use Rattle.image.specs.declared.Lookup.{Lookup}
@@ -37,12 +37,12 @@ use Rattle.image.proofs.Values.{Listed, page-listed}
 use Rattle.image.proofs.Exact.{Told, entries-tell, entries-answer, missing-entries, above-smallest, above-most, above-answers, smallest-above, most-above}
 use Rattle.image.proofs.KeyRange.{keyOk-true, true-keyOk, keyOk-false, false-keyOk}
 use Rattle.image.proofs.Belonging.{own-page, belongs-after}
-use Rattle.image.proofs.Read.{OpeningSays, opening-says, opened-call, not-opened-call, good-or-not, read-or-not, read-lookup, unread-lookup, read-next, unread-next, after-none, after-good, after-bad, ranged-is}
+use Rattle.image.proofs.Read.{OpeningSays, opening-says, opened-call, not-opened-call, good-or-not, read-or-not, read-lookup, unsound-lookup, read-next, unsound-next, after-none, after-good, after-bad, ranged-is}
 
 -- ---- lookup
 
 module _ (img : List ℕ) (k : ℕ) where
-  module _ (root : ℕ) (r : Read img k root) where
+  module _ (root : ℕ) (r : ReadSound img k root) where
     abbrev q : ℕ
     q = childOf (r .belongs .own)
 
@@ -72,9 +72,9 @@ module _ (img : List ℕ) (k : ℕ) where
     read-missing : find k (readRecords r) ≡ none → foundIn k (pageEntries img (childOf (r .belongs .own))) ≡ lookups.Missing
     read-missing e = missing-entries img k (pageEntries img q) listed (ap (find k) (recs-page img q) ∙ e)
 
-  pub unread-call : (root : ℕ) → Unread img k root → lookupCall img k ≡ lookups.Refused (refusal 4)
+  pub unsound-call : (root : ℕ) → ReadUnsound img k root → lookupCall img k ≡ lookups.Refused (refusal 4)
   unfolding lookupCall lookupFrom ranged
-  unread-call root u = rw (opened-call img root (u .opened), unread-lookup img k root u)
+  unsound-call root u = rw (opened-call img root (u .opened), unsound-lookup img k root u)
 
   pub not-read : (r : Refusal) → NotOpened img r → lookupCall img k ≡ lookups.Refused r
   unfolding lookupCall lookupFrom
@@ -83,13 +83,13 @@ module _ (img : List ℕ) (k : ℕ) where
   pub lookup-says : LookupSays img k (lookupCall img k)
   lookup-says = go (indexCall img) (opening-says img)
     where
-      key : (root : ℕ) (r : Read img k root) (t : Bool) → keyOk k ≡ t → LookupSays img k (pick t (foundIn k (pageEntries img (childOf (r .belongs .own)))) (lookups.Refused (refusal 6)))
+      key : (root : ℕ) (r : ReadSound img k root) (t : Bool) → keyOk k ≡ t → LookupSays img k (pick t (foundIn k (pageEntries img (childOf (r .belongs .own)))) (lookups.Refused (refusal 6)))
       key root r true e = let range = keyOk-true k e in read-says root r (range .0) (range .1) (foundIn k (pageEntries img (childOf (r .belongs .own)))) refl
       key root r false e = bad-key root r (keyOk-false k e)
 
-      leaf : (root : ℕ) → Read img k root ⊎ Unread img k root → LookupSays img k (lookupCall img k)
+      leaf : (root : ℕ) → ReadSound img k root ⊎ ReadUnsound img k root → LookupSays img k (lookupCall img k)
       leaf root (inl r) = subst (LookupSays img k) (sym (read-call root r)) (key root r (keyOk k) refl)
-      leaf root (inr u) = subst (LookupSays img k) (sym (unread-call root u)) (bad-leaf root u)
+      leaf root (inr u) = subst (LookupSays img k) (sym (unsound-call root u)) (bad-leaf root u)
 
       go : (x : Root) → OpeningSays img x → LookupSays img k (lookupCall img k)
       go (roots.Refused r) n = subst (LookupSays img k) (sym (not-read r n)) (not-opened r n)
@@ -98,7 +98,7 @@ module _ (img : List ℕ) (k : ℕ) where
   -- and each case excludes the others: it is the answer where it holds
   pub says-lookup : (a : Lookup) → LookupSays img k a → lookupCall img k ≡ a
   says-lookup _ (not-opened r n) = not-read r n
-  says-lookup _ (bad-leaf root u) = unread-call root u
+  says-lookup _ (bad-leaf root u) = unsound-call root u
   says-lookup _ (bad-key root r e) = read-call root r ∙ rw (false-keyOk k e)
   says-lookup _ (found root r low high o n e _ _ _) = read-call root r ∙ rw (true-keyOk k low high, e)
   says-lookup _ (missing root r low high e) = read-call root r ∙ rw (true-keyOk k low high, read-missing root r e)
@@ -144,7 +144,7 @@ module _ (img : List ℕ) (k : ℕ) (before : List Rec) (c d : Rec) (ds : List R
   after-key = ap (above k) (sym (append-nil rs)) ∙ after-answers k rs [] d filled over
 
 module _ (img : List ℕ) (k : ℕ) where
-  module _ (root : ℕ) (r : Read img k root) where
+  module _ (root : ℕ) (r : ReadSound img k root) where
     abbrev rest : Next
     rest = nextAfter img root k (leafFor img root k)
 
@@ -188,9 +188,9 @@ module _ (img : List ℕ) (k : ℕ) where
                 subst (NextSays img k) (sym (next-good g ∙ f)) (after root r most d ds e g _ (above-smallest k 0 (records (pageOf img (childOf d))) (suc topKey) (after-rising g) _ f))
             go (inr g) = subst (NextSays img k) (sym (next-bad g)) (bad-after root r most d ds e g)
 
-  pub next-unread : (root : ℕ) → Unread img k root → nextCall img k ≡ nexts.Refused (refusal 4)
+  pub next-unsound : (root : ℕ) → ReadUnsound img k root → nextCall img k ≡ nexts.Refused (refusal 4)
   unfolding nextCall nextFrom
-  next-unread root u = rw (opened-call img root (u .opened)) (ap (λ (x : Next). orElse x (nextAfter img root k (leafFor img root k))) (unread-next img k k root u))
+  next-unsound root u = rw (opened-call img root (u .opened)) (ap (λ (x : Next). orElse x (nextAfter img root k (leafFor img root k))) (unsound-next img k k root u))
 
   pub next-not-read : (r : Refusal) → NotOpened img r → nextCall img k ≡ nexts.Refused r
   unfolding nextCall nextFrom
@@ -199,18 +199,18 @@ module _ (img : List ℕ) (k : ℕ) where
   pub next-says : NextSays img k (nextCall img k)
   next-says = go (indexCall img) (opening-says img)
     where
-      end : (root : ℕ) (r : Read img k root) → AtMost k (readRecords r) → (l : List Rec) → r .belongs .later ≡ l → NextSays img k (nextCall img k)
+      end : (root : ℕ) (r : ReadSound img k root) → AtMost k (readRecords r) → (l : List Rec) → r .belongs .later ≡ l → NextSays img k (nextCall img k)
       end root r most [] e = subst (NextSays img k) (sym (next-end root r most e)) (last root r most e)
       end root r most (d ∷ ds) e = next-later root r most d ds e
 
-      least : (root : ℕ) (r : Read img k root) (a : Next) → above k (readRecords r) ≡ a → NextSays img k (nextCall img k)
+      least : (root : ℕ) (r : ReadSound img k root) (a : Next) → above k (readRecords r) ≡ a → NextSays img k (nextCall img k)
       least root r (nexts.Key j) e = next-least root r j e
       least root r nexts.Last e = end root r (above-most k 0 (readRecords r) (suc topKey) (rising root r) e) (r .belongs .later) refl
       least root r (nexts.Refused s) e = absurd (above-answers k 0 (readRecords r) (suc topKey) (rising root r) s e)
 
-      leaf : (root : ℕ) → Read img k root ⊎ Unread img k root → NextSays img k (nextCall img k)
+      leaf : (root : ℕ) → ReadSound img k root ⊎ ReadUnsound img k root → NextSays img k (nextCall img k)
       leaf root (inl r) = least root r (above k (readRecords r)) refl
-      leaf root (inr u) = subst (NextSays img k) (sym (next-unread root u)) (next-bad-leaf root u)
+      leaf root (inr u) = subst (NextSays img k) (sym (next-unsound root u)) (next-bad-leaf root u)
 
       go : (x : Root) → OpeningSays img x → NextSays img k (nextCall img k)
       go (roots.Refused r) n = subst (NextSays img k) (sym (next-not-read r n)) (next-not-opened r n)
@@ -218,7 +218,7 @@ module _ (img : List ℕ) (k : ℕ) where
 
   pub says-next : (a : Next) → NextSays img k a → nextCall img k ≡ a
   says-next _ (next-not-opened r n) = next-not-read r n
-  says-next _ (next-bad-leaf root u) = next-unread root u
+  says-next _ (next-bad-leaf root u) = next-unsound root u
   says-next _ (here root r j s) = next-read root r (nexts.Key j) (smallest-above k 0 (readRecords r) (suc topKey) (rising root r) j s)
   says-next _ (bad-after root r most d ds e g) = next-bad root r most d ds e g
   says-next _ (after root r most d ds e g j s) =

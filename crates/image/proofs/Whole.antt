@@ -33,7 +33,7 @@ use Rattle.image.proofs.Soundness.{index-rising, tree-facts, tree-sound
 use Rattle.image.proofs.Belonging.{tree-good, later-rising, belongs-after}
 use Rattle.image.proofs.Read.{OpeningSays, opening-says, good-or-not}
 use Rattle.image.proofs.Answers.{sound-check}
-use Rattle.image.proofs.Says.{lookup-says, start-past, next-says, next-not-read, next-unread}
+use Rattle.image.proofs.Says.{lookup-says, start-past, next-says, next-not-read, next-unsound}
 
 -- ---- check's refusals
 
@@ -112,7 +112,7 @@ module _ (img : List ℕ) (answers : (k : ℕ) (r : Refusal) → nextCall img k 
       where
         go : GoodLeaf img (b .before) (b .own) (b .later) ⊎ (GoodLeaf img (b .before) (b .own) (b .later) → ⊥) → GoodLeaf img (b .before) (b .own) (b .later)
         go (inl g) = g
-        go (inr g) = absurd (answers k (refusal 4) (next-unread img k root (record { opened = o; belongs = b; bad = g })))
+        go (inr g) = absurd (answers k (refusal 4) (next-unsound img k root (record { opened = o; belongs = b; bad = g })))
 
     seps : Rising 0 (children img root) (suc topKey)
     seps = index-rising img root (o .index)

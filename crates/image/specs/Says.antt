@@ -74,17 +74,17 @@ abbrev pub GoodLeaf : List ℕ → List Rec → Rec → List Rec → Type 0
 GoodLeaf img before c later = Leaf (eqb (length (before ++ c ∷ later)) 1) (startOf before 0 (c .key)) (nextSep later) (childOf c) (pageOf img (childOf c))
 
 -- the leaf that k belongs to is read, and is sound
-pub record Read (img : List ℕ) (k root : ℕ) : Type 0 where
+pub record ReadSound (img : List ℕ) (k root : ℕ) : Type 0 where
   pub opened : Opened img root
   pub belongs : Belongs k (children img root)
   pub good : GoodLeaf img (belongs .before) (belongs .own) (belongs .later)
 
 -- its records
-abbrev pub readRecords : {img : List ℕ} {k root : ℕ} → Read img k root → List Rec
+abbrev pub readRecords : {img : List ℕ} {k root : ℕ} → ReadSound img k root → List Rec
 readRecords {img} r = records (pageOf img (childOf (r .belongs .own)))
 
 -- it is read, and is not sound
-pub record Unread (img : List ℕ) (k root : ℕ) : Type 0 where
+pub record ReadUnsound (img : List ℕ) (k root : ℕ) : Type 0 where
   pub opened : Opened img root
   pub belongs : Belongs k (children img root)
   pub bad : GoodLeaf img (belongs .before) (belongs .own) (belongs .later) → ⊥
@@ -94,19 +94,19 @@ pub record Unread (img : List ℕ) (k root : ℕ) : Type 0 where
 -- a lookup: each refusal with its ground, the first that holds, and else what the one leaf holds, with the place of the value in the image
 pub data LookupSays (img : List ℕ) (k : ℕ) : Lookup → Type 0 where
   not-opened : (r : Refusal) → NotOpened img r → LookupSays img k (lookups.Refused r)
-  bad-leaf : (root : ℕ) → Unread img k root → LookupSays img k (lookups.Refused (record { number = 4; edit = 0 }))
-  bad-key : (root : ℕ) → Read img k root → (k < 1) ⊎ (999999999999 < k) → LookupSays img k (lookups.Refused (record { number = 6; edit = 0 }))
-  found : (root : ℕ) (r : Read img k root) → 1 ≤ k → k ≤ 999999999999 → (o n : ℕ) → foundIn k (pageEntries img (childOf (r .belongs .own))) ≡ lookups.Found o n →
+  bad-leaf : (root : ℕ) → ReadUnsound img k root → LookupSays img k (lookups.Refused (record { number = 4; edit = 0 }))
+  bad-key : (root : ℕ) → ReadSound img k root → (k < 1) ⊎ (999999999999 < k) → LookupSays img k (lookups.Refused (record { number = 6; edit = 0 }))
+  found : (root : ℕ) (r : ReadSound img k root) → 1 ≤ k → k ≤ 999999999999 → (o n : ℕ) → foundIn k (pageEntries img (childOf (r .belongs .own))) ≡ lookups.Found o n →
       find k (readRecords r) ≡ some (part img o n) → length (part img o n) ≡ n → o + n ≤ length img → LookupSays img k (lookups.Found o n)
-  missing : (root : ℕ) (r : Read img k root) → 1 ≤ k → k ≤ 999999999999 → find k (readRecords r) ≡ none → LookupSays img k lookups.Missing
+  missing : (root : ℕ) (r : ReadSound img k root) → 1 ≤ k → k ≤ 999999999999 → find k (readRecords r) ≡ none → LookupSays img k lookups.Missing
 
 -- a next key: "and, only if that leaf holds no larger key, the leaf after"
 pub data NextSays (img : List ℕ) (k : ℕ) : Next → Type 0 where
   next-not-opened : (r : Refusal) → NotOpened img r → NextSays img k (nexts.Refused r)
-  next-bad-leaf : (root : ℕ) → Unread img k root → NextSays img k (nexts.Refused (record { number = 4; edit = 0 }))
-  here : (root : ℕ) (r : Read img k root) (j : ℕ) → Smallest k j (readRecords r) → NextSays img k (nexts.Key j)
-  bad-after : (root : ℕ) (r : Read img k root) → AtMost k (readRecords r) → (d : Rec) (ds : List Rec) → r .belongs .later ≡ d ∷ ds →
+  next-bad-leaf : (root : ℕ) → ReadUnsound img k root → NextSays img k (nexts.Refused (record { number = 4; edit = 0 }))
+  here : (root : ℕ) (r : ReadSound img k root) (j : ℕ) → Smallest k j (readRecords r) → NextSays img k (nexts.Key j)
+  bad-after : (root : ℕ) (r : ReadSound img k root) → AtMost k (readRecords r) → (d : Rec) (ds : List Rec) → r .belongs .later ≡ d ∷ ds →
       (GoodLeaf img (r .belongs .before ++ r .belongs .own ∷ []) d ds → ⊥) → NextSays img k (nexts.Refused (record { number = 4; edit = 0 }))
-  after : (root : ℕ) (r : Read img k root) → AtMost k (readRecords r) → (d : Rec) (ds : List Rec) → r .belongs .later ≡ d ∷ ds →
+  after : (root : ℕ) (r : ReadSound img k root) → AtMost k (readRecords r) → (d : Rec) (ds : List Rec) → r .belongs .later ≡ d ∷ ds →
       GoodLeaf img (r .belongs .before ++ r .belongs .own ∷ []) d ds → (j : ℕ) → Smallest k j (records (pageOf img (childOf d))) → NextSays img k (nexts.Key j)
-  last : (root : ℕ) (r : Read img k root) → AtMost k (readRecords r) → r .belongs .later ≡ [] → NextSays img k nexts.Last
+  last : (root : ℕ) (r : ReadSound img k root) → AtMost k (readRecords r) → r .belongs .later ≡ [] → NextSays img k nexts.Last

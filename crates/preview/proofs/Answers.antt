@@ -17,13 +17,13 @@ use Rattle.image.specs.Image.{sound}
 use Rattle.image.specs.Table.{table, listing, find, foundIn}
 use Rattle.image.specs.Descent.{recordsFor}
 use Rattle.image.specs.Calls.{indexCall, keyOk, leafLookup, lookupFrom, lookupCall}
-use Rattle.image.specs.Says.{Opened, Read, Unread, readRecords}
+use Rattle.image.specs.Says.{Opened, ReadSound, ReadUnsound, readRecords}
 use Rattle.image.specs.declared.Root.{Root}
 use Rattle.image.specs.declared.Root.the-variants as roots
 use Rattle.image.specs.declared.Lookup.{Lookup}
 use Rattle.image.specs.declared.Lookup.the-variants as lookups
 use Rattle.image.proofs.KeyRange.{keyOk-true, true-keyOk, keyOk-false, false-keyOk}
-use Rattle.image.proofs.Read.{OpeningSays, opening-says, opened-call, not-opened-call, read-or-not, read-lookup, unread-lookup, ranged-in}
+use Rattle.image.proofs.Read.{OpeningSays, opening-says, opened-call, not-opened-call, read-or-not, read-lookup, unsound-lookup, ranged-in}
 use Rattle.image.proofs.Says.{read-tells}
 use Rattle.image.proofs.Answers.{check-sound, sound-check, sound-opened, leaf-sound, records-sound, lookup-value, lookup-none}
 use Rattle.edit.specs.EditList.{Edit, insert, update, delete, keyOf, Listed, listed, faulty, editList}
@@ -56,7 +56,7 @@ shows-held img bytes Missing x s = sym (ap held s)
 shows-held img bytes (Refused r) x s = absurd s
 
 -- a leaf that is read is not refused
-read-answers : (img : List ℕ) (k root : ℕ) → Read img k root → (s : Refusal) → leafLookup img root k ≡ lookups.Refused s → ⊥
+read-answers : (img : List ℕ) (k root : ℕ) → ReadSound img k root → (s : Refusal) → leafLookup img root k ≡ lookups.Refused s → ⊥
 read-answers img k root r s e = read-tells img k root r (lookups.Refused s) (sym (read-lookup img k root r) ∙ e)
 
 module _ (img bytes : List ℕ) (k : ℕ) where
@@ -94,10 +94,10 @@ module _ (img bytes : List ℕ) (k : ℕ) where
   unfolding previewCall openedOf listOf keysOf rulesOf inImage brings
   preview-answers = opening (indexCall img) (opening-says img)
     where
-      image : (root : ℕ) (es : List Edit) (A : Asked img bytes k root es) → NoEdit k es → Read img k root ⊎ Unread img k root → (a : Lookup) → leafLookup img root k ≡ a → Answers img bytes k (inImage a)
+      image : (root : ℕ) (es : List Edit) (A : Asked img bytes k root es) → NoEdit k es → ReadSound img k root ⊎ ReadUnsound img k root → (a : Lookup) → leafLookup img root k ≡ a → Answers img bytes k (inImage a)
       image root es A h x (lookups.Found o n) e = in-image root es A h o n (asked-lookup root es A ∙ e)
       image root es A h x lookups.Missing e = missing root es A h (asked-lookup root es A ∙ e)
-      image root es A h (inr u) (lookups.Refused r) e = let four : record { number = 4; edit = 0 } ≡ r = cc (unread-lookup img k root u, e) in subst (λ (s : Refusal). Answers img bytes k (Refused s)) four (bad-leaf root es A h u)
+      image root es A h (inr u) (lookups.Refused r) e = let four : record { number = 4; edit = 0 } ≡ r = cc (unsound-lookup img k root u, e) in subst (λ (s : Refusal). Answers img bytes k (Refused s)) four (bad-leaf root es A h u)
       image root es A h (inl r) (lookups.Refused s) e = absurd (read-answers img k root r s e)
 
       decided : (root : ℕ) (es : List Edit) → Asked img bytes k root es → (l : LastEdit k es) → (e : Edit) → l .edit ≡ e → keyOf e ≡ k → Answers img bytes k (brings (length (listBytes (l .before))) e)
@@ -138,13 +138,13 @@ module _ (img bytes : List ℕ) (k : ℕ) where
   answers-preview _ (in-list root es A l v (inl e)) = asked-last root es A l ∙ ap (brings (length (listBytes (l .before)))) e
   answers-preview _ (in-list root es A l v (inr e)) = asked-last root es A l ∙ ap (brings (length (listBytes (l .before)))) e
   answers-preview _ (deleted root es A l e) = asked-last root es A l ∙ ap (brings (length (listBytes (l .before)))) e
-  answers-preview _ (bad-leaf root es A h u) = asked-none root es A h ∙ ap inImage (unread-lookup img k root u)
+  answers-preview _ (bad-leaf root es A h u) = asked-none root es A h ∙ ap inImage (unsound-lookup img k root u)
   answers-preview _ (in-image root es A h o n e) = asked-none root es A h ∙ ap inImage (sym (asked-lookup root es A) ∙ e)
   answers-preview _ (missing root es A h e) = asked-none root es A h ∙ ap inImage (sym (asked-lookup root es A) ∙ e)
 
   -- ---- "the pages read alone, and the look's list, give the answer by the same rules": the ledger's, on the records of the leaf that the key belongs to
 
-  pub preview-read : (root : ℕ) (es : List Edit) → Asked img bytes k root es → (r : Read img k root) → previewed img bytes (previewCall img bytes k) ≡ held (find k (applyEdits es (readRecords r)))
+  pub preview-read : (root : ℕ) (es : List Edit) → Asked img bytes k root es → (r : ReadSound img k root) → previewed img bytes (previewCall img bytes k) ≡ held (find k (applyEdits es (readRecords r)))
   preview-read root es A r =
       ap (previewed img bytes) (asked-call root es A)
       ∙ shows-held img bytes (seen (leafLookup img root k) k es) (find k (applyEdits es (readRecords r))) (seen-shows img bytes k root es (A .whole .reads) (A .kept) r)

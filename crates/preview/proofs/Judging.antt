@@ -35,7 +35,7 @@ use Rattle.edit.proofs.Keys.{FaultSays, fault-says, gives, find-own, find-other
 use Rattle.edit.proofs.Heads.{Ahead, Head, head, head-none, head-rest, head-is}
 use Rattle.preview.specs.Noted.{kindNoted, presence, thereBy, faultBy, Marks}
 use Rattle.preview.specs.declared.Presence.{Presence}
-use Rattle.preview.specs.declared.Presence.the-variants.{Present, Absent, Unread}
+use Rattle.preview.specs.declared.Presence.the-variants.{Present, Absent, Unsound}
 use Rattle.preview.proofs.Walk.{next-key}
 
 -- ---- a key in its leaf
@@ -57,7 +57,7 @@ module _ (img : List ℕ) (root k : ℕ) where
   unfolding recordsFor
   sound-presence h p e = rw (h, e)
 
-  pub unsound-presence : leafSound img root (leafFor img root k) ≡ false → Unread ≡ presence k (recordsFor img root k)
+  pub unsound-presence : leafSound img root (leafFor img root k) ≡ false → Unsound ≡ presence k (recordsFor img root k)
   unfolding recordsFor presence
   unsound-presence h = rw h
 

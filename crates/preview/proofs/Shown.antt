@@ -18,11 +18,11 @@ use Rattle.image.specs.Image.{childOf, sound}
 use Rattle.image.specs.Table.{table, listing, pageEntries, find, foundIn}
 use Rattle.image.specs.Descent.{recordsFor}
 use Rattle.image.specs.Calls.{leafLookup}
-use Rattle.image.specs.Says.{Opened, Read, Unread, readRecords}
+use Rattle.image.specs.Says.{Opened, ReadSound, ReadUnsound, readRecords}
 use Rattle.image.specs.declared.Lookup.{Lookup}
 use Rattle.image.specs.declared.Lookup.the-variants as lookups
 use Rattle.image.proofs.Exact.{Told, lookup-found, lookup-missing, lookup-answers}
-use Rattle.image.proofs.Read.{read-or-not, read-lookup, unread-lookup, read-records}
+use Rattle.image.proofs.Read.{read-or-not, read-lookup, unsound-lookup, read-records}
 use Rattle.image.proofs.Says.{read-tells}
 use Rattle.edit.specs.EditList.{Edit, insert, update, delete, keyOf, headSize, lengthIn, editBytes, editIn}
 use Rattle.edit.specs.Ledger.{applyEdit, applyEdits}
@@ -96,7 +96,7 @@ shows-from img bytes k at answer (e ∷ es) s t q r h w =
 -- ---- from the image on
 
 -- what the leaf of the key says of its records
-leaf-shows : (img bytes : List ℕ) (k root : ℕ) (r : Read img k root) → Shows img bytes (find k (readRecords r)) (inImage (leafLookup img root k))
+leaf-shows : (img bytes : List ℕ) (k root : ℕ) (r : ReadSound img k root) → Shows img bytes (find k (readRecords r)) (inImage (leafLookup img root k))
 unfolding inImage
 leaf-shows img bytes k root r = rw (read-lookup img k root r) (go (foundIn k (pageEntries img (childOf (r .belongs .own)))) (read-tells img k root r _ refl))
   where
@@ -106,7 +106,7 @@ leaf-shows img bytes k root r = rw (read-lookup img k root r) (go (foundIn k (pa
     go (lookups.Refused s) e = e
 
 module _ (img bytes : List ℕ) (k root : ℕ) (es : List Edit) (r : Reads bytes es []) (kept : AllKeptBy es (recordsFor img root)) where
-  pub seen-shows : (read : Read img k root) → Shows img bytes (find k (applyEdits es (readRecords read))) (seen (leafLookup img root k) k es)
+  pub seen-shows : (read : ReadSound img k root) → Shows img bytes (find k (applyEdits es (readRecords read))) (seen (leafLookup img root k) k es)
   unfolding seen
   seen-shows read =
       shows-from img bytes k 0 (inImage (leafLookup img root k)) es (recordsFor img root) (readRecords read) (read-records img k root read) r kept (leaf-shows img bytes k root read)
@@ -151,9 +151,9 @@ leaf-inside : (img bytes : List ℕ) (k root : ℕ) → Opened img root → Insi
 unfolding inImage
 leaf-inside img bytes k root o = go (read-or-not img k root o)
   where
-    go : Read img k root ⊎ Unread img k root → Inside img bytes (inImage (leafLookup img root k))
+    go : ReadSound img k root ⊎ ReadUnsound img k root → Inside img bytes (inImage (leafLookup img root k))
     go (inl r) = shows-inside img bytes (find k (readRecords r)) (inImage (leafLookup img root k)) (leaf-shows img bytes k root r)
-    go (inr u) = rw (unread-lookup img k root u) tt
+    go (inr u) = rw (unsound-lookup img k root u) tt
 
 pub seen-inside : (img bytes : List ℕ) (k root : ℕ) → Opened img root → (es : List Edit) → Reads bytes es [] → Inside img bytes (seen (leafLookup img root k) k es)
 unfolding seen

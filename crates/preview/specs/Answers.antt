@@ -11,7 +11,7 @@ use Rattle.device.specs.declared.Answer.the-variants as answers
 use Rattle.image.specs.Table.{table}
 use Rattle.image.specs.Descent.{recordsFor}
 use Rattle.image.specs.Calls.{checkCall, lookupCall}
-use Rattle.image.specs.Says.{Opened, NotOpened, Unread}
+use Rattle.image.specs.Says.{Opened, NotOpened, ReadUnsound}
 use Rattle.image.specs.declared.Lookup.the-variants as lookups
 use Rattle.edit.specs.EditList.{Edit, insert, update, delete, keyOf}
 use Rattle.edit.specs.Reads.{listBytes, Whole, ListFault}
@@ -61,6 +61,6 @@ pub data Answers (img bytes : List ℕ) (k : ℕ) : Preview → Type 0 where
   in-list : (root : ℕ) (es : List Edit) → Asked img bytes k root es → (l : LastEdit k es) (v : List ℕ) → (l .edit ≡ insert k v) ⊎ (l .edit ≡ update k v) →
       Answers img bytes k (InList (length (listBytes (l .before)) + 10) (length v))
   deleted : (root : ℕ) (es : List Edit) → Asked img bytes k root es → (l : LastEdit k es) → l .edit ≡ delete k → Answers img bytes k Missing
-  bad-leaf : (root : ℕ) (es : List Edit) → Asked img bytes k root es → NoEdit k es → Unread img k root → Answers img bytes k (Refused (record { number = 4; edit = 0 }))
+  bad-leaf : (root : ℕ) (es : List Edit) → Asked img bytes k root es → NoEdit k es → ReadUnsound img k root → Answers img bytes k (Refused (record { number = 4; edit = 0 }))
   in-image : (root : ℕ) (es : List Edit) → Asked img bytes k root es → NoEdit k es → (o n : ℕ) → lookupCall img k ≡ lookups.Found o n → Answers img bytes k (InImage o n)
   missing : (root : ℕ) (es : List Edit) → Asked img bytes k root es → NoEdit k es → lookupCall img k ≡ lookups.Missing → Answers img bytes k Missing

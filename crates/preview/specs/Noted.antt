@@ -15,7 +15,7 @@ use Rattle.edit.specs.Keys.{holds}
 use Rattle.edit.specs.declared.Judged.{Judged}
 use Rattle.edit.specs.declared.Judged.the-variants.{Good, Faulty}
 use Rattle.preview.specs.declared.Presence.{Presence}
-use Rattle.preview.specs.declared.Presence.the-variants.{Present, Absent, Unread}
+use Rattle.preview.specs.declared.Presence.the-variants.{Present, Absent, Unsound}
 
 -- the kind of the last edit of the key k among the first n that are noted, or 0
 unfoldable pub kindNoted : List ℕ → List ℕ → ℕ → ℕ → ℕ
@@ -24,7 +24,7 @@ kindNoted keys kinds k (suc n) = pick (eqb (getD keys n 0) k) (getD kinds n 0) (
 
 -- whether the key k is there, by the records that are read for it
 unfoldable pub presence : ℕ → Option (List Rec) → Presence
-presence k none = Unread
+presence k none = Unsound
 presence k (some t) = pick (holds k t) Present Absent
 
 -- whether the key is there then, where `before` says whether it was before them all: a delete (3) leaves it missing
@@ -33,7 +33,7 @@ thereBy kind before = pick (eqb kind 0) before (pick (eqb kind 3) Absent Present
 
 -- what is said of edit i, an insert or another, whose key is there or not
 unfoldable pub faultBy : ℕ → Bool → Presence → Judged
-faultBy i inserts Unread = Faulty (refusal unsound)
+faultBy i inserts Unsound = Faulty (refusal unsound)
 faultBy i inserts Present = pick inserts (Faulty (record { number = keyPresent; edit = i })) Good
 faultBy i inserts Absent = pick inserts Good (Faulty (record { number = keyMissing; edit = i }))
 

@@ -59,7 +59,7 @@ fn in_leaf(image: &[u8], root: usize, judged: &mut [u8], key: u64) -> Presence
         return in_page(page_of(image, own), key);
     }
     if !leaf_sound(image, root, leaf) {
-        return Presence::Unread;
+        return Presence::Unsound;
     }
     judged[own] = 1;
     in_page(page_of(image, own), key)
@@ -91,7 +91,7 @@ fn key_fault(n: u8, kind: u8, there: Presence) -> Judged
     ensures { λ r. ⌜ r ≡ faultBy n (eqb kind 1) there ⌝ }
 {
     match there {
-        Presence::Unread => Judged::Faulty(Refusal::of(Refusal::UNSOUND)),
+        Presence::Unsound => Judged::Faulty(Refusal::of(Refusal::UNSOUND)),
         Presence::Present => {
             if kind == 1 {
                 return Judged::Faulty(Refusal {

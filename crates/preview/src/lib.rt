@@ -16,9 +16,9 @@ pub enum Preview {
     Refused(Refusal),
 }
 
-// Whether a key is there when an edit comes to it; unread where the leaf that it belongs to is unsound.
+// Whether a key is there when an edit comes to it; unsound where the leaf that it belongs to is.
 pub enum Presence {
     Present,
     Absent,
-    Unread,
+    Unsound,
 }

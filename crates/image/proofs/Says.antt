@@ -21,7 +21,7 @@ use Rattle.image.specs.Image.{childOf, startOf, nextSep}
 use Rattle.image.specs.Facts.{Rising}
 use Rattle.image.specs.Table.{pageEntries, find, foundIn, above, orElse}
 use Rattle.image.specs.Descent.{leafFor}
-use Rattle.image.specs.Calls.{indexCall, keyOk, ranged, lookupFrom, lookupCall, nextAfter, nextFrom, nextCall}
+use Rattle.image.specs.Calls.{indexCall, keyOk, ranged, lookupFrom, lookupCall, valueAt, valueCall, nextAfter, nextFrom, nextCall}
 use Rattle.image.specs.Says.{AtMost, NotOpened, GoodLeaf, ReadSound, ReadUnsound, readRecords, LookupSays, not-opened, bad-leaf, bad-key, found, missing, NextSays, next-not-opened, next-bad-leaf, here, bad-after, after, last}
 use Rattle.image.specs.declared.Root.{Root}
 use Rattle.image.specs.declared.Root.the-variants as roots
@@ -116,6 +116,15 @@ module _ (img : List ℕ) (k : ℕ) where
           let b : m ≡ n = cc in
           omega arith
       go _ (missing root r low high x) f = let z : _≡_ {A = ℕ} 0 1 = cc in absurd (omega arith)
+
+  -- its companion is "empty if refused or missing"
+  pub value-refused : (r : Refusal) → lookupCall img k ≡ lookups.Refused r → valueCall img k ≡ []
+  unfolding valueCall valueAt
+  value-refused r e = ap (valueAt img) e
+
+  pub value-missing : lookupCall img k ≡ lookups.Missing → valueCall img k ≡ []
+  unfolding valueCall valueAt
+  value-missing e = ap (valueAt img) e
 
 -- ---- next key
 

@@ -103,12 +103,12 @@ module _ (a work tape bytes : List ℕ) (k : ℕ) (low : 1 ≤ k) (high : k ≤ 
   size-alike : isImageSize (length a) ≡ false → previewCall a bytes k ≡ previews.Refused (refusal 1)
   size-alike z = answers-preview a bytes k _ (bad-image (refusal 1) (bad-size z))
 
-  image-alike : (r : Refusal) → checkCall a ≡ answers.Refused r → (r .number ≡ 4 → ⊥) → previewCall a bytes k ≡ previews.Refused r
+  image-alike : (r : Refusal) → checkCall a ≡ answers.Refused r → (r .number ≡ 4 → NotOpened a r) → previewCall a bytes k ≡ previews.Refused r
   image-alike r c other = go (check-refused a r c)
     where
       go : NotOpened a r ⊎ (record { number = 4; edit = 0 } ≡ r) → previewCall a bytes k ≡ previews.Refused r
       go (inl n) = answers-preview a bytes k _ (bad-image r n)
-      go (inr e) = absurd (other (ap (λ (x : Refusal). x .number) (sym e)))
+      go (inr e) = answers-preview a bytes k _ (bad-image r (other (ap (λ (x : Refusal). x .number) (sym e))))
 
   list-alike : checkCall a ≡ answers.Accepted → (n i : ℕ) → ListFault bytes n i → previewCall a bytes k ≡ previews.Refused (record { number = n; edit = i })
   list-alike c n i f = answers-preview a bytes k _ (bad-list (rootOf a) (sound-opened a (check-sound a c)) n i f)
@@ -117,22 +117,22 @@ module _ (a work tape bytes : List ℕ) (k : ℕ) (low : 1 ≤ k) (high : k ≤ 
   edit-alike c es reads n i eight nine G =
       broken-refused a bytes (check-sound a c) k es (list-whole bytes es reads) low high n i (grounds-broken a (check-sound a c) es (list-proper bytes es reads) n i G eight nine)
 
-  alike : (r : Refusal) → r .number ≤ 9 → (r .number ≡ 2 → ⊥) → (r .number ≡ 4 → ⊥) → (x : Result) → transactions.Answers a work tape bytes x → x .answer ≡ Refused r → previewCall a bytes k ≡ previews.Refused r
+  alike : (r : Refusal) → r .number ≤ 9 → (r .number ≡ 2 → ⊥) → (r .number ≡ 4 → NotOpened a r) → (x : Result) → transactions.Answers a work tape bytes x → x .answer ≡ Refused r → previewCall a bytes k ≡ previews.Refused r
   unfolding acceptedWith
-  alike r most other sound _ (transactions.bad-size z) q = size-alike z ∙ ap previews.Refused (refused-is 1 0 work tape r q)
-  alike r most other sound _ (transactions.bad-work _ _) q = absurd (other (ap (λ (x : Refusal). x .number) (sym (refused-is 2 0 work tape r q))))
-  alike r most other sound _ (transactions.bad-image _ _ s c) q = let z : s ≡ r = cc in image-alike s c (λ e. sound (ap (λ (x : Refusal). x .number) (sym z) ∙ e)) ∙ ap previews.Refused z
-  alike r most other sound _ (transactions.bad-list B n i f) q = list-alike (B .checked) n i f ∙ ap previews.Refused (refused-is n i work tape r q)
-  alike r most other sound _ (transactions.bad-edit B es reads n i eight G) q =
+  alike r most other opens _ (transactions.bad-size z) q = size-alike z ∙ ap previews.Refused (refused-is 1 0 work tape r q)
+  alike r most other opens _ (transactions.bad-work _ _) q = absurd (other (ap (λ (x : Refusal). x .number) (sym (refused-is 2 0 work tape r q))))
+  alike r most other opens _ (transactions.bad-image _ _ s c) q = let z : s ≡ r = cc in image-alike s c (λ e. subst (NotOpened a) (sym z) (opens (ap (λ (x : Refusal). x .number) (sym z) ∙ e))) ∙ ap previews.Refused z
+  alike r most other opens _ (transactions.bad-list B n i f) q = list-alike (B .checked) n i f ∙ ap previews.Refused (refused-is n i work tape r q)
+  alike r most other opens _ (transactions.bad-edit B es reads n i eight G) q =
       let z = refused-is n i a tape r q in
       let nine : n ≤ 9 = subst (λ (m : ℕ). m ≤ 9) (ap (λ (x : Refusal). x .number) (sym z)) most in
       edit-alike (B .checked) es reads n i eight nine G ∙ ap previews.Refused z
-  alike r most other sound _ (transactions.no-log _ _ _ _ _) q = absurd (omega (arith, most, ap (λ (x : Refusal). x .number) (refused-is 12 0 a tape r q)))
-  alike r most other sound _ (transactions.no-tape _ _ _ _ _ _) q = absurd (omega (arith, most, ap (λ (x : Refusal). x .number) (refused-is 13 0 a tape r q)))
-  alike r most other sound _ (transactions.accepted _ _ _ _ _ _) q = let z : _≡_ {A = ℕ} 0 1 = cc in absurd (omega arith)
+  alike r most other opens _ (transactions.no-log _ _ _ _ _) q = absurd (omega (arith, most, ap (λ (x : Refusal). x .number) (refused-is 12 0 a tape r q)))
+  alike r most other opens _ (transactions.no-tape _ _ _ _ _ _) q = absurd (omega (arith, most, ap (λ (x : Refusal). x .number) (refused-is 13 0 a tape r q)))
+  alike r most other opens _ (transactions.accepted _ _ _ _ _ _) q = let z : _≡_ {A = ℕ} 0 1 = cc in absurd (omega arith)
 
 pub refused-alike : RefusedAlike
-refused-alike a work tape bytes r e most other sound k low high = alike a work tape bytes k low high r most other sound (transactionCall a work tape bytes) (call-answers a work tape bytes) e
+refused-alike a work tape bytes r e most other opens k low high = alike a work tape bytes k low high r most other opens (transactionCall a work tape bytes) (call-answers a work tape bytes) e
 
 -- ---- and the other way
 
@@ -175,7 +175,7 @@ module _ (a work tape bytes : List ℕ) (same : length work ≡ length a) (k : �
     where
       go : (b : Bool) → eqb (s .number) 4 ≡ b → RefusedSo a r (Refused s)
       go true e = (s, refl, inr (inr (eqb-true (s .number) 4 e, c)))
-      go false e = so s (image-alike a work tape bytes k low high s c (eqb-false (s .number) 4 e))
+      go false e = so s (image-alike a work tape bytes k low high s c (λ four. absurd (eqb-false (s .number) 4 e four)))
 
   refuses : (x : Result) → transactions.Answers a work tape bytes x → RefusedSo a r (x .answer)
   unfolding refusedWith

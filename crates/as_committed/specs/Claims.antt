@@ -8,6 +8,7 @@ use lib.ListN.{length}
 use Rattle.device.specs.declared.Refusal.{Refusal}
 use Rattle.device.specs.declared.Answer.the-variants as answers
 use Rattle.image.specs.Calls.{checkCall, lookupCall}
+use Rattle.image.specs.Says.{NotOpened}
 use Rattle.journal.specs.declared.Commit.{Commit}
 use Rattle.preview.specs.Calls.{previewCall}
 use Rattle.preview.specs.Says.{previewed, lookedUp}
@@ -22,11 +23,11 @@ AsCommitted =
     (a work tape bytes : List ℕ) (c : Commit) → transactionCall a work tape bytes .answer ≡ Accepted c → (k : ℕ) →
     previewed a bytes (previewCall a bytes k) ≡ lookedUp (transactionCall a work tape bytes .work) (lookupCall (transactionCall a work tape bytes .work) k)
 
--- refused for the image's length or a mark that waits, the list or a key, with 1 to 9 but not for its work buffer or an unsound image: so is the preview of a key in range, with the same number
--- and edit number
+-- refused for the image, the list or a key, with 1 to 9 but not for its work buffer, and with 4 only for page 0 or the index, which both read: so is the preview of a key in range, with the
+-- same number and edit number
 abbrev pub RefusedAlike : Type 0
 RefusedAlike =
-    (a work tape bytes : List ℕ) (r : Refusal) → transactionCall a work tape bytes .answer ≡ Refused r → r .number ≤ 9 → (r .number ≡ 2 → ⊥) → (r .number ≡ 4 → ⊥) →
+    (a work tape bytes : List ℕ) (r : Refusal) → transactionCall a work tape bytes .answer ≡ Refused r → r .number ≤ 9 → (r .number ≡ 2 → ⊥) → (r .number ≡ 4 → NotOpened a r) →
     (k : ℕ) → 1 ≤ k → k ≤ 999999999999 → previewCall a bytes k ≡ previews.Refused r
 
 -- the transaction's answer is a refusal: the preview's refusal r; or that an edit before that of r has too little room (10 or 11), which a preview does not ask for; or that the image is

@@ -1,10 +1,11 @@
 -- The sizes of a page's records with a change made: one by one, their sum, and where they are split.
 -- Assumes nothing.
-use Prim.Native.Nat.{ℕ, suc, _+_, _-_, _*_, _≤_, _<_}
+use Prim.Native.Nat.{ℕ, zero, suc, _+_, _-_, _*_, _≤_, _<_}
 use mathlib.Core.Path.{_≡_, refl, sym, ap, _∙_}
 use mathlib.Core.Bool.{Bool, true, false}
 use mathlib.Core.List.{List, [], _∷_}
 use native.Mathlib.Omega.{arith}
+use native.Mathlib.Nat.{zero-add}
 use lib.ListN.{length, getD, drop, drop-of-length-le}
 use borrow.Author.Tests.{lt-ltb, le-ltb, le-leb, lt-leb}
 use Rattle.codec.specs.Lists.{part, pick}
@@ -71,7 +72,7 @@ module _ {p : List ℕ} {new : Change} {v : List ℕ} (can : CanPut p new v) whe
       )
 
   module _ (k : ℕ) (less : k < length (madeBy new v p)) where
-    pub next : drop k (madeBy new v p) ≡ getD (madeBy new v p) k (recOf 0 []) ∷ drop (k + 1) (madeBy new v p)
+    next : drop k (madeBy new v p) ≡ getD (madeBy new v p) k (recOf 0 []) ∷ drop (k + 1) (madeBy new v p)
     next = drop-next l k none less
 
     pub sizes-next : sizes (drop k (madeBy new v p)) ≡ size (getD (madeBy new v p) k (recOf 0 [])) + sizes (drop (k + 1) (madeBy new v p))
@@ -115,23 +116,39 @@ slot-same ins i k z = rw z
 
 -- ---- where they are split
 
-pub split-end : (total seen k : ℕ) (l : List Rec) → length l ≤ k → splitFrom total seen (drop k l) ≡ 0
-unfolding splitFrom
-split-end total seen k l h = rw (drop-of-length-le l {i = k} h)
+-- the records before the m-th have `seen` bytes, and the search from it on gives the rest of the split point
+pub record Searched (rs : List Rec) (total seen m : ℕ) : Type 0 where
+  pub all : total ≡ sizes rs
+  pub rest : seen + sizes (drop m rs) ≡ total
+  pub point : m + splitFrom total seen (drop m rs) ≡ splitPoint rs
 
-split-reached : (total seen : ℕ) (l : List Rec) → total ≤ 2 * seen → splitFrom total seen l ≡ 0
-unfolding splitFrom
-split-reached total seen [] h = refl
-split-reached total seen (r ∷ l) h = rw (le-leb total (2 * seen) h)
-
-pub split-done : (total seen k : ℕ) (l : List Rec) → total ≤ 2 * seen → splitFrom total seen (drop k l) ≡ 0
-split-done total seen k l h = split-reached total seen (drop k l) h
-
-pub split-more : (total seen k : ℕ) (r : Rec) (l : List Rec) → 2 * seen < total → drop k l ≡ r ∷ drop (k + 1) l →
-    splitFrom total seen (drop k l) ≡ suc (splitFrom total (seen + size r) (drop (k + 1) l))
-unfolding splitFrom
-split-more total seen k r l h e = rw (e, lt-leb total (2 * seen) h)
-
-pub split-whole : (l : List Rec) (m : ℕ) → m ≡ splitFrom (sizes l) 0 (drop 0 l) → m ≡ splitPoint l
+pub search-starts : (rs : List Rec) (total : ℕ) → total ≡ sizes rs → Searched rs total 0 0
 unfolding splitPoint
-split-whole l m e = e
+search-starts rs total e = record { all = e; rest = omega arith; point = rw e (zero-add (splitPoint rs)) }
+
+some-left : (rs : List Rec) (k : ℕ) → 0 < sizes (drop k rs) → k < length rs
+unfolding sizes
+some-left [] zero h = h
+some-left [] (suc k) h = absurd (omega arith)
+some-left (r ∷ rs) zero h = omega arith
+some-left (r ∷ rs) (suc k) h = omega (arith, some-left rs k h)
+
+reached : (total seen : ℕ) (rs : List Rec) → total ≤ 2 * seen → splitFrom total seen rs ≡ 0
+unfolding splitFrom
+reached total seen [] h = refl
+reached total seen (r ∷ rs) h = rw (le-leb total (2 * seen) h)
+
+module _ {rs : List Rec} {total seen m : ℕ} (s : Searched rs total seen m) where
+  pub search-ends : total ≤ 2 * seen → m ≡ splitPoint rs
+  search-ends h = omega (arith, s .point, reached total seen (drop m rs) h)
+
+  module _ (more : 2 * seen < total) where
+    pub search-left : m < length rs
+    search-left = some-left rs m (omega (arith, s .rest))
+
+    pub search-goes-on : (k : ℕ) → k ≡ size (getD rs m (recOf 0 [])) → Searched rs total (seen + k) (m + 1)
+    unfolding sizes splitFrom
+    search-goes-on k e =
+        let d = drop-next rs m none search-left in
+        let f : splitFrom total seen (drop m rs) ≡ suc (splitFrom total (seen + k) (drop (m + 1) rs)) = rw (d, e, lt-leb total (2 * seen) more) in
+        record { all = s .all; rest = omega (arith, s .rest, ap sizes d, e); point = omega (arith, s .point, f) }

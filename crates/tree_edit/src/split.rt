@@ -6,13 +6,13 @@ use image::pages::slot_at;
 ghost use mathlib.Core.Path.{_≡_};
 ghost use mathlib.Core.Bool.{true, _&&_};
 ghost use mathlib.Core.List.{[]};
-ghost use Prim.Native.Nat.{_+_, _-_, _≤_, _<_};
-ghost use lib.ListN.{length, getD, drop};
+ghost use Prim.Native.Nat.{_-_, _<_};
+ghost use lib.ListN.{length, getD};
 ghost use lib.Dec.{leb};
 ghost use Rattle.page.specs.Layout.{pageSize, lineSize, slotCount, recOf, size};
 ghost use Rattle.page.specs.Page.{laidOut, records};
 ghost use Rattle.page.specs.Operations.{sizes};
-ghost use Rattle.tree.specs.Edits.{splitFrom, splitPoint};
+ghost use Rattle.tree.specs.Edits.{splitPoint};
 ghost use Rattle.tree_edit.specs.Steps.{madeBy};
 ghost use Rattle.tree_edit.specs.Asked.{CanPut};
 
@@ -67,34 +67,17 @@ pub(crate) fn fits_one(page: &[u8], new: Change, value: &[u8]) -> bool
     total_made(page, new, value) <= 960
 }
 
-// How many of the records from the k-th on the left page takes, where those before it have `seen` bytes: "m smallest with twice their
-// bytes at least the total". It calls itself on the rest of the list.
-pub(crate) fn split_from(
-    page: &[u8],
-    new: Change,
-    value: &[u8],
-    total: usize,
-    seen: usize,
-    k: usize,
-) -> usize
-    requires { ⌜ CanPut (now page) new (now value) × (k ≤ length (madeBy new (now value) (now page))) ⌝ }
-    requires { ⌜ seen + sizes (drop k (madeBy new (now value) (now page))) ≤ sizes (madeBy new (now value) (now page)) ⌝ }
-    ensures { λ r. ⌜ (r ≡ splitFrom total seen (drop k (madeBy new (now (value .entry)) (now (page .entry))))) × (r + k ≤ length (madeBy new (now (value .entry)) (now (page .entry)))) ⌝ }
-{
-    if made_count(page, new.ins) <= k {
-        return 0;
-    }
-    if total <= 2 * seen {
-        return 0;
-    }
-    let s = size_made(page, new, value, k);
-    1 + split_from(page, new, value, total, seen + s, k + 1)
-}
-
-// How many records the left page takes.
+// How many records the left page takes: "m smallest with twice their bytes at least the total".
 pub(crate) fn split_point(page: &[u8], new: Change, value: &[u8]) -> usize
     requires { ⌜ CanPut (now page) new (now value) ⌝ }
     ensures { λ r. ⌜ r ≡ splitPoint (madeBy new (now (value .entry)) (now (page .entry))) ⌝ }
 {
-    split_from(page, new, value, total_made(page, new, value), 0, 0)
+    let total = total_made(page, new, value);
+    let mut seen = 0;
+    let mut m = 0;
+    while 2 * seen < total {
+        seen += size_made(page, new, value, m);
+        m += 1;
+    }
+    m
 }

@@ -5,10 +5,9 @@ use mathlib.Core.Path.{_≡_, refl}
 use mathlib.Core.Bool.{true, false, _||_}
 use mathlib.Core.List.{List, [], _∷_}
 use lib.Seq.{sets}
-use lib.Dec.{eqb}
 use borrow.Author.Tests.{eq-eqb}
 use Rattle.device.specs.Tape.{Op, store, flush, wellFormed, flushCount}
-use Rattle.device.specs.Cut.{after, lineOf, flushed, hits, touches, Closed, Sealed}
+use Rattle.device.specs.Cut.{after, lineOf, durable, hits, touches, stores, Closed, Sealed}
 
 pub after-nil : (image : List ℕ) → after image [] ≡ image
 unfolding after
@@ -22,13 +21,17 @@ pub flushCount-nil : flushCount [] ≡ 0
 unfolding flushCount
 flushCount-nil = refl
 
-pub flushed-nil : (l : ℕ) → flushed l [] ≡ false
-unfolding flushed
-flushed-nil l = refl
+pub durable-nil : (l : ℕ) → durable l [] ≡ false
+unfolding durable
+durable-nil l = refl
 
 pub touches-nil : (i : ℕ) → touches [] i ≡ false
 unfolding touches
 touches-nil i = refl
+
+pub stores-nil : stores [] ≡ []
+unfolding stores
+stores-nil = refl
 
 pub closed-nil : Closed []
 unfolding Closed
@@ -51,19 +54,23 @@ module _ (p : ℕ) (vs : List ℕ) (cs : List Op) where
   unfolding flushCount
   flushCount-store = refl
 
-  pub flushed-store : (l : ℕ) → flushed l (store p vs ∷ cs) ≡ flushed l cs
-  unfolding flushed
-  flushed-store l = refl
+  pub durable-store : (l : ℕ) → durable l (store p vs ∷ cs) ≡ durable l cs
+  unfolding durable
+  durable-store l = refl
 
   pub touches-store : (i : ℕ) → touches (store p vs ∷ cs) i ≡ (hits (store p vs) i || touches cs i)
   unfolding touches
   touches-store i = refl
 
-  pub closed-store : flushed (lineOf p) cs ≡ true → Closed cs → Closed (store p vs ∷ cs)
+  pub stores-store : stores (store p vs ∷ cs) ≡ store p vs ∷ stores cs
+  unfolding stores
+  stores-store = refl
+
+  pub closed-store : durable (lineOf p) cs ≡ true → Closed cs → Closed (store p vs ∷ cs)
   unfolding Closed
   closed-store e c = (e, c)
 
-  pub sealed-store : (ds : List Op) → flushed (lineOf p) ds ≡ true → Sealed cs ds → Sealed (store p vs ∷ cs) ds
+  pub sealed-store : (ds : List Op) → durable (lineOf p) ds ≡ true → Sealed cs ds → Sealed (store p vs ∷ cs) ds
   unfolding Sealed
   sealed-store ds e s = (e, s)
 
@@ -80,17 +87,17 @@ module _ (m : ℕ) (cs : List Op) where
   unfolding flushCount
   flushCount-flush = refl
 
-  pub flushed-flush : (l : ℕ) → flushed l (flush m ∷ cs) ≡ (eqb m l || flushed l cs)
-  unfolding flushed
-  flushed-flush l = refl
-
-  pub flushed-here : flushed m (flush m ∷ cs) ≡ true
-  unfolding flushed
-  flushed-here = rw (eq-eqb m m refl)
+  pub durable-here : durable m (flush m ∷ cs) ≡ true
+  unfolding durable
+  durable-here = rw (eq-eqb m m refl)
 
   pub touches-flush : (i : ℕ) → touches (flush m ∷ cs) i ≡ touches cs i
   unfolding touches
   touches-flush i = refl
+
+  pub stores-flush : stores (flush m ∷ cs) ≡ stores cs
+  unfolding stores
+  stores-flush = refl
 
   pub closed-flush : Closed cs → Closed (flush m ∷ cs)
   unfolding Closed

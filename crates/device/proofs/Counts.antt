@@ -12,7 +12,7 @@ use borrow.Author.Tests.{lt-ltb, le-ltb, eqb-true, eqb-false}
 use Rattle.codec.specs.Lists.{pick, part, splice}
 use Rattle.codec.proofs.Lists.{part-whole}
 use Rattle.device.specs.Tape.{Op, store, flush, malformed, extent}
-use Rattle.device.specs.Cut.{flushed}
+use Rattle.device.specs.Cut.{durable}
 use Rattle.device.specs.Counts.{flushEnd}
 
 -- ---- lists
@@ -48,24 +48,24 @@ copied-choices n choices left e =
 -- ---- the last flush
 
 -- it ends past where the commands start
-end-past : (l at : ℕ) (cs : List Op) → flushed l cs ≡ true → at < flushEnd l at cs
-unfolding flushed flushEnd
+end-past : (l at : ℕ) (cs : List Op) → durable l cs ≡ true → at < flushEnd l at cs
+unfolding durable flushEnd
 end-past l at [] e = absurd (false≢true e)
 end-past l at (store p vs ∷ cs) e = omega (arith, end-past l (at + (4 + length vs)) cs e)
-end-past l at (flush m ∷ cs) e = go (eqb m l) (flushed l cs) refl e (end-past l (at + 4) cs)
+end-past l at (flush m ∷ cs) e = go (eqb m l) (durable l cs) refl e (end-past l (at + 4) cs)
   where
-    go : (b d : Bool) → flushed l cs ≡ d → (b || d) ≡ true → (flushed l cs ≡ true → at + 4 < flushEnd l (at + 4) cs) → at < pick d (flushEnd l (at + 4) cs) (pick b (at + 4) 0)
+    go : (b d : Bool) → durable l cs ≡ d → (b || d) ≡ true → (durable l cs ≡ true → at + 4 < flushEnd l (at + 4) cs) → at < pick d (flushEnd l (at + 4) cs) (pick b (at + 4) 0)
     go b true q r i = omega (arith, i q)
     go true false q r i = omega arith
     go false false q r i = absurd (false≢true r)
 end-past l at (malformed ∷ cs) e = end-past l at cs e
 
 -- where there is none it is 0
-end-none : (l at : ℕ) (cs : List Op) → flushed l cs ≡ false → flushEnd l at cs ≡ 0
-unfolding flushed flushEnd
+end-none : (l at : ℕ) (cs : List Op) → durable l cs ≡ false → flushEnd l at cs ≡ 0
+unfolding durable flushEnd
 end-none l at [] e = refl
 end-none l at (store p vs ∷ cs) e = end-none l (at + (4 + length vs)) cs e
-end-none l at (flush m ∷ cs) e = go (eqb m l) (flushed l cs) e
+end-none l at (flush m ∷ cs) e = go (eqb m l) (durable l cs) e
   where
     go : (b d : Bool) → (b || d) ≡ false → pick d (flushEnd l (at + 4) cs) (pick b (at + 4) 0) ≡ 0
     go true d r = absurd (true≢false r)
@@ -77,12 +77,12 @@ end-none l at (malformed ∷ cs) e = end-none l at cs e
 
 -- line l's last flush, with what is noted of the commands before `at` and with these commands from there on
 abbrev pub ends : List ℕ → ℕ → List Op → ℕ → ℕ
-ends last at cs l = pick (flushed l cs) (flushEnd l at cs) (getD last l 0)
+ends last at cs l = pick (durable l cs) (flushEnd l at cs) (getD last l 0)
 
 pub ends-start : (last : List ℕ) (cs : List Op) (l : ℕ) → getD last l 0 ≡ 0 → ends last 0 cs l ≡ flushEnd l 0 cs
-ends-start last cs l e = go (flushed l cs) refl
+ends-start last cs l e = go (durable l cs) refl
   where
-    go : (d : Bool) → flushed l cs ≡ d → pick d (flushEnd l 0 cs) (getD last l 0) ≡ flushEnd l 0 cs
+    go : (d : Bool) → durable l cs ≡ d → pick d (flushEnd l 0 cs) (getD last l 0) ≡ flushEnd l 0 cs
     go true q = refl
     go false q = e ∙ sym (end-none l 0 cs q)
 
@@ -94,10 +94,10 @@ On malformed place b = ⊥
 
 pub ends-next : (last : List ℕ) (at : ℕ) (o : Op) (cs : List Op) (place : ℕ) (b : Bool) → On o place b → (b ≡ true → place < length last) → (l : ℕ) →
     ends (pick b (set last place (at + 4)) last) (at + extent o) cs l ≡ ends last at (o ∷ cs) l
-unfolding flushed flushEnd
+unfolding durable flushEnd
 ends-next last at (store p vs) cs place b on h l = rw on
 ends-next last at (flush m) cs place b on h l =
-    rw (on .1, on .0) (ap (pick (flushed l cs) (flushEnd l (at + 4) cs)) (getD-set last place (at + 4) l (h (on .1))) ∙ go (eqb place l) (flushed l cs))
+    rw (on .1, on .0) (ap (pick (durable l cs) (flushEnd l (at + 4) cs)) (getD-set last place (at + 4) l (h (on .1))) ∙ go (eqb place l) (durable l cs))
   where
     go : (e d : Bool) → pick d (flushEnd l (at + 4) cs) (pick e (at + 4) (getD last l 0)) ≡ pick (e || d) (pick d (flushEnd l (at + 4) cs) (pick e (at + 4) 0)) (getD last l 0)
     go true true = refl
@@ -110,28 +110,28 @@ ends-next last at malformed cs place b on h l = absurd on
 
 -- what is noted for line l is where its last flush ends, if these commands, from `at` on, have one, else nothing past `at`
 abbrev pub Noted : List ℕ → ℕ → List Op → ℕ → Type 0
-Noted last at cs l = (flushed l cs ≡ true → getD last l 0 ≡ flushEnd l at cs) × (flushed l cs ≡ false → getD last l 0 ≤ at)
+Noted last at cs l = (durable l cs ≡ true → getD last l 0 ≡ flushEnd l at cs) × (durable l cs ≡ false → getD last l 0 ≤ at)
 
 pub noted-start : (last : List ℕ) (cs : List Op) (l : ℕ) → getD last l 0 ≡ flushEnd l 0 cs → Noted last 0 cs l
 noted-start last cs l e = (λ q. e, λ q. omega (arith, e, end-none l 0 cs q))
 
 -- so a store there is flushed later exactly if what is noted lies past it
-pub noted-test : (last : List ℕ) (at : ℕ) (cs : List Op) (l : ℕ) → Noted last at cs l → flushed l cs ≡ ltb at (getD last l 0)
-noted-test last at cs l n = go (flushed l cs) refl
+pub noted-test : (last : List ℕ) (at : ℕ) (cs : List Op) (l : ℕ) → Noted last at cs l → durable l cs ≡ ltb at (getD last l 0)
+noted-test last at cs l n = go (durable l cs) refl
   where
-    go : (d : Bool) → flushed l cs ≡ d → d ≡ ltb at (getD last l 0)
+    go : (d : Bool) → durable l cs ≡ d → d ≡ ltb at (getD last l 0)
     go true q = sym (lt-ltb at (getD last l 0) (omega (arith, n .0 q, end-past l at cs q)))
     go false q = sym (le-ltb at (getD last l 0) (n .1 q))
 
 pub noted-store : (last : List ℕ) (at p : ℕ) (vs : List ℕ) (cs : List Op) (l : ℕ) → Noted last at (store p vs ∷ cs) l → Noted last (at + (4 + length vs)) cs l
-unfolding flushed flushEnd
+unfolding durable flushEnd
 noted-store last at p vs cs l n = (n .0, λ q. omega (arith, n .1 q))
 
 pub noted-flush : (last : List ℕ) (at m : ℕ) (cs : List Op) (l : ℕ) → Noted last at (flush m ∷ cs) l → Noted last (at + 4) cs l
-unfolding flushed flushEnd
+unfolding durable flushEnd
 noted-flush last at m cs l n = go (eqb m l) n
   where
-    go : (b : Bool) → ((b || flushed l cs) ≡ true → getD last l 0 ≡ pick (flushed l cs) (flushEnd l (at + 4) cs) (pick b (at + 4) 0)) × ((b || flushed l cs) ≡ false → getD last l 0 ≤ at) →
+    go : (b : Bool) → ((b || durable l cs) ≡ true → getD last l 0 ≡ pick (durable l cs) (flushEnd l (at + 4) cs) (pick b (at + 4) 0)) × ((b || durable l cs) ≡ false → getD last l 0 ≤ at) →
         Noted last (at + 4) cs l
     go true k = (λ q. rw q at (k .0 refl), λ q. omega (arith, rw q at (k .0 refl)))
     go false k = (λ q. rw q at (k .0 q), λ q. omega (arith, k .1 q))

@@ -1,18 +1,16 @@
 -- What a cut keeps: the device's contract for the crates above.
 -- Assumes nothing.
-use Prim.Native.Nat.{ℕ, zero, suc, _+_, _<_}
+use Prim.Native.Nat.{ℕ, _+_, _<_}
 use mathlib.Core.Path.{_≡_, refl, sym, _∙_}
-use mathlib.Core.Bool.{Bool, true, false, _&&_}
+use mathlib.Core.Bool.{true, false, _&&_}
 use mathlib.Core.List.{List, [], _∷_, _++_}
-use mathlib.Core.Logic.{_⊎_, inl, inr}
 use native.Mathlib.Omega.{arith}
 use native.Mathlib.Nat.{zero-add}
 use lib.ListN.{length, take}
-use lib.Seq.{sets, length-sets, take-nil}
-use lib.Dec.{ltb}
+use lib.Seq.{sets, length-sets}
 use borrow.Author.Tests.{lt-ltb}
 use Rattle.device.specs.Tape.{Op, store, flush, malformed, wellFormed, flushCount}
-use Rattle.device.specs.Cut.{apply, after, lineOf, flushed, less, consIf, kept, cutImage, stores}
+use Rattle.device.specs.Cut.{apply, after, lineOf, durable, less, kept, cutImage, stores}
 
 -- ---- lengths, and one list after another
 
@@ -60,23 +58,12 @@ flushCount-append (malformed ∷ a) b = flushCount-append a b
 -- ---- one store
 
 -- a durable store is kept, and no choice is used up
-pub kept-durable : (f : ℕ → ℕ) (p : ℕ) (vs : List ℕ) (cs : List Op) → flushed (lineOf p) cs ≡ true → kept f (store p vs ∷ cs) ≡ store p vs ∷ kept f cs
+pub kept-durable : (f : ℕ → ℕ) (p : ℕ) (vs : List ℕ) (cs : List Op) → durable (lineOf p) cs ≡ true → kept f (store p vs ∷ cs) ≡ store p vs ∷ kept f cs
 unfolding kept
 kept-durable f p vs cs h = rw h
 
 -- a pending store is kept where its line's choice is not used up
-pub kept-pending : (f : ℕ → ℕ) (p : ℕ) (vs : List ℕ) (cs : List Op) → flushed (lineOf p) cs ≡ false → 0 < f (lineOf p) →
+pub kept-pending : (f : ℕ → ℕ) (p : ℕ) (vs : List ℕ) (cs : List Op) → durable (lineOf p) cs ≡ false → 0 < f (lineOf p) →
     kept f (store p vs ∷ cs) ≡ store p vs ∷ kept (less f (lineOf p)) cs
 unfolding kept
 kept-pending f p vs cs h k = rw (h, lt-ltb 0 (f (lineOf p)) k)
-
--- one store is kept whole or not at all, wherever the cut falls
-pub one-store : (image : List ℕ) (f : ℕ → ℕ) (c p : ℕ) (vs : List ℕ) →
-    (cutImage image f c (store p vs ∷ []) ≡ image) ⊎ (cutImage image f c (store p vs ∷ []) ≡ after image (store p vs ∷ []))
-unfolding cutImage after kept flushed
-one-store image f zero p vs = inl refl
-one-store image f (suc c) p vs = rw (take-nil {A = Op} c) (go (ltb 0 (f (lineOf p))))
-  where
-    go : (b : Bool) → (after image (consIf b (store p vs) []) ≡ image) ⊎ (after image (consIf b (store p vs) []) ≡ sets image p vs)
-    go true = inr refl
-    go false = inl refl

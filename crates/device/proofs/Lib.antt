@@ -7,4 +7,5 @@ pub mod Clauses
 pub mod Cuts
 pub mod Lines
 pub mod Segments
+pub mod Stores
 pub mod Writing

@@ -12,7 +12,7 @@ use lib.Dec.{ltb, eqb}
 use borrow.Author.Tests.{lt-ltb, eqb-true, eqb-false, eq-eqb, ne-eqb}
 use Rattle.codec.specs.Lists.{pick, All}
 use Rattle.device.specs.Tape.{Op, store, flush, malformed}
-use Rattle.device.specs.Cut.{lineOf, flushed, less, consIf, kept, stores, ofLine, settled, To}
+use Rattle.device.specs.Cut.{lineOf, durable, less, consIf, kept, stores, ofLine, settled, To}
 
 -- the first g l stores to each line l
 firsts : (ℕ → ℕ) → List Op → List Op
@@ -23,17 +23,17 @@ firsts g (malformed ∷ cs) = firsts g cs
 
 -- ---- a cut keeps the first stores of each line: those that are durable, and as many more as the choice says
 
-settled-none : (l : ℕ) (cs : List Op) → flushed l cs ≡ false → settled l cs ≡ 0
-unfolding flushed settled
+settled-none : (l : ℕ) (cs : List Op) → durable l cs ≡ false → settled l cs ≡ 0
+unfolding durable settled
 settled-none l [] e = refl
 settled-none l (store p vs ∷ cs) e = go (eqb (lineOf p) l) (settled-none l cs e)
   where
-    go : (b : Bool) → settled l cs ≡ 0 → pick (b && flushed l cs) 1 0 + settled l cs ≡ 0
+    go : (b : Bool) → settled l cs ≡ 0 → pick (b && durable l cs) 1 0 + settled l cs ≡ 0
     go true i = rw (e, i)
     go false i = rw i
 settled-none l (flush m ∷ cs) e = go (eqb m l) e (settled-none l cs)
   where
-    go : (b : Bool) → (b || flushed l cs) ≡ false → (flushed l cs ≡ false → settled l cs ≡ 0) → settled l cs ≡ 0
+    go : (b : Bool) → (b || durable l cs) ≡ false → (durable l cs ≡ false → settled l cs ≡ 0) → settled l cs ≡ 0
     go true q i = absurd (true≢false q)
     go false q i = i q
 settled-none l (malformed ∷ cs) e = settled-none l cs e
@@ -41,25 +41,25 @@ settled-none l (malformed ∷ cs) e = settled-none l cs e
 module _ (f : ℕ → ℕ) (m : ℕ) (cs : List Op) where
   -- what is kept of each line, before a store to line m
   abbrev total : ℕ → ℕ
-  total l = pick (eqb m l && flushed l cs) 1 0 + settled l cs + f l
+  total l = pick (eqb m l && durable l cs) 1 0 + settled l cs + f l
 
-  total-test : (flushed m cs || ltb 0 (f m)) ≡ ltb 0 (total m)
-  total-test = go (flushed m cs) refl
+  total-test : (durable m cs || ltb 0 (f m)) ≡ ltb 0 (total m)
+  total-test = go (durable m cs) refl
     where
-      go : (b : Bool) → flushed m cs ≡ b → (b || ltb 0 (f m)) ≡ ltb 0 (total m)
+      go : (b : Bool) → durable m cs ≡ b → (b || ltb 0 (f m)) ≡ ltb 0 (total m)
       go true e = sym (lt-ltb 0 (total m) (rw (eq-eqb m m refl, e) (omega arith)))
       go false e = let q : total m ≡ f m = rw (eq-eqb m m refl, e, settled-none m cs e) (omega arith) in sym (ap (ltb 0) q)
 
-  total-rest : (λ (l : ℕ). settled l cs + pick (flushed m cs) f (less f m) l) ≡ less total m
-  total-rest = fun-ext (λ l. go l (eqb l m) refl (flushed m cs) refl)
+  total-rest : (λ (l : ℕ). settled l cs + pick (durable m cs) f (less f m) l) ≡ less total m
+  total-rest = fun-ext (λ l. go l (eqb l m) refl (durable m cs) refl)
     where
-      go : (l : ℕ) (b : Bool) → eqb l m ≡ b → (d : Bool) → flushed m cs ≡ d → settled l cs + pick d f (less f m) l ≡ pick b (total l - 1) (total l)
+      go : (l : ℕ) (b : Bool) → eqb l m ≡ b → (d : Bool) → durable m cs ≡ d → settled l cs + pick d f (less f m) l ≡ pick b (total l - 1) (total l)
       go l true e true q =
           let s : l ≡ m = eqb-true l m e in
-          rw (eq-eqb m l (sym s), ap (λ (k : ℕ). flushed k cs) s ∙ q) (omega arith)
+          rw (eq-eqb m l (sym s), ap (λ (k : ℕ). durable k cs) s ∙ q) (omega arith)
       go l true e false q =
           let s : l ≡ m = eqb-true l m e in
-          let u : flushed l cs ≡ false = ap (λ (k : ℕ). flushed k cs) s ∙ q in
+          let u : durable l cs ≡ false = ap (λ (k : ℕ). durable k cs) s ∙ q in
           rw (eq-eqb m l (sym s), u, e) (omega (arith, settled-none l cs u))
       go l false e true q = rw (ne-eqb m l (λ r. eqb-false l m e (sym r))) (omega arith)
       go l false e false q = rw (ne-eqb m l (λ r. eqb-false l m e (sym r)), e) (omega arith)
@@ -69,7 +69,7 @@ unfolding kept firsts settled
 kept-firsts f [] = refl
 kept-firsts f (store p vs ∷ cs) =
     let m = lineOf p in
-    let g = pick (flushed m cs) f (less f m) in
+    let g = pick (durable m cs) f (less f m) in
     ap (λ (b : Bool). consIf b (store p vs) (kept g cs)) (total-test f m cs)
     ∙ ap (consIf (ltb 0 (total f m cs m)) (store p vs)) (kept-firsts g cs ∙ ap (λ (h : ℕ → ℕ). firsts h cs) (total-rest f m cs))
 kept-firsts f (flush l ∷ cs) = kept-firsts f cs
@@ -131,28 +131,28 @@ firsts-line l g (flush m ∷ cs) = go (eqb m l) (firsts-line l g cs)
     go false i = i
 firsts-line l g (malformed ∷ cs) = firsts-line l g cs
 
-flushed-line : (l : ℕ) (cs : List Op) → flushed l (ofLine l cs) ≡ flushed l cs
-unfolding flushed ofLine
-flushed-line l [] = refl
-flushed-line l (store p vs ∷ cs) = go (eqb (lineOf p) l) (flushed-line l cs)
+durable-line : (l : ℕ) (cs : List Op) → durable l (ofLine l cs) ≡ durable l cs
+unfolding durable ofLine
+durable-line l [] = refl
+durable-line l (store p vs ∷ cs) = go (eqb (lineOf p) l) (durable-line l cs)
   where
-    go : (b : Bool) → flushed l (ofLine l cs) ≡ flushed l cs → flushed l (consIf b (store p vs) (ofLine l cs)) ≡ flushed l cs
+    go : (b : Bool) → durable l (ofLine l cs) ≡ durable l cs → durable l (consIf b (store p vs) (ofLine l cs)) ≡ durable l cs
     go true i = i
     go false i = i
-flushed-line l (flush m ∷ cs) = go (eqb m l) refl (flushed-line l cs)
+durable-line l (flush m ∷ cs) = go (eqb m l) refl (durable-line l cs)
   where
-    go : (b : Bool) → eqb m l ≡ b → flushed l (ofLine l cs) ≡ flushed l cs → flushed l (consIf b (flush m) (ofLine l cs)) ≡ (b || flushed l cs)
+    go : (b : Bool) → eqb m l ≡ b → durable l (ofLine l cs) ≡ durable l cs → durable l (consIf b (flush m) (ofLine l cs)) ≡ (b || durable l cs)
     go true e i = rw e
     go false e i = i
-flushed-line l (malformed ∷ cs) = flushed-line l cs
+durable-line l (malformed ∷ cs) = durable-line l cs
 
 settled-line : (l : ℕ) (cs : List Op) → settled l (ofLine l cs) ≡ settled l cs
 unfolding settled ofLine
 settled-line l [] = refl
 settled-line l (store p vs ∷ cs) = go (eqb (lineOf p) l) refl (settled-line l cs)
   where
-    go : (b : Bool) → eqb (lineOf p) l ≡ b → settled l (ofLine l cs) ≡ settled l cs → settled l (consIf b (store p vs) (ofLine l cs)) ≡ pick (b && flushed l cs) 1 0 + settled l cs
-    go true e i = rw (e, flushed-line l cs, i)
+    go : (b : Bool) → eqb (lineOf p) l ≡ b → settled l (ofLine l cs) ≡ settled l cs → settled l (consIf b (store p vs) (ofLine l cs)) ≡ pick (b && durable l cs) 1 0 + settled l cs
+    go true e i = rw (e, durable-line l cs, i)
     go false e i = i ∙ sym (zero-add (settled l cs))
 settled-line l (flush m ∷ cs) = go (eqb m l) (settled-line l cs)
   where
@@ -173,35 +173,10 @@ each-line l f cs =
     ∙ sym (firsts-line l (λ (m : ℕ). settled m (ofLine l cs) + f m) cs)
     ∙ sym (kept-firsts f (ofLine l cs))
 
-module _ (l : ℕ) where
-  to-line : (cs : List Op) → All (To l) cs → ofLine l cs ≡ cs
-  unfolding ofLine
-  to-line [] h = refl
-  to-line (store p vs ∷ cs) h = rw (eq-eqb (lineOf p) l (h .0)) (ap (λ (r : List Op). store p vs ∷ r) (to-line cs (h .1)))
-  to-line (flush m ∷ cs) h = absurd (h .0)
-  to-line (malformed ∷ cs) h = absurd (h .0)
-
-  to-stores : (cs : List Op) → All (To l) cs → stores cs ≡ cs
-  unfolding stores
-  to-stores [] h = refl
-  to-stores (store p vs ∷ cs) h = ap (λ (r : List Op). store p vs ∷ r) (to-stores cs (h .1))
-  to-stores (flush m ∷ cs) h = absurd (h .0)
-  to-stores (malformed ∷ cs) h = absurd (h .0)
-
-  to-pending : (cs : List Op) → All (To l) cs → flushed l cs ≡ false
-  unfolding flushed
-  to-pending [] h = refl
-  to-pending (store p vs ∷ cs) h = to-pending cs (h .1)
-  to-pending (flush m ∷ cs) h = absurd (h .0)
-  to-pending (malformed ∷ cs) h = absurd (h .0)
-
--- pending stores of one line are kept as a first part
-pub first-part : (l : ℕ) (f : ℕ → ℕ) (cs : List Op) → All (To l) cs → kept f cs ≡ take (f l) cs
-first-part l f cs h =
-    ap (kept f) (sym (to-line l cs h))
-    ∙ sym (each-line l f cs)
-    ∙ keep-line l f cs
-    ∙ ap (λ (k : ℕ). take (k + f l) (ofLine l (stores cs))) (settled-none l cs (to-pending l cs h))
-    ∙ ap (λ (k : ℕ). take k (ofLine l (stores cs))) (zero-add (f l))
-    ∙ ap (λ (ds : List Op). take (f l) (ofLine l ds)) (to-stores l cs h)
-    ∙ ap (take (f l)) (to-line l cs h)
+-- stores to line l alone are all of that line
+pub to-line : (l : ℕ) (cs : List Op) → All (To l) cs → ofLine l cs ≡ cs
+unfolding ofLine
+to-line l [] h = refl
+to-line l (store p vs ∷ cs) h = rw (eq-eqb (lineOf p) l (h .0)) (ap (λ (r : List Op). store p vs ∷ r) (to-line l cs (h .1)))
+to-line l (flush m ∷ cs) h = absurd (h .0)
+to-line l (malformed ∷ cs) h = absurd (h .0)

@@ -1,13 +1,14 @@
--- Bytes that no store touches, and lists whose stores are flushed in them: the device's contract for the crates above.
+-- Bytes that no store touches, and lists whose stores are durable at their end: the device's contract for the crates above.
 -- Assumes nothing.
 use Prim.Native.Nat.{ℕ, zero, suc, _+_, _≤_, _<_}
 use mathlib.Core.Path.{_≡_, refl, sym, ap, _∙_}
-use mathlib.Core.Bool.{Bool, true, false, _||_}
+use mathlib.Core.Bool.{Bool, true, false, _||_, or-true, false≢true}
 use mathlib.Core.List.{List, [], _∷_, _++_, append-nil}
 use mathlib.Core.Logic.{_⊎_, inl, inr}
 use native.Mathlib.Omega.{arith}
-use lib.ListN.{length, getD, take}
-use lib.Seq.{sets, length-sets, take-append-le, take-append-add, take-all, ext-getD}
+use native.Mathlib.Decide.{decLe}
+use lib.ListN.{length, getD, take, drop, drop-of-length-le, length-take}
+use lib.Seq.{sets, length-sets, take-append-le, take-append-add, take-nil, ext-getD}
 use lib.Dec.{ltb, leb, eqb}
 use borrow.Author.Tests.{leb-true, leb-false, ltb-true, ltb-false, le-leb, lt-leb, le-ltb}
 use Rattle.codec.specs.Lists.{pick}
@@ -15,7 +16,7 @@ use Rattle.codec.proofs.Tests.{first, second}
 use Rattle.codec.proofs.Lists.{sets-apart, sets-both}
 use Rattle.codec.proofs.Agree.{or-left, or-right}
 use Rattle.device.specs.Tape.{Op, store, flush, malformed}
-use Rattle.device.specs.Cut.{apply, after, lineOf, flushed, less, consIf, kept, cutImage, hits, touches, Closed, Sealed}
+use Rattle.device.specs.Cut.{apply, after, lineOf, durable, less, consIf, kept, cutImage, hits, touches, Closed, Sealed}
 use Rattle.device.proofs.Cuts.{length-after, kept-durable}
 
 -- ---- bytes that no store touches
@@ -91,8 +92,8 @@ touches-kept : (f : ℕ → ℕ) (cs : List Op) (i : ℕ) → touches cs i ≡ f
 unfolding kept touches
 touches-kept f [] i e = refl
 touches-kept f (store p vs ∷ cs) i e =
-    let g = pick (flushed (lineOf p) cs) f (less f (lineOf p)) in
-    touches-if (flushed (lineOf p) cs || ltb 0 (f (lineOf p))) (store p vs) (kept g cs) i
+    let g = pick (durable (lineOf p) cs) f (less f (lineOf p)) in
+    touches-if (durable (lineOf p) cs || ltb 0 (f (lineOf p))) (store p vs) (kept g cs) i
     (or-left (hits (store p vs) i) (touches cs i) e)
     (touches-kept g cs i (or-right (hits (store p vs) i) (touches cs i) e))
 touches-kept f (flush l ∷ cs) i e = touches-kept f cs i e
@@ -109,57 +110,64 @@ pub cut-untouched : (image : List ℕ) (f : ℕ → ℕ) (c : ℕ) (cs : List Op
 unfolding cutImage
 cut-untouched image f c cs i e = run-other image (kept f (take c cs)) i (touches-kept f (take c cs) i (touches-take c cs i e))
 
--- ---- lists whose stores are flushed in them
+-- ---- lists whose stores are durable at their end
 
-pub flushed-append : (l : ℕ) (a b : List Op) → flushed l (a ++ b) ≡ (flushed l a || flushed l b)
-unfolding flushed
-flushed-append l [] b = refl
-flushed-append l (store p vs ∷ a) b = flushed-append l a b
-flushed-append l (flush m ∷ a) b = go (eqb m l) (flushed-append l a b)
+-- a store that is durable in the first of two lists, or in the second, is so in both
+durable-first : (l : ℕ) (a b : List Op) → durable l a ≡ true → durable l (a ++ b) ≡ true
+unfolding durable
+durable-first l [] b e = absurd (false≢true e)
+durable-first l (store p vs ∷ a) b e = durable-first l a b e
+durable-first l (flush m ∷ a) b e = go (eqb m l) e (durable-first l a b)
   where
-    go : (t : Bool) → flushed l (a ++ b) ≡ (flushed l a || flushed l b) → (t || flushed l (a ++ b)) ≡ ((t || flushed l a) || flushed l b)
-    go true q = refl
-    go false q = q
-flushed-append l (malformed ∷ a) b = flushed-append l a b
+    go : (t : Bool) → (t || durable l a) ≡ true → (durable l a ≡ true → durable l (a ++ b) ≡ true) → (t || durable l (a ++ b)) ≡ true
+    go true q h = refl
+    go false q h = h q
+durable-first l (malformed ∷ a) b e = durable-first l a b e
 
-or-true : (a : Bool) → (a || true) ≡ true
-or-true true = refl
-or-true false = refl
+durable-second : (l : ℕ) (a b : List Op) → durable l b ≡ true → durable l (a ++ b) ≡ true
+unfolding durable
+durable-second l [] b e = e
+durable-second l (store p vs ∷ a) b e = durable-second l a b e
+durable-second l (flush m ∷ a) b e = rw (durable-second l a b e) (or-true (eqb m l))
+durable-second l (malformed ∷ a) b e = durable-second l a b e
 
-flushed-first : (l : ℕ) (a b : List Op) → flushed l a ≡ true → flushed l (a ++ b) ≡ true
-flushed-first l a b e = flushed-append l a b ∙ rw e
-
-flushed-second : (l : ℕ) (a b : List Op) → flushed l b ≡ true → flushed l (a ++ b) ≡ true
-flushed-second l a b e = flushed-append l a b ∙ rw e (or-true (flushed l a))
+-- if some of the commands before a cut make a store durable, more of them are before it
+pub durable-late : (l m c : ℕ) (cs : List Op) → durable l (drop m (take c cs)) ≡ true → m < c
+unfolding durable
+durable-late l m c cs e = go (decLe (suc m) c)
+  where
+    go : Dec (suc m ≤ c) → suc m ≤ c
+    go (yes h) = h
+    go (no h) = absurd (false≢true (ap (durable l) (sym (drop-of-length-le (take c cs) {i = m} (simp length-take (omega arith)))) ∙ e))
 
 pub closed-append : (a b : List Op) → Closed a → Closed b → Closed (a ++ b)
 unfolding Closed
 closed-append [] b c d = d
-closed-append (store p vs ∷ a) b c d = (flushed-first (lineOf p) a b (c .0), closed-append a b (c .1) d)
+closed-append (store p vs ∷ a) b c d = (durable-first (lineOf p) a b (c .0), closed-append a b (c .1) d)
 closed-append (flush l ∷ a) b c d = closed-append a b c d
 closed-append (malformed ∷ a) b c d = closed-append a b c d
 
--- stores, and then a list that flushes their lines
+-- stores, and then a list that makes them durable
 pub sealed-closed : (a b : List Op) → Sealed a b → Closed b → Closed (a ++ b)
 unfolding Closed Sealed
 sealed-closed [] b s c = c
-sealed-closed (store p vs ∷ a) b s c = (flushed-second (lineOf p) a b (s .0), sealed-closed a b (s .1) c)
+sealed-closed (store p vs ∷ a) b s c = (durable-second (lineOf p) a b (s .0), sealed-closed a b (s .1) c)
 sealed-closed (flush l ∷ a) b s c = sealed-closed a b s c
 sealed-closed (malformed ∷ a) b s c = sealed-closed a b s c
 
--- more flushes do no harm
+-- more commands before it do no harm
 pub sealed-more : (a b d : List Op) → Sealed a d → Sealed a (b ++ d)
 unfolding Sealed
 sealed-more [] b d s = tt
-sealed-more (store p vs ∷ a) b d s = (flushed-second (lineOf p) b d (s .0), sealed-more a b d (s .1))
+sealed-more (store p vs ∷ a) b d s = (durable-second (lineOf p) b d (s .0), sealed-more a b d (s .1))
 sealed-more (flush l ∷ a) b d s = sealed-more a b d s
 sealed-more (malformed ∷ a) b d s = sealed-more a b d s
 
--- stores that are flushed are all kept, and what follows is kept as if it stood alone
+-- stores that are durable are all kept, and what follows is kept as if it stood alone
 kept-closed : (image : List ℕ) (f : ℕ → ℕ) (a b : List Op) → Closed a → after image (kept f (a ++ b)) ≡ after (after image a) (kept f b)
 unfolding after kept Closed
 kept-closed image f [] b c = refl
-kept-closed image f (store p vs ∷ a) b c = ap (after image) (kept-durable f p vs (a ++ b) (flushed-first (lineOf p) a b (c .0))) ∙ kept-closed (sets image p vs) f a b (c .1)
+kept-closed image f (store p vs ∷ a) b c = ap (after image) (kept-durable f p vs (a ++ b) (durable-first (lineOf p) a b (c .0))) ∙ kept-closed (sets image p vs) f a b (c .1)
 kept-closed image f (flush l ∷ a) b c = kept-closed image f a b c
 kept-closed image f (malformed ∷ a) b c = kept-closed image f a b c
 
@@ -173,7 +181,16 @@ pub cut-late : (image : List ℕ) (f : ℕ → ℕ) (d : ℕ) (a b : List Op) �
 unfolding cutImage
 cut-late image f d a b c = ap (λ (cs : List Op). after image (kept f cs)) (take-append-add a b d) ∙ kept-closed image f a (take d b) c
 
--- a cut at the end of a closed list, or past it, leaves the image after it
-pub cut-all : (image : List ℕ) (f : ℕ → ℕ) (c : ℕ) (a : List Op) → Closed a → length a ≤ c → cutImage image f c a ≡ after image a
+-- a cut where every store so far is durable leaves the image after the commands so far
+pub cut-closed : (image : List ℕ) (f : ℕ → ℕ) (c : ℕ) (a : List Op) → Closed (take c a) → cutImage image f c a ≡ after image (take c a)
 unfolding cutImage after kept
-cut-all image f c a k h = ap (λ (cs : List Op). after image (kept f cs)) (take-all c a h ∙ sym (append-nil a)) ∙ kept-closed image f a [] k
+cut-closed image f c a k = ap (λ (cs : List Op). after image (kept f cs)) (sym (append-nil (take c a))) ∙ kept-closed image f (take c a) [] k
+
+-- no command is done, or there is none
+pub cut-zero : (image : List ℕ) (f : ℕ → ℕ) (a : List Op) → cutImage image f 0 a ≡ image
+unfolding cutImage after kept
+cut-zero image f a = refl
+
+pub cut-nil : (image : List ℕ) (f : ℕ → ℕ) (c : ℕ) → cutImage image f c [] ≡ image
+unfolding cutImage after kept
+cut-nil image f c = ap (λ (cs : List Op). after image (kept f cs)) (take-nil {A = Op} c)

@@ -13,7 +13,7 @@ use Rattle.codec.specs.Lists.{pick, part, splice}
 use Rattle.codec.specs.Numbers.{number}
 use Rattle.codec.proofs.Lists.{length-part, splice-sets}
 use Rattle.device.specs.Tape.{Op, store, flush, isCommand, front, extent, decode}
-use Rattle.device.specs.Cut.{after, lineOf, flushed, less, consIf, kept}
+use Rattle.device.specs.Cut.{after, lineOf, durable, less, consIf, kept}
 use Rattle.device.specs.Counts.{Kept}
 use Rattle.device.proofs.Decode.{StoreAt, FlushAt, word-at, line-at, flush-at, flush-kind}
 use Rattle.device.proofs.Counts.{On, ends, ends-next, Noted, noted-test, noted-store, noted-flush}
@@ -69,7 +69,7 @@ judge-turn c count o ds cs last next at place b h e on fits f size s l =
 
 -- past the cut none is left
 pub judge-past : (c count : ℕ) (ds cs : List Op) (last : List ℕ) (at more : ℕ) → c ≤ count → (l : ℕ) → ends last more (take (c - (count + 1)) cs) l ≡ ends last at (take (c - count) ds) l
-unfolding flushed
+unfolding durable
 judge-past c count ds cs last at more h l =
     let a : c - (count + 1) ≡ 0 = omega arith in
     let b : c - count ≡ 0 = omega arith in
@@ -86,7 +86,7 @@ less-set left m h = fun-ext (λ l. go l (eqb l m) refl)
     go l false e = getD-set-other left m l (getD left m 0 - 1) 0 (eqb-false l m e)
 
 -- a store that is kept or not, by whether its line is flushed later, which `flushes` says
-kept-store : (work left : List ℕ) (p m : ℕ) (vs : List ℕ) (cs : List Op) (flushes : Bool) → lineOf p ≡ m → m < length left → flushed m cs ≡ flushes →
+kept-store : (work left : List ℕ) (p m : ℕ) (vs : List ℕ) (cs : List Op) (flushes : Bool) → lineOf p ≡ m → m < length left → durable m cs ≡ flushes →
     after (pick (flushes || ltb 0 (getD left m 0)) (sets work p vs) work) (kept (λ (l : ℕ). getD (pick flushes left (set left m (getD left m 0 - 1))) l 0) cs)
     ≡ after work (kept (λ (l : ℕ). getD left l 0) (store p vs ∷ cs))
 unfolding after kept
@@ -108,13 +108,13 @@ module _ (n : ℕ) (t : List ℕ) (at k : ℕ) (some : 0 < k) (last : List ℕ) 
 
     pub replay-store : (m : ℕ) (work left work′ left′ : List ℕ) → lineOf p ≡ m → length work ≡ n → m < length left → Kept work left last at m p (part t (at + 4) s) work′ left′ →
         after work′ (kept (λ (l : ℕ). getD left′ l 0) (take (k - 1) (decode n (drop (at + (4 + s)) t)))) ≡ after work (kept (λ (l : ℕ). getD left l 0) (take k (decode n (drop at t))))
-    unfolding flushed
+    unfolding durable
     replay-store m work left work′ left′ line e h q =
         let vs = part t (at + 4) s in
         let cs = take (k - 1) (decode n (drop (at + (4 + s)) t)) in
         let counts : List ℕ → ℕ → ℕ = λ x l. getD x l 0 in
         let fits : p + length vs ≤ length work = omega (arith, store-size, r .inImage) in
-        let test : flushed m cs ≡ ltb at (getD last m 0) = ap (flushed m) (sym store-next) ∙ noted-test last at (take k (decode n (drop at t))) m (noted m) in
+        let test : durable m cs ≡ ltb at (getD last m 0) = ap (durable m) (sym store-next) ∙ noted-test last at (take k (decode n (drop at t))) m (noted m) in
         let made : work′ ≡ pick (ltb at (getD last m 0) || ltb 0 (getD left m 0)) (sets work p vs) work =
         q .made ∙ ap (λ (x : List ℕ). pick (ltb at (getD last m 0) || ltb 0 (getD left m 0)) x work) (splice-sets work p vs fits) in
         ap (λ (w : List ℕ). after w (kept (counts left′) cs)) made

@@ -1,25 +1,24 @@
--- What a tape is made of: stores followed by the flushes of their lines, stores of what stands in an image, and a line's pending stores
--- cut anywhere.
+-- What a tape is made of: stores followed by the flushes of their lines, and stores of what stands in an image.
 -- Assumes nothing.
-use Prim.Native.Nat.{ℕ, zero, suc, _+_, _-_, _≤_, _<_}
+use Prim.Native.Nat.{ℕ, _+_, _-_, _≤_, _<_}
 use mathlib.Core.Path.{_≡_, refl, sym, ap, _∙_}
 use mathlib.Core.Logic.{_⊎_}
-use mathlib.Core.Bool.{Bool, true, false, or-true, or-false}
-use mathlib.Core.List.{List, [], _∷_, _++_}
+use mathlib.Core.Bool.{Bool, true, false, or-true}
+use mathlib.Core.List.{List, [], _∷_, _++_, append-nil}
 use native.Mathlib.Omega.{arith}
-use native.Mathlib.Decide.{decLe}
-use lib.ListN.{length, getD, take, length-append, length-take}
-use lib.Seq.{sets, length-sets, ext-getD, take-take, take-all, take-length}
+use lib.ListN.{length, getD}
+use lib.Seq.{sets, length-sets, ext-getD}
 use borrow.Author.Tests.{eq-eqb, le-leb, lt-ltb}
 use Rattle.codec.specs.Lists.{part, All}
 use Rattle.codec.proofs.Tests.{both}
 use Rattle.codec.proofs.Lists.{sets-apart, getD-part}
 use Rattle.codec.proofs.Agree.{or-left, or-right, neither, part-agree, part-sets}
 use Rattle.device.specs.Tape.{Op, store, flush, malformed}
-use Rattle.device.specs.Cut.{after, lineOf, flushed, cutImage, hits, touches, Closed, Sealed, To, IsFlush, FlushedBy, Flushing, Writes}
-use Rattle.device.proofs.Cuts.{length-after, after-append}
-use Rattle.device.proofs.Lines.{first-part}
-use Rattle.device.proofs.Segments.{out-hits, touches-append, sealed-closed, sealed-more, cut-early, cut-all, in-hits, hits-out}
+use Rattle.device.specs.Cut.{after, lineOf, durable, hits, touches, Closed, Sealed, stores, To, IsFlush, DurableBy, Flushing, Writes}
+use Rattle.device.proofs.Clauses.{durable-here}
+use Rattle.device.proofs.Cuts.{length-after, after-stores}
+use Rattle.device.proofs.Segments.{out-hits, touches-append, sealed-closed, sealed-more, in-hits, hits-out}
+use Rattle.device.proofs.Stores.{stores-append, touches-stores, storeless-closed}
 
 -- ---- which bytes a store writes
 
@@ -27,10 +26,6 @@ hits-in : (p : ℕ) (vs : List ℕ) (i : ℕ) → p ≤ i → i < p + length vs 
 hits-in p vs i low high = both (le-leb p i low) (lt-ltb i (p + length vs) high)
 
 module _ (p : ℕ) (vs : List ℕ) (cs : List Op) where
-  pub after-store : (img : List ℕ) → after img (store p vs ∷ cs) ≡ after (sets img p vs) cs
-  unfolding after
-  after-store img = refl
-
   pub touches-in : (i : ℕ) → p ≤ i → i < p + length vs → touches (store p vs ∷ cs) i ≡ true
   unfolding touches
   touches-in i low high = rw (hits-in p vs i low high)
@@ -51,18 +46,6 @@ pub touches-past : (o : Op) (cs : List Op) (i : ℕ) → touches cs i ≡ true �
 unfolding touches
 touches-past o cs i h = rw h (or-true (hits o i))
 
-pub after-none : (img : List ℕ) → after img [] ≡ img
-unfolding after
-after-none img = refl
-
-pub closed-none : Closed []
-unfolding Closed
-closed-none = tt
-
-pub touches-none : (i : ℕ) → touches [] i ≡ false
-unfolding touches
-touches-none i = refl
-
 -- a byte that two lists of commands do not touch
 pub touches-both : (xs ys : List Op) (i : ℕ) → touches xs i ≡ false → touches ys i ≡ false → touches (xs ++ ys) i ≡ false
 touches-both xs ys i h k = touches-append xs ys i ∙ neither h k
@@ -75,7 +58,7 @@ touches-right xs ys i h = or-right (touches xs i) (touches ys i) (sym (touches-a
 
 -- ---- stores, then the flushes of their lines
 
-sealed-past : (o : Op) (xs ys : List Op) → FlushedBy ys o → Sealed xs ys → Sealed (o ∷ xs) ys
+sealed-past : (o : Op) (xs ys : List Op) → DurableBy ys o → Sealed xs ys → Sealed (o ∷ xs) ys
 unfolding Sealed
 sealed-past (store p vs) xs ys h s = (h, s)
 sealed-past (flush l) xs ys h s = s
@@ -89,49 +72,34 @@ flushing-none = record { flushes = tt; covers = tt }
 pub flushing-flush : (m : ℕ) (xs ys : List Op) → Flushing xs ys → Flushing xs (flush m ∷ ys)
 flushing-flush m xs ys f = record { flushes = (tt, f .flushes); covers = sealed-more xs (flush m ∷ []) ys (f .covers) }
 
--- one command more before them, with its line flushed
-pub flushing-past : (o : Op) (xs ys : List Op) → FlushedBy ys o → Flushing xs ys → Flushing (o ∷ xs) ys
+-- one command more before them, that they make durable
+pub flushing-past : (o : Op) (xs ys : List Op) → DurableBy ys o → Flushing xs ys → Flushing (o ∷ xs) ys
 flushing-past o xs ys h f = record { flushes = f .flushes; covers = sealed-past o xs ys h (f .covers) }
-
-pub flushed-first : (m : ℕ) (ys : List Op) → flushed m (flush m ∷ ys) ≡ true
-unfolding flushed
-flushed-first m ys = rw (eq-eqb m m refl)
 
 -- a store and its flush
 pub flushing-next : (p : ℕ) (vs : List ℕ) (l : ℕ) (xs ys : List Op) → lineOf p ≡ l → Flushing xs ys → Flushing (store p vs ∷ xs) (flush l ∷ ys)
 flushing-next p vs l xs ys e f =
-    flushing-past (store p vs) xs (flush l ∷ ys) (ap (λ (m : ℕ). flushed m (flush l ∷ ys)) e ∙ flushed-first l ys) (flushing-flush l xs ys f)
+    flushing-past (store p vs) xs (flush l ∷ ys) (ap (λ (m : ℕ). durable m (flush l ∷ ys)) e ∙ durable-here l ys) (flushing-flush l xs ys f)
 
-flushes-closed : (ys : List Op) → All IsFlush ys → Closed ys
-unfolding Closed
-flushes-closed [] h = tt
-flushes-closed (store p vs ∷ ys) h = absurd (h .0)
-flushes-closed (flush l ∷ ys) h = flushes-closed ys (h .1)
-flushes-closed (malformed ∷ ys) h = absurd (h .0)
-
-flushes-touch : (ys : List Op) (i : ℕ) → All IsFlush ys → touches ys i ≡ false
-unfolding touches
-flushes-touch [] i h = refl
-flushes-touch (store p vs ∷ ys) i h = absurd (h .0)
-flushes-touch (flush l ∷ ys) i h = flushes-touch ys i (h .1)
-flushes-touch (malformed ∷ ys) i h = absurd (h .0)
-
-flushes-after : (img : List ℕ) (ys : List Op) → All IsFlush ys → after img ys ≡ img
-unfolding after
-flushes-after img [] h = refl
-flushes-after img (store p vs ∷ ys) h = absurd (h .0)
-flushes-after img (flush l ∷ ys) h = flushes-after img ys (h .1)
-flushes-after img (malformed ∷ ys) h = absurd (h .0)
+flushes-storeless : (ys : List Op) → All IsFlush ys → stores ys ≡ []
+unfolding stores
+flushes-storeless [] h = refl
+flushes-storeless (store p vs ∷ ys) h = absurd (h .0)
+flushes-storeless (flush l ∷ ys) h = flushes-storeless ys (h .1)
+flushes-storeless (malformed ∷ ys) h = absurd (h .0)
 
 module _ (xs ys : List Op) (f : Flushing xs ys) where
   pub flushing-closed : Closed (xs ++ ys)
-  flushing-closed = sealed-closed xs ys (f .covers) (flushes-closed ys (f .flushes))
+  flushing-closed = sealed-closed xs ys (f .covers) (storeless-closed ys (flushes-storeless ys (f .flushes)))
+
+  pub flushing-stores : stores (xs ++ ys) ≡ stores xs
+  flushing-stores = stores-append xs ys ∙ ap (λ (r : List Op). stores xs ++ r) (flushes-storeless ys (f .flushes)) ∙ append-nil (stores xs)
 
   pub flushing-touches : (i : ℕ) → touches (xs ++ ys) i ≡ touches xs i
-  flushing-touches i = touches-append xs ys i ∙ rw (flushes-touch ys i (f .flushes)) (or-false (touches xs i))
+  flushing-touches i = sym (touches-stores (xs ++ ys) i) ∙ ap (λ (cs : List Op). touches cs i) flushing-stores ∙ touches-stores xs i
 
-  pub flushing-after : (img : List ℕ) → after img (xs ++ ys) ≡ after img xs
-  flushing-after img = after-append img xs ys ∙ flushes-after (after img xs) ys (f .flushes)
+  pub flushing-after : (image : List ℕ) → after image (xs ++ ys) ≡ after image xs
+  flushing-after image = sym (after-stores image (xs ++ ys)) ∙ ap (after image) flushing-stores ∙ after-stores image xs
 
 -- ---- stores of what stands in an image w
 
@@ -184,10 +152,10 @@ flushes-write w (store p vs ∷ ys) h = absurd (h .0)
 flushes-write w (flush l ∷ ys) h = (tt, flushes-write w ys (h .1))
 flushes-write w (malformed ∷ ys) h = absurd (h .0)
 
--- ---- stores to one line, then its flush, cut anywhere
+-- ---- stores to one line, then its flush
 
 to-sealed : (l : ℕ) (xs : List Op) → All (To l) xs → Sealed xs (flush l ∷ [])
-unfolding Sealed flushed
+unfolding Sealed durable
 to-sealed l [] h = tt
 to-sealed l (store p vs ∷ xs) h = (rw (eq-eqb l (lineOf p) (sym (h .0))), to-sealed l xs (h .1))
 to-sealed l (flush m ∷ xs) h = absurd (h .0)
@@ -195,30 +163,3 @@ to-sealed l (malformed ∷ xs) h = absurd (h .0)
 
 pub to-flushing : (l : ℕ) (xs : List Op) → All (To l) xs → Flushing xs (flush l ∷ [])
 to-flushing l xs h = record { flushes = (tt, tt); covers = to-sealed l xs h }
-
-to-take : (l n : ℕ) (xs : List Op) → All (To l) xs → All (To l) (take n xs)
-to-take l zero xs h = tt
-to-take l (suc n) [] h = tt
-to-take l (suc n) (o ∷ xs) h = (h .0, to-take l n xs (h .1))
-
--- a first part of the stores is kept
-pub cut-line : (img : List ℕ) (f : ℕ → ℕ) (c l : ℕ) (xs : List Op) → All (To l) xs → (m : ℕ) × (cutImage img f c (xs ++ (flush l ∷ [])) ≡ after img (take m xs))
-unfolding cutImage
-cut-line img f c l xs h = go (decLe c (length xs))
-  where
-    short : (m : ℕ) → Dec (m ≤ c) → (k : ℕ) × (take m (take c xs) ≡ take k xs)
-    short m (yes q) = (m, take-take m c xs q)
-    short m (no q) = (c, take-all m (take c xs) (omega (arith, length-take c xs)))
-
-    go : Dec (c ≤ length xs) → (m : ℕ) × (cutImage img f c (xs ++ (flush l ∷ [])) ≡ after img (take m xs))
-    go (yes q) =
-        let s = short (f l) (decLe (f l) c) in
-        (s .0, cut-early img f c xs (flush l ∷ []) q ∙ ap (after img) (first-part l f (take c xs) (to-take l c xs h) ∙ s .1))
-    go (no q) =
-        let long : length (xs ++ (flush l ∷ [])) ≤ c = simp length-append (omega arith) in
-        let seg = to-flushing l xs h in (
-          length xs,
-          cut-all img f c (xs ++ (flush l ∷ [])) (flushing-closed xs (flush l ∷ []) seg) long
-              ∙ flushing-after xs (flush l ∷ []) seg img
-              ∙ ap (after img) (sym (take-length xs)),
-        )

@@ -8,7 +8,7 @@ use lib.ListN.{length, getD, set}
 use lib.Dec.{ltb, eqb}
 use Rattle.codec.specs.Lists.{pick, splice}
 use Rattle.device.specs.Tape.{Op, store, flush, malformed, wellFormed}
-use Rattle.device.specs.Cut.{flushed}
+use Rattle.device.specs.Cut.{durable}
 use Rattle.device.specs.declared.Scan.{Scan}
 use Rattle.device.specs.declared.Scan.the-variants.{Commands, Broken}
 
@@ -24,7 +24,7 @@ scanned cs = pick (wellFormed cs) (Commands (length cs)) Broken
 unfoldable pub flushEnd : ℕ → ℕ → List Op → ℕ
 flushEnd l at [] = 0
 flushEnd l at (store p vs ∷ cs) = flushEnd l (at + (4 + length vs)) cs
-flushEnd l at (flush m ∷ cs) = pick (flushed l cs) (flushEnd l (at + 4) cs) (pick (eqb m l) (at + 4) 0)
+flushEnd l at (flush m ∷ cs) = pick (durable l cs) (flushEnd l (at + 4) cs) (pick (eqb m l) (at + 4) 0)
 flushEnd l at (malformed ∷ cs) = flushEnd l at cs
 
 -- a store at `at` of the tape, of these bytes at p in `line`: it is made if the line is flushed later or its choice is not used up,

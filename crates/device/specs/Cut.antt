@@ -29,12 +29,13 @@ after image (o ∷ cs) = after (apply image o) cs
 abbrev pub lineOf : ℕ → ℕ
 lineOf p = p / 64
 
--- "Once done, every earlier store to that line is durable": whether a store to line l is, with these commands done after it
-unfoldable pub flushed : ℕ → List Op → Bool
-flushed l [] = false
-flushed l (store p vs ∷ cs) = flushed l cs
-flushed l (flush m ∷ cs) = eqb m l || flushed l cs
-flushed l (malformed ∷ cs) = flushed l cs
+-- "Once done, every earlier store to that line is durable": whether a store to line l is, with these commands done after it;
+-- one of them flushes the line
+unfoldable pub durable : ℕ → List Op → Bool
+durable l [] = false
+durable l (store p vs ∷ cs) = durable l cs
+durable l (flush m ∷ cs) = eqb m l || durable l cs
+durable l (malformed ∷ cs) = durable l cs
 
 -- the choices with one less at line l
 abbrev pub less : (ℕ → ℕ) → ℕ → ℕ → ℕ
@@ -50,8 +51,8 @@ consIf false o cs = cs
 unfoldable pub kept : (ℕ → ℕ) → List Op → List Op
 kept f [] = []
 kept f (store p vs ∷ cs) =
-    consIf (flushed (lineOf p) cs || ltb 0 (f (lineOf p))) (store p vs)
-    (kept (pick (flushed (lineOf p) cs) f (less f (lineOf p))) cs)
+    consIf (durable (lineOf p) cs || ltb 0 (f (lineOf p))) (store p vs)
+    (kept (pick (durable (lineOf p) cs) f (less f (lineOf p))) cs)
 kept f (flush l ∷ cs) = kept f cs
 kept f (malformed ∷ cs) = kept f cs
 
@@ -72,17 +73,17 @@ unfoldable pub touches : List Op → ℕ → Bool
 touches [] i = false
 touches (o ∷ cs) i = hits o i || touches cs i
 
--- every store of the list is flushed later in it
+-- every store of the list is durable at its end
 unfoldable pub Closed : List Op → Type 0
 Closed [] = Unit {0}
-Closed (store p vs ∷ cs) = (flushed (lineOf p) cs ≡ true) × Closed cs
+Closed (store p vs ∷ cs) = (durable (lineOf p) cs ≡ true) × Closed cs
 Closed (flush l ∷ cs) = Closed cs
 Closed (malformed ∷ cs) = Closed cs
 
--- every store of the first list is flushed in the second
+-- every store of the first list is durable once the second is done
 unfoldable pub Sealed : List Op → List Op → Type 0
 Sealed [] ds = Unit {0}
-Sealed (store p vs ∷ cs) ds = (flushed (lineOf p) ds ≡ true) × Sealed cs ds
+Sealed (store p vs ∷ cs) ds = (durable (lineOf p) ds ≡ true) × Sealed cs ds
 Sealed (flush l ∷ cs) ds = Sealed cs ds
 Sealed (malformed ∷ cs) ds = Sealed cs ds
 
@@ -107,7 +108,7 @@ ofLine l (o ∷ cs) = consIf (concerns l o) o (ofLine l cs)
 -- how many of the stores to line l are durable once all of the commands are done
 unfoldable pub settled : ℕ → List Op → ℕ
 settled l [] = 0
-settled l (store p vs ∷ cs) = pick (eqb (lineOf p) l && flushed l cs) 1 0 + settled l cs
+settled l (store p vs ∷ cs) = pick (eqb (lineOf p) l && durable l cs) 1 0 + settled l cs
 settled l (flush m ∷ cs) = settled l cs
 settled l (malformed ∷ cs) = settled l cs
 
@@ -123,11 +124,11 @@ IsFlush (store p vs) = ⊥
 IsFlush (flush l) = Unit {0}
 IsFlush malformed = ⊥
 
--- if it is a store, ys flush its line
-abbrev pub FlushedBy : List Op → Op → Type 0
-FlushedBy ys (store p vs) = flushed (lineOf p) ys ≡ true
-FlushedBy ys (flush l) = Unit {0}
-FlushedBy ys malformed = Unit {0}
+-- if it is a store, it is durable once ys are done
+abbrev pub DurableBy : List Op → Op → Type 0
+DurableBy ys (store p vs) = durable (lineOf p) ys ≡ true
+DurableBy ys (flush l) = Unit {0}
+DurableBy ys malformed = Unit {0}
 
 -- ys are flushes, and flush all that xs store
 pub record Flushing (xs ys : List Op) : Type 0 where

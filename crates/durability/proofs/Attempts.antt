@@ -12,7 +12,8 @@ use Rattle.page.specs.Layout.{Rec}
 use Rattle.image.specs.Image.{sound}
 use Rattle.image.specs.Table.{table}
 use Rattle.journal.specs.Holds.{replay, tapeOf, Holds}
-use Rattle.journal.proofs.Replay.{holds-size, recovery-run, recovery-cut}
+use Rattle.journal.proofs.Holds.{holds-size}
+use Rattle.journal.proofs.Replay.{recovery-run, recovery-cut}
 use Rattle.journal.proofs.Fitting.{recovery-decode}
 use Rattle.journal.proofs.Stated.{front-back}
 use Rattle.transaction.specs.Calls.{commandsOn}

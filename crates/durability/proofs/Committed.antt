@@ -1,38 +1,41 @@
--- The commit store of an accepted transaction stands on its tape where the definition of its place finds it, with its flush next.
+-- The commit store of an accepted transaction stands on its tape where the definition of its place finds it, with its flush next; and what a
+-- cut of the tape leaves, by that place.
 -- Assumes nothing.
-use Prim.Native.Nat.{ℕ, suc, _+_, _-_, _*_, _/_, _%_, _≤_, _<_}
+use Prim.Native.Nat.{ℕ, suc, _+_, _-_, _*_, _/_, _%_, _≤_}
 use mathlib.Core.Path.{_≡_, refl, sym, ap, ap₂, _∙_, subst}
 use mathlib.Core.Logic.{inl, inr}
 use mathlib.Core.Bool.{Bool, true, false, _||_, true≢false}
 use mathlib.Core.List.{List, [], _∷_, _++_}
 use native.Mathlib.Omega.{arith}
-use native.Mathlib.Decide.{decLe}
-use lib.ListN.{length, take, drop, drop-of-length-le, length-take}
-use lib.Seq.{take-append-add, drop-append-add}
+use lib.ListN.{length, take, drop}
 use lib.Dec.{ltb}
 use borrow.Author.Tests.{eq-eqb, ne-eqb, le-leb, lt-ltb}
 use Rattle.codec.specs.Lists.{All}
 use Rattle.codec.specs.Numbers.{bytesOf}
 use Rattle.codec.proofs.Agree.{or-left, or-right}
 use Rattle.device.specs.Tape.{Op, store, flush, malformed, Writable}
-use Rattle.device.specs.Cut.{hits, touches, flushed, lineOf}
-use Rattle.device.proofs.Clauses.{touches-store, touches-flush, flushed-nil, flushed-here}
+use Rattle.device.specs.Cut.{hits, touches, durable, lineOf}
+use Rattle.device.proofs.Clauses.{touches-store, touches-flush, durable-here}
+use Rattle.device.proofs.Segments.{durable-late}
 use Rattle.page.specs.Layout.{pageSize, lineSize}
 use Rattle.image.specs.PageZero.{rootOf, markBytes}
 use Rattle.image.specs.Image.{sound, reached, among}
+use Rattle.image.specs.Table.{table}
 use Rattle.image.specs.Live.{liveIn, live}
 use Rattle.image.proofs.General.{All-left}
 use Rattle.journal.specs.Changes.{headerLine, changedPages}
 use Rattle.journal.specs.Tape.{Taken, commitOf, roomInLog, takenFor}
 use Rattle.journal.specs.Commit.{commitStore, commitLine, Names}
 use Rattle.journal.specs.Edited.{Edited}
+use Rattle.journal.specs.Holds.{CutHolds}
 use Rattle.journal.specs.declared.Commit.{Commit}
 use Rattle.journal.specs.declared.CommitPlace.{CommitPlace}
 use Rattle.journal.specs.declared.CommitPlace.the-variants.{Header, Root, Log}
-use Rattle.journal.specs.Holds.{tapeOf}
 use Rattle.journal.proofs.Changed.{InBoth}
 use Rattle.journal.proofs.Edits.{changed}
-use Rattle.journal.proofs.Taken.{planned}
+use Rattle.journal.proofs.Crash.{past-command}
+use Rattle.journal.proofs.Follows.{Follows, follows-shape}
+use Rattle.journal.proofs.Taken.{taken-follows, taken-cut}
 use Rattle.journal.proofs.Fitting.{taken-fits}
 use Rattle.transaction.specs.declared.Transacted.the-variants.{Accepted}
 use Rattle.transaction.specs.Calls.{commandsOn}
@@ -58,22 +61,28 @@ first-store n o vs rest (store p us ∷ cs) w t =
 first-store n o vs rest (flush l ∷ cs) w t = ap suc (first-store n o vs rest cs (w .1) (sym (touches-flush l cs o) ∙ t))
 first-store n o vs rest (malformed ∷ cs) w t = absurd (w .0)
 
--- commands flushed after the first m of those before the cut: more than m are before it
-flushed-late : (l m c : ℕ) (cs : List Op) → flushed l (drop m (take c cs)) ≡ true → m < c
-flushed-late l m c cs e = go (decLe (suc m) c)
-  where
-    go : Dec (suc m ≤ c) → suc m ≤ c
-    go (yes h) = h
-    go (no h) = absurd (true≢false (sym e ∙ ap (flushed l) (drop-of-length-le (take c cs) {i = m} (simp length-take (omega arith))) ∙ flushed-nil l))
-
 -- ---- a store with its flush next, after commands that do not store there
 
-module _ (n : ℕ) (place : CommitPlace) (cs bef : List Op) (vs : List ℕ) (rest : List Op) where
+module _ (n : ℕ) (place : CommitPlace) (cs bef : List Op) (vs : List ℕ) (rest : List Op) (shape : cs ≡ bef ++ (store (placeOffset place) vs ∷ flush (lineOf (placeOffset place)) ∷ rest))
+    (writes : All (Writable n) bef) (first : touches bef (placeOffset place) ≡ false) where
   abbrev o : ℕ
   o = placeOffset place
 
-  pub stands : cs ≡ bef ++ (store o vs ∷ flush (lineOf o) ∷ rest) → All (Writable n) bef → touches bef o ≡ false → CommitStands place cs
-  stands shape writes first =
+  pub found : commitAt place cs ≡ length bef
+  found = ap (storeAt o) shape ∙ first-store n o vs (flush (lineOf o) ∷ rest) bef writes first
+
+  -- past the store, its own flush is the first command before the cut
+  own : (c : ℕ) → length bef + 2 ≤ c → Flushed place cs c
+  own c h =
+      let d : ℕ = c - (length bef + 2) in
+      let q : c ≡ length bef + suc (suc d) = omega arith in
+      ap₂ (λ (m i : ℕ). durable (lineOf o) (drop (suc m) (take i cs))) found q
+      ∙ ap (λ (t : List Op). durable (lineOf o) (drop (suc (length bef)) (take (length bef + suc (suc d)) t))) shape
+      ∙ ap (durable (lineOf o)) (past-command bef (store o vs) (flush (lineOf o) ∷ rest) (suc d))
+      ∙ durable-here (lineOf o) (take d rest)
+
+  pub stands : CommitStands place cs
+  stands =
       record {
         before = bef;
         bytes = vs;
@@ -82,24 +91,9 @@ module _ (n : ℕ) (place : CommitPlace) (cs bef : List Op) (vs : List ℕ) (res
         first = first;
         issued = λ c h. omega (arith, found);
         issues = λ c h. omega (arith, found);
-        flushed = λ c h. omega (arith, found, flushed-late (lineOf o) (suc (commitAt place cs)) c cs h);
+        flushed = λ c h. omega (arith, found, durable-late (lineOf o) (suc (commitAt place cs)) c cs h);
         flushes = own;
       }
-    where
-      found : commitAt place cs ≡ length bef
-      found = ap (storeAt o) shape ∙ first-store n o vs (flush (lineOf o) ∷ rest) bef writes first
-
-      -- past the store, its own flush is the first command before the cut
-      own : (c : ℕ) → length bef + 2 ≤ c → Flushed place cs c
-      own c h =
-          let d : ℕ = c - (length bef + 2) in
-          let q : c ≡ length bef + suc (suc d) = omega arith in
-          let e : suc (commitAt place cs) ≡ length bef + 1 = omega (arith, found) in
-          ap₂ (λ (m i : ℕ). flushed (lineOf o) (drop m (take i cs))) e q
-          ∙ ap (λ (t : List Op). flushed (lineOf o) (drop (length bef + 1) (take (length bef + suc (suc d)) t))) shape
-          ∙ ap (λ (t : List Op). flushed (lineOf o) (drop (length bef + 1) t)) (take-append-add bef (store o vs ∷ flush (lineOf o) ∷ rest) (suc (suc d)))
-          ∙ ap (flushed (lineOf o)) (drop-append-add bef (store o vs ∷ flush (lineOf o) ∷ take d rest) 1)
-          ∙ flushed-here (lineOf o) (take d rest)
 
 -- ---- the commit place of a transaction from a to w
 
@@ -136,18 +130,34 @@ module _ (a w : List ℕ) (s : sound a ≡ true) (d : Edited a w) (room : roomIn
   place-line Root = refl
   place-line Log = refl
 
-  -- the commit store stands on the tape, where the transaction says
-  pub taken-stands : (z : CommitStands (takenFor a w .place) (takenFor a w .tape)) × (length (z .before) ≡ takenFor a w .commitAt)
-  unfolding stands
-  taken-stands =
-      let x = takenFor a w in
-      let p = planned a w s d room .plan in
-      let o = place-store (x .place) in
-      let shape : x .tape ≡ p .prepare ++ (store (placeOffset (x .place)) (o .0) ∷ flush (lineOf (placeOffset (x .place))) ∷ tapeOf (p .committed)) =
-      p .shape ∙ ap₂ (λ (c : Op) (l : ℕ). p .prepare ++ (c ∷ flush l ∷ tapeOf (p .committed))) (o .1) (place-line (x .place)) in
-      let writes : All (Writable (length a)) (p .prepare) = All-left (Writable (length a)) (p .prepare) _ (subst (All (Writable (length a))) shape (taken-fits a w s d room)) in
-      let first = p .dead (placeOffset (x .place)) (place-live (x .place) (planned a w s d room .names)) in
-      (stands (length a) (x .place) (x .tape) (p .prepare) (o .0) (tapeOf (p .committed)) shape writes first, sym (p .commits))
+  abbrev x : Taken
+  x = takenFor a w
+
+  t : Follows a w x
+  t = taken-follows a w s d room
+
+  abbrev vs : List ℕ
+  vs = place-store (x .place) .0
+
+  shape : x .tape ≡ t .safe .prepare ++ (store (placeOffset (x .place)) vs ∷ flush (lineOf (placeOffset (x .place))) ∷ t .safe .rest)
+  shape = follows-shape a w x t ∙ ap₂ (λ (c : Op) (l : ℕ). t .safe .prepare ++ (c ∷ flush l ∷ t .safe .rest)) (place-store (x .place) .1) (place-line (x .place))
+
+  writes : All (Writable (length a)) (t .safe .prepare)
+  writes = All-left (Writable (length a)) (t .safe .prepare) _ (subst (All (Writable (length a))) shape (taken-fits a w s d room))
+
+  first : touches (t .safe .prepare) (placeOffset (x .place)) ≡ false
+  first = t .safe .dead (placeOffset (x .place)) (place-live (x .place) (t .names))
+
+  -- the commit store stands on the tape
+  pub taken-stands : CommitStands (x .place) (x .tape)
+  taken-stands = stands (length a) (x .place) (x .tape) (t .safe .prepare) vs (t .safe .rest) shape writes first
+
+  -- where its place finds it, the tape is cut as the journal says
+  pub place-cut : (f : ℕ → ℕ) (c : ℕ) → CutHolds (table a) (table w) a (x .tape) (commitAt (x .place) (x .tape)) (lineOf (placeOffset (x .place))) f c
+  place-cut f c =
+      let at : x .commitAt ≡ commitAt (x .place) (x .tape) = t .commits ∙ sym (found (length a) (x .place) (x .tape) (t .safe .prepare) vs (t .safe .rest) shape writes first) in
+      subst (λ (n : ℕ). CutHolds (table a) (table w) a (x .tape) n (lineOf (placeOffset (x .place))) f c) at
+      (subst (λ (l : ℕ). CutHolds (table a) (table w) a (x .tape) (x .commitAt) l f c) (place-line (x .place)) (taken-cut a w s d room f c))
 
 -- ---- the call
 
@@ -156,16 +166,32 @@ module _ (a : List ℕ) (k : Call) (d : Commit) (e : onImage a k .answer ≡ Acc
   abbrev w : List ℕ
   w = target a (k .work) (k .tape) (k .edits) d e
 
-  abbrev x : Taken
-  x = takenFor a w
+  abbrev made : Taken
+  made = takenFor a w
 
-  pub commit-at : (z : CommitStands (d .place) (commandsOn a (d .bytes) (onImage a k .tape))) × (length (z .before) ≡ x .commitAt)
+  abbrev cs : List Op
+  cs = commandsOn a (d .bytes) (onImage a k .tape)
+
+  s : sound a ≡ true
+  s = was-sound a (k .work) (k .tape) (k .edits) d e
+
+  edited : Edited a w
+  edited = target-edited a (k .work) (k .tape) (k .edits) d e
+
+  inLog : roomInLog (changedPages a w) ≡ true
+  inLog = room a (k .work) (k .tape) (k .edits) d e
+
+  -- what holds of the transaction's place and commands holds of the answer's
+  answered : (P : CommitPlace → List Op → Type 0) → P (made .place) (made .tape) → P (d .place) cs
   unfolding commitOf
-  commit-at =
-      subst (λ (cs : List Op). (z : CommitStands (d .place) cs) × (length (z .before) ≡ x .commitAt)) (sym (commands-are a (k .work) (k .tape) (k .edits) d e))
-      (subst (λ (c : Commit). (z : CommitStands (c .place) (x .tape)) × (length (z .before) ≡ x .commitAt)) (sym (answer-is a (k .work) (k .tape) (k .edits) d e))
-      (taken-stands a w (was-sound a (k .work) (k .tape) (k .edits) d e) (target-edited a (k .work) (k .tape) (k .edits) d e) (room a (k .work) (k .tape) (k .edits) d e)))
+  answered P h =
+      subst (P (d .place)) (sym (commands-are a (k .work) (k .tape) (k .edits) d e))
+      (subst (λ (c : Commit). P (c .place) (made .tape)) (sym (answer-is a (k .work) (k .tape) (k .edits) d e)) h)
 
   -- the commit store of an accepted transaction stands on its tape, with its flush next
-  pub commit-stands : CommitStands (d .place) (commandsOn a (d .bytes) (onImage a k .tape))
-  commit-stands = commit-at .0
+  pub commit-stands : CommitStands (d .place) cs
+  commit-stands = answered CommitStands (taken-stands a w s edited inLog)
+
+  -- and cut anywhere the tape leaves the table before or the one after
+  pub commit-cut : (f : ℕ → ℕ) (c : ℕ) → CutHolds (table a) (table w) a cs (commitAt (d .place) cs) (lineOf (placeOffset (d .place))) f c
+  commit-cut f c = answered (λ (p : CommitPlace) (os : List Op). CutHolds (table a) (table w) a os (commitAt p os) (lineOf (placeOffset p)) f c) (place-cut a w s edited inLog f c)

@@ -14,7 +14,7 @@ use Rattle.device.proofs.Calls.{cut-accepts}
 use Rattle.page.specs.Layout.{Rec}
 use Rattle.journal.specs.Holds.{tapeOf, Holds}
 use Rattle.journal.specs.declared.Commit.{Commit}
-use Rattle.journal.proofs.Replay.{holds-size}
+use Rattle.journal.proofs.Holds.{holds-size}
 use Rattle.journal.proofs.Fitting.{recovery-fits}
 use Rattle.transaction.specs.Calls.{commandsOn}
 use Rattle.transaction.specs.declared.Transacted.the-variants as transacted

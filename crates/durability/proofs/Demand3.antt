@@ -4,33 +4,30 @@
 use Prim.Native.Nat.{ℕ, suc, _+_, _≤_}
 use mathlib.Core.Path.{_≡_, refl, sym, ap, ap₂, _∙_, subst}
 use mathlib.Core.Logic.{_⊎_, inl, inr}
-use mathlib.Core.Bool.{true}
+use mathlib.Core.Bool.{Bool, true, false, true≢false}
 use mathlib.Core.List.{List, [], _∷_, _++_}
 use native.Mathlib.Decide.{decLe}
 use native.Mathlib.Omega.{arith}
-use lib.ListN.{length}
+use lib.ListN.{take, drop}
 use Rattle.codec.specs.Lists.{pick}
 use Rattle.device.specs.Tape.{Op}
-use Rattle.device.specs.Cut.{cutImage}
+use Rattle.device.specs.Cut.{durable, lineOf}
+use Rattle.device.proofs.Segments.{durable-late}
 use Rattle.page.specs.Layout.{Rec}
 use Rattle.image.specs.Image.{sound}
 use Rattle.image.specs.Table.{table}
 use Rattle.edit.specs.EditList.{editsOf, editList}
 use Rattle.edit.specs.Ledger.{opened, applyEdits, Feed, ledgerAfter, tableAt, acceptedOf}
 use Rattle.edit.proofs.Counts.{ledger-count, table-last, table-next}
-use Rattle.journal.specs.Changes.{changedPages}
-use Rattle.journal.specs.Tape.{Taken, roomInLog, takenFor}
-use Rattle.journal.specs.Edited.{Edited}
 use Rattle.journal.specs.declared.Commit.{Commit}
-use Rattle.journal.specs.Holds.{Holds}
-use Rattle.journal.proofs.Taken.{txn-before, txn-between, txn-after}
+use Rattle.journal.specs.Holds.{Holds, CutHolds}
 use Rattle.transaction.specs.Calls.{isAccepted}
 use Rattle.transaction.specs.declared.Transacted.the-variants as transacted
-use Rattle.transaction.proofs.Demand2.{target, target-edited, target-table, room, commands-are}
-use Rattle.durability.specs.Demand.{Call, onImage, played, imageAfter, acceptedIn, feedOf, feeds, Attempt, Issued, Flushed, CommitStands, before, commands, failed, last, history, ledger, accepted, Survives, Demand3}
+use Rattle.transaction.proofs.Demand2.{target, target-table}
+use Rattle.durability.specs.Demand.{Call, onImage, played, imageAfter, acceptedIn, feedOf, feeds, Attempt, placeOffset, commitAt, Issued, Flushed, commands, failed, last, history, ledger, accepted, Survives, Demand3}
 use Rattle.durability.proofs.Transactions.{accepted-feed, played-sound, played-table}
 use Rattle.durability.proofs.Attempts.{holds-allowed, holds-accepted, completed, attempts-hold, attempts-allowed}
-use Rattle.durability.proofs.Committed.{commit-at}
+use Rattle.durability.proofs.Committed.{commit-cut}
 
 -- ---- n
 
@@ -68,18 +65,9 @@ module _ (a : List ℕ) (ks : List Call) (k : Call) (c : ℕ) (f : ℕ → ℕ) 
   sound-img : sound img ≡ true
   sound-img = played-sound ks a s
 
-  -- the edited image of the next one, and the transaction to it
+  -- the edited image of the next one
   abbrev w : List ℕ
   w = target img (k .work) (k .tape) (k .edits) d e
-
-  abbrev x : Taken
-  x = takenFor img w
-
-  edited : Edited img w
-  edited = target-edited img (k .work) (k .tape) (k .edits) d e
-
-  inLog : roomInLog (changedPages img w) ≡ true
-  inLog = room img (k .work) (k .tape) (k .edits) d e
 
   abbrev cs : List Op
   cs = commands a ks k c f xs d
@@ -97,13 +85,6 @@ module _ (a : List ℕ) (ks : List Call) (k : Call) (c : ℕ) (f : ℕ → ℕ) 
       target-table img (k .work) (k .tape) (k .edits) d e
       ∙ ap (applyEdits (editsOf (editList (k .edits)))) (sym (played-table ks a s (opened (table a)) refl))
       ∙ sym (table-at-next a ks k d e)
-
-  -- the commit store stands where it was put
-  at : (z : CommitStands (d .place) cs) × (length (z .before) ≡ x .commitAt)
-  at = commit-at img k d e
-
-  failed-is : failed a ks k c f xs d ≡ cutImage img f c (x .tape)
-  failed-is = ap (cutImage img f c) (commands-are img (k .work) (k .tape) (k .edits) d e)
 
   -- the image that the failure leaves decides what is held
   survives : (j : ℕ) → (j ≡ n) ⊎ (j ≡ suc n) → ((Issued (d .place) cs c → ⊥) → j ≡ n) → (Flushed (d .place) cs c → j ≡ suc n) →
@@ -124,32 +105,34 @@ module _ (a : List ℕ) (ks : List Call) (k : Call) (c : ℕ) (f : ℕ → ℕ) 
             record { isSound = u .0; isTable = u .1 };
       }
 
-  old : Holds (table img) (cutImage img f c (x .tape)) → (Flushed (d .place) cs c → ⊥) → Survives a ks k c f xs d
+  old : Holds (table img) (failed a ks k c f xs d) → (Flushed (d .place) cs c → ⊥) → Survives a ks k c f xs d
   old h g =
-      survives n (inl refl) (λ z. refl) (λ z. absurd (g z))
-      (subst (λ (t : List Rec). Holds t (failed a ks k c f xs d)) table-n (subst (Holds (table img)) (sym failed-is) h))
+      survives n (inl refl) (λ z. refl) (λ z. absurd (g z)) (subst (λ (t : List Rec). Holds t (failed a ks k c f xs d)) table-n h)
 
-  new : Holds (table w) (cutImage img f c (x .tape)) → Issued (d .place) cs c → Survives a ks k c f xs d
+  new : Holds (table w) (failed a ks k c f xs d) → Issued (d .place) cs c → Survives a ks k c f xs d
   new h i =
-      survives (suc n) (inr refl) (λ z. absurd (z i)) (λ z. refl)
-      (subst (λ (t : List Rec). Holds t (failed a ks k c f xs d)) table-more (subst (Holds (table w)) (sym failed-is) h))
-
-  late : Flushed (d .place) cs c → x .commitAt + 2 ≤ c
-  late g = omega (arith, at .0 .flushed c g, at .1)
+      survives (suc n) (inr refl) (λ z. absurd (z i)) (λ z. refl) (subst (λ (t : List Rec). Holds t (failed a ks k c f xs d)) table-more h)
 
   all-cuts : Survives a ks k c f xs d
-  all-cuts = go (decLe c (x .commitAt)) (decLe c (x .commitAt + 1))
+  all-cuts = go (decLe c at) (durable l (drop (suc at) (take c cs))) refl
     where
-      go : Dec (c ≤ x .commitAt) → Dec (c ≤ x .commitAt + 1) → Survives a ks k c f xs d
-      go (yes h) q = old (txn-before img w sound-img edited inLog f c h) (λ g. omega (arith, late g))
-      go (no h) (yes q) =
-          between (txn-between img w sound-img edited inLog f c (omega arith))
-        where
-          between : Holds (table img) (cutImage img f c (x .tape)) ⊎ Holds (table w) (cutImage img f c (x .tape)) → Survives a ks k c f xs d
-          between (inl z) = old z (λ g. omega (arith, late g))
-          between (inr z) = new z (at .0 .issues c (omega (arith, at .1)))
-      go (no h) (no q) =
-          new (txn-after img w sound-img edited inLog f c (omega arith)) (at .0 .issues c (omega (arith, at .1)))
+      at : ℕ
+      at = commitAt (d .place) cs
+
+      l : ℕ
+      l = lineOf (placeOffset (d .place))
+
+      cut : CutHolds (table img) (table w) img cs at l f c
+      cut = commit-cut img k d e f c
+
+      between : (Flushed (d .place) cs c → ⊥) → Issued (d .place) cs c → Holds (table img) (failed a ks k c f xs d) ⊎ Holds (table w) (failed a ks k c f xs d) → Survives a ks k c f xs d
+      between g i (inl h) = old h g
+      between g i (inr h) = new h i
+
+      go : Dec (c ≤ at) → (t : Bool) → durable l (drop (suc at) (take c cs)) ≡ t → Survives a ks k c f xs d
+      go (yes h) t q = old (cut .unissued h) (λ g. omega (arith, durable-late l (suc at) c cs g))
+      go (no h) true q = new (cut .committed q) (omega arith)
+      go (no h) false q = between (λ g. true≢false (sym g ∙ q)) (omega arith) (cut .between)
 
 pub demand-3 : Demand3
 demand-3 = all-cuts

@@ -10,7 +10,7 @@ use lib.ListN.{length, take, drop}
 use lib.Dec.{eqb}
 use Rattle.codec.specs.Lists.{pick}
 use Rattle.device.specs.Tape.{Op, store, flush, malformed, tapeBytes}
-use Rattle.device.specs.Cut.{after, cutImage, flushed, lineOf, touches}
+use Rattle.device.specs.Cut.{after, cutImage, durable, lineOf, touches}
 use Rattle.device.specs.Calls.{workSize, tapeShort}
 use Rattle.page.specs.Layout.{pageSize}
 use Rattle.image.specs.PageZero.{pageZero}
@@ -100,7 +100,7 @@ abbrev pub Issued : CommitPlace → List Op → ℕ → Type 0
 Issued place cs c = commitAt place cs < c
 
 abbrev pub Flushed : CommitPlace → List Op → ℕ → Type 0
-Flushed place cs c = flushed (lineOf (placeOffset place)) (drop (suc (commitAt place cs)) (take c cs)) ≡ true
+Flushed place cs c = durable (lineOf (placeOffset place)) (drop (suc (commitAt place cs)) (take c cs)) ≡ true
 
 -- The commit store stands on the tape cs with its own flush next, and the two words above mean what they say: it is issued once its command
 -- is among the first c, and not before; it is flushed once its own flush is, and not before.

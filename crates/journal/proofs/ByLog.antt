@@ -1,47 +1,52 @@
--- A transaction that needs the log is a plan: its mark commits, and what follows is recovery's tape, which leaves the edited image with the log lines in.
+-- A transaction that needs the log follows the method: its mark commits, and what follows is recovery's tape, which leaves the edited image with the log lines in.
 -- Assumes nothing.
 use Prim.Native.Nat.{ℕ, zero, _+_, _*_, _/_, _≤_, _<_}
-use mathlib.Core.Path.{_≡_, refl, sym, ap, ap₂, _∙_}
+use mathlib.Core.Path.{_≡_, refl, sym, ap, ap₂, _∙_, subst}
 use mathlib.Core.Logic.{_⊎_, inl, inr}
 use mathlib.Core.Bool.{Bool, true, false, true≢false}
-use mathlib.Core.List.{List, [], _∷_, _++_}
+use mathlib.Core.List.{List, [], _∷_, _++_, map}
 use native.Mathlib.Decide.{decLt}
 use native.Mathlib.Omega.{arith}
 use lib.ListN.{length, getD, length-map}
 use lib.Seq.{sets, length-sets}
 use Rattle.codec.specs.Lists.{part, splice, eqs, All}
 use Rattle.codec.specs.Numbers.{bytesOf}
+use Rattle.codec.proofs.Tests.{All-map}
 use Rattle.codec.proofs.Lists.{sets-apart, length-splice}
 use Rattle.codec.proofs.Numbers.{length-bytesOf}
 use Rattle.codec.proofs.Agree.{part-sets, part-agree}
 use Rattle.device.specs.Tape.{Op, store, flush}
 use Rattle.device.specs.Cut.{after, touches, Writes}
+use Rattle.device.proofs.Clauses.{after-store, after-flush, durable-here, stores-nil, stores-flush}
 use Rattle.device.proofs.Cuts.{length-after, after-append}
 use Rattle.device.proofs.Segments.{run-other, closed-append}
 use Rattle.device.proofs.Writing.{writes-at, writes-after, writes-move, flushes-write, touches-both, touches-left, touches-right, untouched-first, untouched-rest}
 use Rattle.page.specs.Layout.{pageSize, lineSize}
-use Rattle.image.specs.PageZero.{pageCount, isPage, rootOf, logMost, markBytes, noMark}
-use Rattle.image.specs.Image.{sound}
+use Rattle.image.specs.PageZero.{pageCount, isPage, rootOf, logMost, markBytes, noMark, pageZero}
+use Rattle.image.specs.Image.{reached, among, distinct, sound}
 use Rattle.image.specs.Table.{table}
 use Rattle.image.specs.Live.{live}
+use Rattle.image.specs.declared.PageZero.the-variants.{Waiting}
 use Rattle.image.proofs.General.{All-append}
 use Rattle.image.proofs.Zero.{Size, Line, ready-facts, facts-waiting}
 use Rattle.image.proofs.Soundness.{sound-facts}
 use Rattle.image.proofs.Frame.{frame, live-place}
 use Rattle.journal.specs.Changes.{stageA, changedPages, sameRoot}
-use Rattle.journal.specs.Log.{headerStores, headerFlushes, logTape, ending, replayTape}
+use Rattle.journal.specs.Log.{ownPage, headerStores, headerFlushes, logTape, ending, replayTape}
 use Rattle.journal.specs.Recovery.{linesFrom, logged, loggedOk, recoveryTape}
 use Rattle.journal.specs.Tape.{newHeaders, joinLines, byLog}
 use Rattle.journal.specs.Edited.{Edited}
 use Rattle.journal.specs.Commit.{commitStore, commitLine}
-use Rattle.journal.specs.Holds.{replay, Waits, tapeOf, Holds}
+use Rattle.journal.specs.Holds.{tapeOf}
+use Rattle.journal.specs.Safe.{Redo, ByMark}
 use Rattle.journal.proofs.Headers.{Lines, lines-agree, header-flushing, logged-inside, headers-outside}
 use Rattle.journal.proofs.Standing.{page-small, line-root, line-other, length-noMark, length-mark}
-use Rattle.journal.proofs.Replay.{waits-replayable, waits-run}
+use Rattle.journal.proofs.Replay.{recovery-redo}
 use Rattle.journal.proofs.StageA.{stageA-closed, stageA-outside, stageA-writes, stageA-dead}
 use Rattle.journal.proofs.Log.{log-closed, log-touches, log-after, log-read, log-writes, length-join}
-use Rattle.journal.proofs.Plan.{PlanTo}
-use Rattle.journal.proofs.Edits.{size, line-w, changed, headers-lines, headers-write, headers-ok, agree}
+use Rattle.journal.proofs.Changed.{InBoth, changed-distinct}
+use Rattle.journal.proofs.Follows.{Follows}
+use Rattle.journal.proofs.Edits.{size, line-w, changed, own-all, headers-lines, headers-write, headers-ok, agree}
 use Rattle.journal.proofs.OnePlace.{agree-same}
 
 -- a byte that the end of the tape does not store
@@ -178,17 +183,14 @@ module _ (a w : List ℕ) (s : sound a ≡ true) (d : Edited a w) (same : Bool) 
   hs-ok : loggedOk (pageCount a) hs ≡ true
   hs-ok = headers-ok a w s d
 
-  waits : Waits b (length hs) root
-  waits =
+  waiting : pageZero b ≡ Waiting (length hs) root
+  waiting =
       let za : Line a noMark (rootOf a) = ready-facts a (rootOf a) (sound-facts a s .zero) in
       let pages : pageCount b ≡ pageCount a = ap (λ (n : ℕ). n / pageSize) length-b in
       let line =
       line-other a b noMark (rootOf a) za length-b (part-line 16 48 (omega arith) (omega arith)) (markBytes (length hs) root) (rootOf a) (page-small (length a) (rootOf a) sizeA (za .page)) (za .page) mark-b
       (part-line 8 8 (omega arith) (omega arith) ∙ line-root a noMark (rootOf a) za) in
-      record {
-        zero = facts-waiting b (length hs) root (page-small (length a) root sizeA root-page) (record { line = line; some = omega (arith, count); few = few-hs; page = rw pages root-page });
-        ok = rw (logged-b, pages) hs-ok;
-      }
+      facts-waiting b (length hs) root (page-small (length a) root sizeA root-page) (record { line = line; some = omega (arith, count); few = few-hs; page = rw pages root-page })
 
   root-w : part w 8 8 ≡ bytesOf 8 root
   root-w = line-root w noMark (rootOf w) (line-w a w s d)
@@ -199,7 +201,7 @@ module _ (a w : List ℕ) (s : sound a ≡ true) (d : Edited a w) (same : Bool) 
 
   tape-b : tapeOf b ≡ replayTape hs same root
   unfolding recoveryTape
-  tape-b = ap (recoveryTape b) (waits .zero) ∙ ap₂ (λ (l : List (List ℕ)) (q : Bool). replayTape l q root) logged-b same-b
+  tape-b = ap (recoveryTape b) waiting ∙ ap₂ (λ (l : List (List ℕ)) (q : Bool). replayTape l q root) logged-b same-b
 
   -- ---- what the tape stores stands in the work image, but for the mark
 
@@ -270,36 +272,61 @@ module _ (a w : List ℕ) (s : sound a ≡ true) (d : Edited a w) (same : Bool) 
       writes-after work b (replayTape hs same root) (length-b ∙ sym (length-work-w ∙ d .sameLength)) replay-writes
       (λ i u. past-mark i (replay-untouched i u .1) ∙ writes-at work a prepare i (sym (length-work-w ∙ d .sameLength)) prepare-writes (λ t. agrees i t u))
 
-  replays : replay b ≡ work
-  replays = sym (waits-run b (length hs) root waits) ∙ ap (after b) tape-b ∙ run
-
-  holds : Holds (table w) b
-  holds =
-      let f = work-sound w (d .isSound) hs lines few-hs long in
-      record {
-        isReplayable = waits-replayable b (length hs) root waits;
-        isSound = ap sound replays ∙ f .0;
-        isTable = ap table replays ∙ f .1;
-      }
+  leaves : after a (prepare ++ (store 0 mark ∷ flush 0 ∷ replayTape hs same root)) ≡ work
+  leaves =
+      after-append a prepare (store 0 mark ∷ flush 0 ∷ replayTape hs same root)
+      ∙ after-store 0 mark (flush 0 ∷ replayTape hs same root) x
+      ∙ after-flush 0 (replayTape hs same root) b
+      ∙ run
 
   dead : (i : ℕ) → live a i ≡ true → touches prepare i ≡ false
   dead i v = touches-both (stageA a w) (logTape hs) i (stageA-dead a w d i v) (log-apart w (d .isSound) hs lines few-hs long i (live-place a i s v .1))
 
-  pub log-plan : PlanTo a w (byLog (stageA a w) w same (newHeaders w (changedPages a w)))
-  unfolding byLog commitStore commitLine
-  log-plan =
+  -- the logged headers are of the changed pages, which were reached before
+  pages : map ownPage (logged (length hs) b) ≡ changedPages a w
+  pages = ap (map ownPage) logged-b ∙ own-all a w s d (changedPages a w) (changed a w s d)
+
+  by-mark : ByMark a b 0 mark (replayTape hs same root)
+  by-mark =
       record {
-        prepare = prepare;
-        closed = closed-append (stageA a w) (logTape hs) (stageA-closed a w) (log-closed hs);
-        dead = dead;
+        isPlace = refl;
+        isWord = length-mark (length hs) root;
+        count = length hs;
+        root = root;
+        isMark = waiting;
+        apart = ap distinct pages ∙ changed-distinct a w;
+        wereReached = subst (All Was) (sym pages) (All-map (InBoth a w) Was (λ p h. h .was) (changedPages a w) (changed a w s d));
+        redo = subst (Redo b (length hs) root) tape-b (recovery-redo b (length hs) root waiting);
+      }
+    where
+      Was : ℕ → Type 0
+      Was p = among p (reached a (rootOf a)) ≡ true
+
+  pub log-follows : Follows a w (byLog (stageA a w) w same (newHeaders w (changedPages a w)))
+  unfolding byLog commitStore commitLine
+  log-follows =
+      let f = work-sound w (d .isSound) hs lines few-hs long in
+      record {
+        safe =
+            record {
+              prepare = prepare;
+              dead = dead;
+              prepared = closed-append (stageA a w) (logTape hs) (stageA-closed a w) (log-closed hs);
+              place = 0;
+              bytes = mark;
+              wait = flush 0 ∷ [];
+              noStore = stores-flush 0 [] ∙ stores-nil;
+              isDurable = durable-here 0 [];
+              rest = replayTape hs same root;
+              commits = inr by-mark;
+              shape = refl;
+              leaves = leaves;
+              isSound = f .0;
+            };
         commits = refl;
-        place = 0;
-        bytes = mark;
         isStore = ap (λ (n : ℕ). store 0 (markBytes n (rootOf w))) (sym count);
         isLine = refl;
-        committed = b;
-        isCommitted = refl;
-        shape = ap₂ (λ (n : ℕ) (r : List Op). prepare ++ (store 0 (markBytes n (rootOf w)) ∷ flush 0 ∷ r)) count (sym tape-b);
-        holds = holds;
-        leaves = replays;
+        ownFlush = refl;
+        sameTable = f .1;
+        names = (some, few);
       }

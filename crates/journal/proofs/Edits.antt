@@ -60,7 +60,7 @@ module _ (a w : List ℕ) (s : sound a ≡ true) (d : Edited a w) where
   unfolding headerLine
   header-length p h = length-part w (pageSize * p) lineSize (header-fits p h)
 
-  own-all : (qs : List ℕ) → All (InBoth a w) qs → map ownPage (newHeaders w qs) ≡ qs
+  pub own-all : (qs : List ℕ) → All (InBoth a w) qs → map ownPage (newHeaders w qs) ≡ qs
   own-all [] h = refl
   own-all (q ∷ qs) h = ap₂ (λ (x : ℕ) (xs : List ℕ). x ∷ xs) (header-own q (h .0)) (own-all qs (h .1))
 

@@ -28,7 +28,7 @@ use Rattle.journal.specs.Edited.{Edited}
 use Rattle.journal.specs.Holds.{tapeOf, Holds}
 use Rattle.journal.proofs.Headers.{Lines, Inside, logged-inside}
 use Rattle.journal.proofs.Standing.{waits-long, logged-lines, logged-pages, length-noMark, length-mark}
-use Rattle.journal.proofs.Replay.{holds-size, Cases, cases}
+use Rattle.journal.proofs.Holds.{holds-size, Cases, cases}
 use Rattle.journal.proofs.StageA.{wordAt, walk, walk-all}
 use Rattle.journal.proofs.Changed.{InBoth}
 use Rattle.journal.proofs.Edits.{size, changed, header-length, headers-lines, headers-ok}

@@ -1,4 +1,4 @@
--- The logged headers' stores and flushes: flushed in themselves, outside page 0, and what they leave is `withHeaders`.
+-- The logged headers' stores and flushes: durable in themselves, outside page 0, and what they leave is `withHeaders`.
 -- Assumes nothing.
 use Prim.Native.Nat.{ℕ, zero, suc, _+_, _*_, _/_, _≤_, _<_}
 use mathlib.Core.Path.{_≡_, refl, sym, ap, _∙_, subst}
@@ -11,8 +11,10 @@ use Rattle.codec.specs.Lists.{part, splice, All, allB}
 use Rattle.codec.proofs.Tests.{first, second}
 use Rattle.codec.proofs.Lists.{splice-sets, length-splice, length-part}
 use Rattle.codec.proofs.Agree.{part-agree}
-use Rattle.device.specs.Cut.{after, lineOf, touches, Flushing}
-use Rattle.device.proofs.Writing.{flushing-none, flushing-next, after-store, after-none, touches-out, touches-none}
+use Rattle.device.specs.Tape.{Op, store}
+use Rattle.device.specs.Cut.{after, lineOf, touches, stores, Flushing}
+use Rattle.device.proofs.Clauses.{after-nil, after-store, touches-nil, stores-nil, stores-store}
+use Rattle.device.proofs.Writing.{flushing-none, flushing-next, touches-out}
 use Rattle.page.specs.Layout.{pageSize, lineSize}
 use Rattle.image.specs.PageZero.{pageCount, isPage}
 use Rattle.image.specs.Image.{distinct}
@@ -62,17 +64,23 @@ header-flushing (h ∷ hs) =
     let line : lineOf (pageSize * ownPage h) ≡ pageLines * ownPage h = omega arith in
     flushing-next (pageSize * ownPage h) h (pageLines * ownPage h) (headerStores hs) (headerFlushes hs) line (header-flushing hs)
 
+pub header-stores : (hs : List (List ℕ)) → stores (headerStores hs) ≡ headerStores hs
+unfolding headerStores
+header-stores [] = stores-nil
+header-stores (h ∷ hs) =
+    stores-store (pageSize * ownPage h) h (headerStores hs) ∙ ap (λ (r : List Op). store (pageSize * ownPage h) h ∷ r) (header-stores hs)
+
 -- page 0 is not touched
 pub headers-outside : (n : ℕ) (hs : List (List ℕ)) (i : ℕ) → Inside n hs → i < pageSize → touches (headerStores hs) i ≡ false
 unfolding headerStores
-headers-outside n [] i k h = touches-none i
+headers-outside n [] i k h = touches-nil i
 headers-outside n (g ∷ hs) i k h =
     let p = isPage-true n (ownPage g) (k .0) in
     touches-out (pageSize * ownPage g) g (headerStores hs) i (inl (omega arith)) (headers-outside n hs i (k .1) h)
 
 pub headers-after : (hs : List (List ℕ)) (a : List ℕ) → Lines hs → Inside (pageCount a) hs → withHeaders hs a ≡ after a (headerStores hs)
 unfolding withHeaders headerStores
-headers-after [] a l k = sym (after-none a)
+headers-after [] a l k = sym (after-nil a)
 headers-after (h ∷ hs) a l k =
     let p = isPage-true (pageCount a) (ownPage h) (k .0) in
     let fits : pageSize * ownPage h + length h ≤ length a = omega (arith, l .0) in

@@ -1,10 +1,14 @@
 pub mod Headers
 pub mod Standing
+pub mod Holds
+pub mod Ways
+pub mod Redo
 pub mod Replay
 pub mod StageA
 pub mod Log
 pub mod Changed
-pub mod Plan
+pub mod Crash
+pub mod Follows
 pub mod Edits
 pub mod OnePlace
 pub mod ByLog

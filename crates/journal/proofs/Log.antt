@@ -1,4 +1,4 @@
--- The log, for any number of headers by one argument: flushed in itself, stored in its lines alone, and read back.
+-- The log, for any number of headers by one argument: durable in itself, stored in its lines alone, and read back.
 -- Assumes nothing.
 use Prim.Native.Nat.{ℕ, suc, _+_, _*_, _≤_, _<_}
 use mathlib.Core.Path.{_≡_, refl, sym, ap, ap₂, _∙_}
@@ -12,7 +12,8 @@ use Rattle.codec.specs.Lists.{part, splice, All}
 use Rattle.codec.proofs.Lists.{splice-sets, sets-append, sets-apart}
 use Rattle.codec.proofs.Agree.{part-sets, part-agree}
 use Rattle.device.specs.Cut.{after, lineOf, touches, Closed, Flushing, Writes}
-use Rattle.device.proofs.Writing.{flushing-none, flushing-next, flushing-closed, flushing-touches, flushing-after, flushes-write, after-store, after-none, touches-out, touches-none}
+use Rattle.device.proofs.Clauses.{after-nil, after-store, touches-nil}
+use Rattle.device.proofs.Writing.{flushing-none, flushing-next, flushing-closed, flushing-touches, flushing-after, flushes-write, touches-out}
 use Rattle.page.specs.Layout.{lineSize}
 use Rattle.image.proofs.General.{All-append}
 use Rattle.journal.specs.Log.{logStores, logFlushes, logTape}
@@ -36,7 +37,7 @@ length-join (h ∷ hs) k = length-append h (joinLines hs) ∙ omega (arith, k .0
 
 stores-touch : (l : ℕ) (hs : List (List ℕ)) (i : ℕ) → Lines hs → (i < lineSize * l) ⊎ (lineSize * (l + length hs) ≤ i) → touches (logStores l hs) i ≡ false
 unfolding logStores
-stores-touch l [] i k o = touches-none i
+stores-touch l [] i k o = touches-nil i
 stores-touch l (h ∷ hs) i k o = touches-out (lineSize * l) h (logStores (suc l) hs) i (here o) (stores-touch (suc l) hs i (k .1) (there o))
   where
     here : (i < lineSize * l) ⊎ (lineSize * (l + suc (length hs)) ≤ i) → (i < lineSize * l) ⊎ (lineSize * l + length h ≤ i)
@@ -55,7 +56,7 @@ stores-join a l h vs e = ap (λ (o : ℕ). sets (sets a (lineSize * l) h) o vs) 
 
 stores-after : (l : ℕ) (hs : List (List ℕ)) (a : List ℕ) → Lines hs → after a (logStores l hs) ≡ sets a (lineSize * l) (joinLines hs)
 unfolding logStores joinLines
-stores-after l [] a k = after-none a
+stores-after l [] a k = after-nil a
 stores-after l (h ∷ hs) a k =
     after-store (lineSize * l) h (logStores (suc l) hs) a ∙ stores-after (suc l) hs (sets a (lineSize * l) h) (k .1) ∙ stores-join a l h (joinLines hs) (k .0)
 

@@ -1,4 +1,4 @@
--- A transaction with one changed place, a header or the root word, is a plan: its one store makes the edited image.
+-- A transaction with one changed place, a header or the root word, follows the method: its one store makes the edited image.
 -- Assumes nothing.
 use Prim.Native.Nat.{ℕ, _+_, _*_, _≤_, _<_}
 use mathlib.Core.Path.{_≡_, refl, sym, ap, _∙_, subst}
@@ -8,16 +8,15 @@ use mathlib.Core.List.{List, [], _∷_, _++_}
 use native.Mathlib.Decide.{decLe, decLt}
 use native.Mathlib.Omega.{arith}
 use lib.ListN.{length, getD}
-use lib.Seq.{sets}
 use Rattle.codec.specs.Lists.{part, All}
 use Rattle.codec.specs.Numbers.{bytesOf}
 use Rattle.codec.proofs.Tests.{eqs-true}
 use Rattle.codec.proofs.Numbers.{length-bytesOf}
 use Rattle.codec.proofs.Agree.{agree-part}
 use Rattle.device.specs.Tape.{Op, store, flush}
-use Rattle.device.specs.Cut.{after, lineOf, touches, Writes}
-use Rattle.device.proofs.Cuts.{after-append}
-use Rattle.device.proofs.Writing.{writes-after, touches-left, touches-right, untouched-first, touches-out, touches-none, after-store, after-none}
+use Rattle.device.specs.Cut.{after, lineOf, durable, touches, Writes}
+use Rattle.device.proofs.Clauses.{durable-here, touches-nil, stores-nil, stores-flush}
+use Rattle.device.proofs.Writing.{writes-after, touches-left, touches-right, untouched-first, touches-out}
 use Rattle.page.specs.Layout.{pageSize}
 use Rattle.image.specs.PageZero.{rootOf, noMark}
 use Rattle.image.specs.Image.{sound}
@@ -27,13 +26,13 @@ use Rattle.journal.specs.Changes.{stageA, headerLine, changedPages, same
 use Rattle.journal.specs.Log.{headerStores}
 use Rattle.journal.specs.Tape.{Taken, newHeaders, byHeader, byRoot}
 use Rattle.journal.specs.Edited.{Edited}
-use Rattle.journal.specs.Commit.{commitStore, commitLine}
+use Rattle.journal.specs.Commit.{commitStore, commitLine, Names}
+use Rattle.journal.specs.Safe as safe
 use Rattle.journal.proofs.Standing.{line-root}
-use Rattle.journal.proofs.Replay.{holds-sound, sound-tape, sound-replay}
 use Rattle.journal.proofs.StageA.{stageA-closed, stageA-writes, stageA-dead}
-use Rattle.journal.proofs.Plan.{Plan, PlanTo}
+use Rattle.journal.proofs.Follows.{Follows}
 use Rattle.journal.proofs.Changed.{InBoth}
-use Rattle.journal.proofs.Edits.{size, line-w, changed, header-own, header-write, agree}
+use Rattle.journal.proofs.Edits.{size, line-w, changed, header-own, header-length, header-write, agree}
 
 module _ (a w : List ℕ) (s : sound a ≡ true) (d : Edited a w) where
   -- the root word of w, stored
@@ -54,48 +53,60 @@ module _ (a w : List ℕ) (s : sound a ≡ true) (d : Edited a w) where
 
   -- one store of what stands in w, after stage A, where a and w differ nowhere else
   module _ (q : ℕ) (vs : List ℕ) (stands : Writes w (store q vs)) (alike : (i : ℕ) → touches (stageA a w) i ≡ false → (i < q) ⊎ (q + length vs ≤ i) → getD a i 0 ≡ getD w i 0) where
-    one-after : sets (after a (stageA a w)) q vs ≡ w
-    one-after =
-        let cs = stageA a w ++ (store q vs ∷ []) in
-        sym (after-append a (stageA a w) (store q vs ∷ []) ∙ after-store q vs [] (after a (stageA a w)) ∙ after-none (sets (after a (stageA a w)) q vs))
-        ∙ writes-after w a cs (sym (d .sameLength)) (All-append (Writes w) (stageA a w) (store q vs ∷ []) (stageA-writes a w (d .sameLength) (size a w s d .whole)) (stands, tt))
-        (λ i t. alike i (touches-left (stageA a w) (store q vs ∷ []) i t) (untouched-first q vs [] i (touches-right (stageA a w) (store q vs ∷ []) i t)))
+    one-leaves : (l : ℕ) → after a (stageA a w ++ (store q vs ∷ flush l ∷ [])) ≡ w
+    one-leaves l =
+        let commit = store q vs ∷ flush l ∷ [] in
+        writes-after w a (stageA a w ++ commit) (sym (d .sameLength)) (All-append (Writes w) (stageA a w) commit (stageA-writes a w (d .sameLength) (size a w s d .whole)) (stands, (tt, tt)))
+        (λ i t. alike i (touches-left (stageA a w) commit i t) (untouched-first q vs (flush l ∷ []) i (touches-right (stageA a w) commit i t)))
 
-    one-plan : (x : Taken) (o : Op) (l : ℕ) → o ≡ store q vs → l ≡ lineOf q → x .tape ≡ stageA a w ++ (o ∷ flush l ∷ []) → x .commitAt ≡ length (stageA a w) → x .work ≡ w → Plan a x (table w) o l
-    one-plan x o l isStore isLine tape at work =
+    one-follows : (x : Taken) → x .tape ≡ stageA a w ++ (store q vs ∷ flush (commitLine (x .place)) ∷ []) → x .commitAt ≡ length (stageA a w) → x .work ≡ w →
+        commitStore w (length (changedPages a w)) (x .place) ≡ store q vs → commitLine (x .place) ≡ lineOf q → safe.OnePlace a q vs → Names a w (x .place) → Follows a w x
+    one-follows x tape at work isStore isLine one names =
+        let l = commitLine (x .place) in
         record {
-          prepare = stageA a w;
-          closed = stageA-closed a w;
-          dead = stageA-dead a w d;
+          safe =
+              record {
+                prepare = stageA a w;
+                dead = stageA-dead a w d;
+                prepared = stageA-closed a w;
+                place = q;
+                bytes = vs;
+                wait = flush l ∷ [];
+                noStore = stores-flush l [] ∙ stores-nil;
+                isDurable = ap (λ (m : ℕ). durable m (flush l ∷ [])) (sym isLine) ∙ durable-here l [];
+                rest = [];
+                commits = inl (one, refl);
+                shape = tape;
+                leaves = ap (after a) tape ∙ one-leaves l ∙ sym work;
+                isSound = ap sound work ∙ d .isSound;
+              };
           commits = at;
-          place = q;
-          bytes = vs;
           isStore = isStore;
           isLine = isLine;
-          committed = w;
-          isCommitted = sym one-after;
-          shape = tape ∙ ap (λ (r : List Op). stageA a w ++ (o ∷ flush l ∷ r)) (sym (sound-tape w (d .isSound)));
-          holds = holds-sound w (d .isSound);
-          leaves = sound-replay w (d .isSound) ∙ sym work;
+          ownFlush = refl;
+          sameTable = ap table work;
+          names = names;
         }
 
-  pub root-plan : changedPages a w ≡ [] → PlanTo a w (byRoot (stageA a w) w)
+  pub root-follows : changedPages a w ≡ [] → Follows a w (byRoot (stageA a w) w)
   unfolding byRoot commitStore commitLine headerStores
-  root-plan none = one-plan 8 (bytesOf 8 (rootOf w)) root-write alike (byRoot (stageA a w) w) _ _ refl refl refl refl refl
+  root-follows none =
+      one-follows 8 (bytesOf 8 (rootOf w)) root-write alike (byRoot (stageA a w) w) refl refl refl refl refl (inr (refl, length-bytesOf 8 (rootOf w))) none
     where
       alike : (i : ℕ) → touches (stageA a w) i ≡ false → (i < 8) ⊎ (8 + length (bytesOf 8 (rootOf w)) ≤ i) → getD a i 0 ≡ getD w i 0
-      alike i t o = agree a w s d i (rw (length-bytesOf 8 (rootOf w)) at o) t (ap (λ (qs : List ℕ). touches (headerStores (newHeaders w qs)) i) none ∙ touches-none i)
+      alike i t o = agree a w s d i (rw (length-bytesOf 8 (rootOf w)) at o) t (ap (λ (qs : List ℕ). touches (headerStores (newHeaders w qs)) i) none ∙ touches-nil i)
 
-  pub header-plan : (p : ℕ) → changedPages a w ≡ p ∷ [] → sameRoot a w ≡ true → PlanTo a w (byHeader (stageA a w) w p)
+  pub header-follows : (p : ℕ) → changedPages a w ≡ p ∷ [] → sameRoot a w ≡ true → Follows a w (byHeader (stageA a w) w p)
   unfolding byHeader commitStore commitLine headerStores
-  header-plan p one same =
-      one-plan (pageSize * p) (headerLine w p) (header-write a w s d p stays) alike (byHeader (stageA a w) w p) _ _ refl (omega arith) refl refl refl
+  header-follows p one same =
+      one-follows (pageSize * p) (headerLine w p) (header-write a w s d p stays) alike (byHeader (stageA a w) w p) refl refl refl refl (omega arith)
+      (inl (p, stays .was, refl, header-length a w s d p stays)) (one, same)
     where
       stays : InBoth a w p
       stays = (subst (All (InBoth a w)) one (changed a w s d)) .0
 
-      stores : headerStores (newHeaders w (changedPages a w)) ≡ store (pageSize * p) (headerLine w p) ∷ []
-      stores = ap (λ (qs : List ℕ). headerStores (newHeaders w qs)) one ∙ ap (λ (q : ℕ). store (pageSize * q) (headerLine w p) ∷ []) (header-own a w s d p stays)
+      stores-is : headerStores (newHeaders w (changedPages a w)) ≡ store (pageSize * p) (headerLine w p) ∷ []
+      stores-is = ap (λ (qs : List ℕ). headerStores (newHeaders w qs)) one ∙ ap (λ (q : ℕ). store (pageSize * q) (headerLine w p) ∷ []) (header-own a w s d p stays)
 
       alike : (i : ℕ) → touches (stageA a w) i ≡ false → (i < pageSize * p) ⊎ (pageSize * p + length (headerLine w p) ≤ i) → getD a i 0 ≡ getD w i 0
-      alike i t o = agree-same same i t (ap (λ (cs : List Op). touches cs i) stores ∙ touches-out (pageSize * p) (headerLine w p) [] i o (touches-none i))
+      alike i t o = agree-same same i t (ap (λ (cs : List Op). touches cs i) stores-is ∙ touches-out (pageSize * p) (headerLine w p) [] i o (touches-nil i))

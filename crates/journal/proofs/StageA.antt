@@ -1,4 +1,4 @@
--- Stage A: it is flushed in itself, stores only free words that differ, and stores what stands in the edited image.
+-- Stage A: it is durable in itself, stores only free words that differ, and stores what stands in the edited image.
 -- Assumes nothing.
 use Prim.Native.Nat.{ℕ, zero, suc, _+_, _*_, _/_, _%_, _≤_, _<_}
 use mathlib.Core.Path.{_≡_, refl, sym, ap, ap₂, _∙_, subst}
@@ -16,8 +16,9 @@ use Rattle.codec.proofs.Tests.{first, not-true, eqs-true, eqs-same}
 use Rattle.codec.proofs.Lists.{length-part}
 use Rattle.codec.proofs.Agree.{length-part-le, agree-part, part-agree}
 use Rattle.device.specs.Tape.{Op, store, flush, malformed}
-use Rattle.device.specs.Cut.{after, flushed, touches, Closed, Flushing, Writes}
-use Rattle.device.proofs.Writing.{flushing-none, flushing-flush, flushing-past, flushed-first, flushing-closed, flushing-touches, writes-at, flushes-write, touches-out, touches-none, untouched-first, untouched-rest}
+use Rattle.device.specs.Cut.{after, durable, touches, Closed, Flushing, Writes}
+use Rattle.device.proofs.Clauses.{durable-here, touches-nil}
+use Rattle.device.proofs.Writing.{flushing-none, flushing-flush, flushing-past, flushing-closed, flushing-touches, writes-at, flushes-write, touches-out, untouched-first, untouched-rest}
 use Rattle.page.specs.Layout.{pageSize, lineSize}
 use Rattle.image.specs.PageZero.{rootOf}
 use Rattle.image.specs.Image.{reached, among}
@@ -28,9 +29,9 @@ use Rattle.journal.specs.Edited.{Edited}
 
 -- ---- the flushes of a list of stores
 
-flushing-from : (l : ℕ) (cs : List Op) → Flushing cs (flushesFrom l cs) × (flushed l (flushesFrom l cs) ≡ true)
+flushing-from : (l : ℕ) (cs : List Op) → Flushing cs (flushesFrom l cs) × (durable l (flushesFrom l cs) ≡ true)
 unfolding flushesFrom
-flushing-from l [] = (flushing-flush l [] [] flushing-none, flushed-first l [])
+flushing-from l [] = (flushing-flush l [] [] flushing-none, durable-here l [])
 flushing-from l (flush m ∷ cs) = let h = flushing-from l cs in (flushing-past (flush m) cs (flushesFrom l cs) tt (h .0), h .1)
 flushing-from l (malformed ∷ cs) = let h = flushing-from l cs in (flushing-past malformed cs (flushesFrom l cs) tt (h .0), h .1)
 flushing-from l (store p vs ∷ cs) = go (eqb l (p / lineSize)) refl (flushing-from (p / lineSize) cs)
@@ -38,10 +39,10 @@ flushing-from l (store p vs ∷ cs) = go (eqb l (p / lineSize)) refl (flushing-f
     rest : List Op
     rest = flushesFrom (p / lineSize) cs
 
-    go : (t : Bool) → eqb l (p / lineSize) ≡ t → Flushing cs rest × (flushed (p / lineSize) rest ≡ true) →
-        Flushing (store p vs ∷ cs) (pick t rest (flush l ∷ rest)) × (flushed l (pick t rest (flush l ∷ rest)) ≡ true)
-    go true e h = (flushing-past (store p vs) cs rest (h .1) (h .0), ap (λ (m : ℕ). flushed m rest) (eqb-true l (p / lineSize) e) ∙ h .1)
-    go false e h = (flushing-flush l (store p vs ∷ cs) rest (flushing-past (store p vs) cs rest (h .1) (h .0)), flushed-first l rest)
+    go : (t : Bool) → eqb l (p / lineSize) ≡ t → Flushing cs rest × (durable (p / lineSize) rest ≡ true) →
+        Flushing (store p vs ∷ cs) (pick t rest (flush l ∷ rest)) × (durable l (pick t rest (flush l ∷ rest)) ≡ true)
+    go true e h = (flushing-past (store p vs) cs rest (h .1) (h .0), ap (λ (m : ℕ). durable m rest) (eqb-true l (p / lineSize) e) ∙ h .1)
+    go false e h = (flushing-flush l (store p vs ∷ cs) rest (flushing-past (store p vs) cs rest (h .1) (h .0)), durable-here l rest)
 
 pub flushing-of : (cs : List Op) → Flushing cs (flushesOf cs)
 unfolding flushesOf
@@ -92,7 +93,7 @@ module _ (rs a w : List ℕ) where
 
   -- a byte of a word that is not free, or does not differ, is not stored
   walk-touches : (n k i : ℕ) → (freeWord rs (i / wordSize) ≡ false) ⊎ (wordAt a (i / wordSize) ≡ wordAt w (i / wordSize)) → touches (walk n k) i ≡ false
-  walk-touches n k i h = walk-all (λ n k cs. touches cs i ≡ false) (λ k. touches-none i) (λ n k cs q r. r) stored n k
+  walk-touches n k i h = walk-all (λ n k cs. touches cs i ≡ false) (λ k. touches-nil i) (λ n k cs q r. r) stored n k
     where
       stored : (n k : ℕ) (cs : List Op) → freeWord rs k ≡ true → (wordAt a k ≡ wordAt w k → ⊥) → touches cs i ≡ false → touches (store (wordSize * k) (wordAt w k) ∷ cs) i ≡ false
       stored n k cs free differ r = touches-out (wordSize * k) (wordAt w k) cs i (go (decLt i (wordSize * k)) (decLt (wordSize * k + 7) i)) r

@@ -13,16 +13,17 @@ use Rattle.codec.specs.Numbers.{number, bytesOf}
 use Rattle.codec.proofs.Lists.{splice-sets, length-splice}
 use Rattle.codec.proofs.Numbers.{length-bytesOf, number-bytesOf}
 use Rattle.codec.proofs.Agree.{part-add, part-agree}
-use Rattle.device.specs.Tape.{Op, store}
+use Rattle.device.specs.Tape.{store}
 use Rattle.device.specs.Cut.{after, touches}
+use Rattle.device.proofs.Clauses.{after-nil, after-store}
 use Rattle.device.proofs.Cuts.{length-after, after-append}
 use Rattle.device.proofs.Segments.{run-over}
-use Rattle.device.proofs.Writing.{after-store, after-none, touches-left, touches-right, untouched-first}
+use Rattle.device.proofs.Writing.{touches-left, touches-right, untouched-first}
 use Rattle.page.specs.Layout.{pageSize}
 use Rattle.image.specs.PageZero.{pageCount, isPage, rootOf, markBytes, noMark, wordsPast}
 use Rattle.image.proofs.General.{part-part, part-front, part-past}
 use Rattle.image.proofs.Zero.{Size, isPage-true, Line, Marked, waiting-facts, facts-waiting}
-use Rattle.journal.specs.Log.{headerStores}
+use Rattle.journal.specs.Log.{headerStores, endStores}
 use Rattle.journal.specs.Recovery.{logged, withHeaders, replayed, replayFrom}
 use Rattle.journal.specs.Holds.{replay, Waits}
 use Rattle.journal.proofs.Headers.{Lines, Inside, logged-inside, lines-from, lines-agree, headers-outside, headers-after}
@@ -69,10 +70,6 @@ module _ (a b m : List ℕ) (root : ℕ) (l : Line a m root) (same : length b �
 
 -- ---- an image that waits
 
--- the root word's store and the mark's clearing
-abbrev pub settle : ℕ → List Op
-settle root = store 8 (bytesOf 8 root) ∷ store 0 noMark ∷ []
-
 pub length-noMark : length noMark ≡ 8
 unfolding noMark
 length-noMark = refl
@@ -81,10 +78,10 @@ pub length-mark : (k root : ℕ) → length (markBytes k root) ≡ 8
 unfolding markBytes
 length-mark k root = ap (λ (n : ℕ). suc (suc n)) (length-append (bytesOf 2 root) (replicate 4 0) ∙ omega (arith, length-bytesOf 2 root))
 
-pub settle-sets : (x : List ℕ) (root : ℕ) → after x (settle root) ≡ sets (sets x 8 (bytesOf 8 root)) 0 noMark
-settle-sets x root = after-store 8 (bytesOf 8 root) (store 0 noMark ∷ []) x ∙ after-store 0 noMark [] (sets x 8 (bytesOf 8 root)) ∙ after-none _
+pub settle-sets : (x : List ℕ) (root : ℕ) → after x (endStores false root) ≡ sets (sets x 8 (bytesOf 8 root)) 0 noMark
+settle-sets x root = after-store 8 (bytesOf 8 root) (store 0 noMark ∷ []) x ∙ after-store 0 noMark [] (sets x 8 (bytesOf 8 root)) ∙ after-nil _
 
-settle-splice : (x : List ℕ) (root : ℕ) → 16 ≤ length x → after x (settle root) ≡ splice (splice x 8 (bytesOf 8 root)) 0 noMark
+settle-splice : (x : List ℕ) (root : ℕ) → 16 ≤ length x → after x (endStores false root) ≡ splice (splice x 8 (bytesOf 8 root)) 0 noMark
 settle-splice x root long =
     let fits : 8 + length (bytesOf 8 root) ≤ length x = omega (arith, length-bytesOf 8 root) in
     let same = length-splice x 8 (bytesOf 8 root) fits in
@@ -116,7 +113,7 @@ module _ (a : List ℕ) (k root : ℕ) (w : Waits a k root) where
   logged-outside i h = headers-outside (pageCount a) (logged k a) i logged-pages h
 
   -- the replayed image, as stores
-  pub replay-after : replay a ≡ after a (headerStores (logged k a) ++ settle root)
+  pub replay-after : replay a ≡ after a (headerStores (logged k a) ++ endStores false root)
   unfolding replayFrom replayed
   replay-after =
       let hs = logged k a in
@@ -124,10 +121,10 @@ module _ (a : List ℕ) (k root : ℕ) (w : Waits a k root) where
       ap (replayFrom a) (w .zero)
       ∙ ap (λ (x : List ℕ). splice (splice x 8 (bytesOf 8 root)) 0 noMark) h
       ∙ sym (settle-splice (after a (headerStores hs)) root (omega (arith, length-after a (headerStores hs), waits-long)))
-      ∙ sym (after-append a (headerStores hs) (settle root))
+      ∙ sym (after-append a (headerStores hs) (endStores false root))
 
   pub length-replay : length (replay a) ≡ length a
-  length-replay = ap length replay-after ∙ length-after a (headerStores (logged k a) ++ settle root)
+  length-replay = ap length replay-after ∙ length-after a (headerStores (logged k a) ++ endStores false root)
 
 module _ (a b : List ℕ) (k root : ℕ) (size : Size (length a)) (w : Waits a k root) (s : Standing a b k root) where
   m : Marked a k root
@@ -168,14 +165,14 @@ module _ (a b : List ℕ) (k root : ℕ) (size : Size (length a)) (w : Waits a k
         ok = rw (same-logged, count) (w .ok);
       }
 
-  untouched : (i : ℕ) → touches (headerStores (logged k a) ++ settle root) i ≡ false → getD b i 0 ≡ getD a i 0
+  untouched : (i : ℕ) → touches (headerStores (logged k a) ++ endStores false root) i ≡ false → getD b i 0 ≡ getD a i 0
   untouched i t =
-      s .elsewhere i (touches-left (headerStores (logged k a)) (settle root) i t)
-      (rw (length-bytesOf 8 root) at (untouched-first 8 (bytesOf 8 root) (store 0 noMark ∷ []) i (touches-right (headerStores (logged k a)) (settle root) i t)))
+      s .elsewhere i (touches-left (headerStores (logged k a)) (endStores false root) i t)
+      (rw (length-bytesOf 8 root) at (untouched-first 8 (bytesOf 8 root) (store 0 noMark ∷ []) i (touches-right (headerStores (logged k a)) (endStores false root) i t)))
 
   pub standing-replay : replay b ≡ replay a
   standing-replay =
       replay-after b k root standing-waits
-      ∙ ap (λ (hs : List (List ℕ)). after b (headerStores hs ++ settle root)) same-logged
-      ∙ run-over b a (headerStores (logged k a) ++ settle root) (s .sameLength) untouched
+      ∙ ap (λ (hs : List (List ℕ)). after b (headerStores hs ++ endStores false root)) same-logged
+      ∙ run-over b a (headerStores (logged k a) ++ endStores false root) (s .sameLength) untouched
       ∙ sym (replay-after a k root w)

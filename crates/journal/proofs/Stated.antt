@@ -13,9 +13,9 @@ use Rattle.codec.proofs.Lists.{part-splice-same, part-splice-below}
 use Rattle.codec.proofs.Numbers.{length-bytesOf}
 use Rattle.device.specs.Tape.{Op, store, flush, decode, tapeBytes, flushCount}
 use Rattle.device.specs.Cut.{after, touches}
+use Rattle.device.proofs.Clauses.{touches-nil, touches-flush}
 use Rattle.device.proofs.Segments.{touches-append}
-use Rattle.device.proofs.Clauses.{touches-flush}
-use Rattle.device.proofs.Writing.{flushing-touches, touches-in, touches-out, touches-none, touches-both}
+use Rattle.device.proofs.Writing.{flushing-touches, touches-in, touches-out, touches-both}
 use Rattle.page.specs.Layout.{pageSize, lineSize}
 use Rattle.image.specs.PageZero.{pageCount, rootOf, markBytes, noMark}
 use Rattle.image.specs.Image.{sound}
@@ -48,7 +48,7 @@ root-in root rest = touches-in 8 (bytesOf 8 root) rest 8 (omega arith) (omega (a
 
 -- a mark, stored and flushed
 mark-out : (vs : List ℕ) → length vs ≡ 8 → touches (store 0 vs ∷ flush 0 ∷ []) 8 ≡ false
-mark-out vs e = touches-out 0 vs (flush 0 ∷ []) 8 (inr (omega arith)) (touches-flush 0 [] 8 ∙ touches-none 8)
+mark-out vs e = touches-out 0 vs (flush 0 ∷ []) 8 (inr (omega arith)) (touches-flush 0 [] 8 ∙ touches-nil 8)
 
 ending-root : (same : Bool) (root : ℕ) → touches (ending same root) 8 ≡ not same
 unfolding ending
@@ -112,7 +112,7 @@ module _ (a w : List ℕ) (s : sound a ≡ true) (d : Edited a w) (room : roomIn
           let q = isPage-true (pageCount a) p (b .page) in
           let ends = flush (pageLines * p) ∷ [] in
           touches-second (stageA a w) (store (pageSize * p) (headerLine w p) ∷ ends) 8 (stageA-outside a w 8 (omega arith))
-          ∙ touches-out (pageSize * p) (headerLine w p) ends 8 (inl (omega arith)) (touches-flush (pageLines * p) [] 8 ∙ touches-none 8)
+          ∙ touches-out (pageSize * p) (headerLine w p) ends 8 (inl (omega arith)) (touches-flush (pageLines * p) [] 8 ∙ touches-nil 8)
       go false (p ∷ []) e h = log-root false (p ∷ []) e
       go same (p ∷ q ∷ ps) e h = log-root same (p ∷ q ∷ ps) e
 

@@ -1,10 +1,13 @@
 -- What an image that a failure leaves holds: what its recovery would give.
 -- Assumes nothing.
-use Prim.Native.Nat.{ℕ}
+use Prim.Native.Nat.{ℕ, suc, _≤_}
 use mathlib.Core.Path.{_≡_}
+use mathlib.Core.Logic.{_⊎_}
 use mathlib.Core.Bool.{true}
 use mathlib.Core.List.{List}
+use lib.ListN.{take, drop}
 use Rattle.device.specs.Tape.{Op}
+use Rattle.device.specs.Cut.{cutImage, durable}
 use Rattle.page.specs.Layout.{Rec}
 use Rattle.image.specs.PageZero.{pageCount, pageZero}
 use Rattle.image.specs.declared.PageZero.the-variants.{Waiting}
@@ -30,3 +33,12 @@ pub record Holds (t : List Rec) (img : List ℕ) : Type 0 where
   pub isReplayable : replayable img (pageZero img) ≡ true
   pub isSound : sound (replay img) ≡ true
   pub isTable : table (replay img) ≡ t
+
+-- What a cut of the commands cs over the image a holds, after c of them: command `at` is the commit store, to line l, and the tables before
+-- and after are old and new.
+pub record CutHolds (old new : List Rec) (a : List ℕ) (cs : List Op) (at l : ℕ) (f : ℕ → ℕ) (c : ℕ) : Type 0 where
+  -- the commit store is not issued
+  pub unissued : c ≤ at → Holds old (cutImage a f c cs)
+  -- it is durable
+  pub committed : durable l (drop (suc at) (take c cs)) ≡ true → Holds new (cutImage a f c cs)
+  pub between : Holds old (cutImage a f c cs) ⊎ Holds new (cutImage a f c cs)

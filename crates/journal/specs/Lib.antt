@@ -1,8 +1,10 @@
 pub mod Changes
+pub mod Way
 pub mod Log
 pub mod Tape
 pub mod Recovery
 pub mod Edited
 pub mod Commit
 pub mod Holds
+pub mod Safe
 pub mod Order

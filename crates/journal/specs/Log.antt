@@ -39,9 +39,13 @@ unfoldable pub headerFlushes : List (List ℕ) → List Op
 headerFlushes [] = []
 headerFlushes (h ∷ hs) = flush (pageLines * ownPage h) ∷ headerFlushes hs
 
--- "the root word if it differs; mark 0; flush of line 0"
+-- "the root word if it differs; mark 0"
+abbrev pub endStores : Bool → ℕ → List Op
+endStores same root = pick same [] (store 8 (bytesOf 8 root) ∷ []) ++ (store 0 noMark ∷ [])
+
+-- "flush of line 0"
 unfoldable pub ending : Bool → ℕ → List Op
-ending same root = pick same [] (store 8 (bytesOf 8 root) ∷ []) ++ (store 0 noMark ∷ flush 0 ∷ [])
+ending same root = endStores same root ++ (flush 0 ∷ [])
 
 -- what follows the mark's flush, in a transaction and in a recovery
 unfoldable pub replayTape : List (List ℕ) → Bool → ℕ → List Op

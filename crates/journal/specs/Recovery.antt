@@ -43,10 +43,14 @@ replayFrom a Wrong = a
 replayFrom a (Waiting k root) = replayed (logged k a) root a
 replayFrom a (Ready root) = a
 
+-- whether the root word of a is this root already
+abbrev pub rootIs : List ℕ → ℕ → Bool
+rootIs a root = eqs (part a 8 8) (bytesOf 8 root)
+
 -- "Recovery with mark 0 gives no commands. Else it stores every logged header, then flushes each, both in log order, and goes on as above."
 unfoldable pub recoveryTape : List ℕ → PageZero → List Op
 recoveryTape a Wrong = []
-recoveryTape a (Waiting k root) = replayTape (logged k a) (eqs (part a 8 8) (bytesOf 8 root)) root
+recoveryTape a (Waiting k root) = replayTape (logged k a) (rootIs a root) root
 recoveryTape a (Ready root) = []
 
 -- whether page 0, the mark and the logged page numbers are as they should be

@@ -8,7 +8,7 @@ use native.Mathlib.Omega.{arith}
 use lib.ListN.{length, take, drop}
 use borrow.Author.Tests.{eqb-true}
 use Rattle.device.specs.Tape.{Op, flush, decode, wellFormed}
-use Rattle.device.specs.Cut.{flushed}
+use Rattle.device.specs.Cut.{durable}
 use Rattle.device.specs.Counts.{flushEnd}
 use Rattle.device.proofs.Decode.{past-at, broken-at, decode-end, wellFormed-next, some-command, head-at}
 use Rattle.device.proofs.Counts.{ends, ends-start}
@@ -107,7 +107,7 @@ same-length-2 : tie.Need-same-length-2 Inv-loop μ-loop
 same-length-2 c = c .before .loop .inv .2
 
 returns-2 : tie.Need-returns-2 Inv-loop μ-loop
-unfolding wellFormed flushed
+unfolding wellFormed durable
 returns-2 c =
     let a = c .before .before .before .before .args in
     let l = c .before .loop in

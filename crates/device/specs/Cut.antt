@@ -29,8 +29,8 @@ after image (o ∷ cs) = after (apply image o) cs
 abbrev pub lineOf : ℕ → ℕ
 lineOf p = p / 64
 
--- "Once done, every earlier store to that line is durable": whether a store to line l is, with these commands done after it;
--- one of them flushes the line
+-- "Once done, every earlier store to that line is durable": whether a store to line l is durable once these commands, which come after it,
+-- are done: one of them flushes the line
 unfoldable pub durable : ℕ → List Op → Bool
 durable l [] = false
 durable l (store p vs ∷ cs) = durable l cs

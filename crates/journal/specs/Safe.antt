@@ -28,7 +28,7 @@ abbrev pub HeadersIn : List (List ℕ) → List Op → Type 0
 HeadersIn [] cs = cs ≡ []
 HeadersIn (h ∷ hs) cs = (way : Way) × (rest : List Op) × (cs ≡ lineBy way (pageSize * ownPage h) h ++ rest) × HeadersIn hs rest
 
--- over the image b, whose mark has k logged headers and the root `root`
+-- the commands cs over the image b, whose mark has k logged headers and the root `root`
 pub record Redo (b : List ℕ) (k root : ℕ) (cs : List Op) : Type 0 where
   pub headers : List Op
   pub ending : List Op
@@ -47,7 +47,8 @@ abbrev pub OnePlace : List ℕ → ℕ → List ℕ → Type 0
 OnePlace a place bytes =
     ((page : ℕ) × (among page (reached a (rootOf a)) ≡ true) × (place ≡ pageSize * page) × (length bytes ≡ lineSize)) ⊎ ((place ≡ 8) × (length bytes ≡ wordSize))
 
--- "a mark": one word store that makes the image b, and then the commands rest
+-- "a mark", "one word store": it makes the image b, whose log lines are those that the mark finds and whose root word is a's; the commands
+-- rest follow
 pub record ByMark (a b : List ℕ) (place : ℕ) (bytes : List ℕ) (rest : List Op) : Type 0 where
   pub isPlace : place ≡ 0
   pub isWord : length bytes ≡ wordSize

@@ -112,7 +112,7 @@ cut-untouched image f c cs i e = run-other image (kept f (take c cs)) i (touches
 
 -- ---- lists whose stores are durable at their end
 
--- a store that is durable in the first of two lists, or in the second, is so in both
+-- a store that one of two lists makes durable is durable after both
 durable-first : (l : ℕ) (a b : List Op) → durable l a ≡ true → durable l (a ++ b) ≡ true
 unfolding durable
 durable-first l [] b e = absurd (false≢true e)
@@ -131,7 +131,7 @@ durable-second l (store p vs ∷ a) b e = durable-second l a b e
 durable-second l (flush m ∷ a) b e = rw (durable-second l a b e) (or-true (eqb m l))
 durable-second l (malformed ∷ a) b e = durable-second l a b e
 
--- if some of the commands before a cut make a store durable, more of them are before it
+-- what makes a store durable comes after it: if, of the first c commands, those past the first m do, then m is below c
 pub durable-late : (l m c : ℕ) (cs : List Op) → durable l (drop m (take c cs)) ≡ true → m < c
 unfolding durable
 durable-late l m c cs e = go (decLe (suc m) c)

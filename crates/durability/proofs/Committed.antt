@@ -1,14 +1,13 @@
 -- The commit store of an accepted transaction stands on its tape where the definition of its place finds it, with its flush next; and what a
 -- cut of the tape leaves, by that place.
 -- Assumes nothing.
-use Prim.Native.Nat.{ℕ, suc, _+_, _-_, _*_, _/_, _%_, _≤_}
+use Prim.Native.Nat.{ℕ, suc, _+_, _-_, _≤_}
 use mathlib.Core.Path.{_≡_, refl, sym, ap, ap₂, _∙_, subst}
 use mathlib.Core.Logic.{inl, inr}
-use mathlib.Core.Bool.{Bool, true, false, _||_, true≢false}
+use mathlib.Core.Bool.{true, false, true≢false}
 use mathlib.Core.List.{List, [], _∷_, _++_}
 use native.Mathlib.Omega.{arith}
 use lib.ListN.{length, take, drop}
-use lib.Dec.{ltb}
 use borrow.Author.Tests.{eq-eqb, ne-eqb, le-leb, lt-ltb}
 use Rattle.codec.specs.Lists.{All}
 use Rattle.codec.specs.Numbers.{bytesOf}
@@ -17,23 +16,19 @@ use Rattle.device.specs.Tape.{Op, store, flush, malformed, Writable}
 use Rattle.device.specs.Cut.{hits, touches, durable, lineOf}
 use Rattle.device.proofs.Clauses.{touches-store, touches-flush, durable-here}
 use Rattle.device.proofs.Segments.{durable-late}
-use Rattle.page.specs.Layout.{pageSize, lineSize}
 use Rattle.image.specs.PageZero.{rootOf, markBytes}
-use Rattle.image.specs.Image.{sound, reached, among}
+use Rattle.image.specs.Image.{sound}
 use Rattle.image.specs.Table.{table}
-use Rattle.image.specs.Live.{liveIn, live}
 use Rattle.image.proofs.General.{All-left}
 use Rattle.journal.specs.Changes.{headerLine, changedPages}
 use Rattle.journal.specs.Tape.{Taken, commitOf, roomInLog, takenFor}
-use Rattle.journal.specs.Commit.{commitStore, commitLine, Names}
+use Rattle.journal.specs.Commit.{commitStore, commitLine}
 use Rattle.journal.specs.Edited.{Edited}
 use Rattle.journal.specs.Holds.{CutHolds}
 use Rattle.journal.specs.declared.Commit.{Commit}
 use Rattle.journal.specs.declared.CommitPlace.{CommitPlace}
 use Rattle.journal.specs.declared.CommitPlace.the-variants.{Header, Root, Log}
-use Rattle.journal.proofs.Changed.{InBoth}
-use Rattle.journal.proofs.Edits.{changed}
-use Rattle.journal.proofs.Crash.{past-command}
+use Rattle.journal.proofs.Crash.{past-command, commit-live}
 use Rattle.journal.proofs.Follows.{Follows, follows-shape}
 use Rattle.journal.proofs.Taken.{taken-follows, taken-cut}
 use Rattle.journal.proofs.Fitting.{taken-fits}
@@ -98,32 +93,13 @@ module _ (n : ℕ) (place : CommitPlace) (cs bef : List Op) (vs : List ℕ) (res
 -- ---- the commit place of a transaction from a to w
 
 module _ (a w : List ℕ) (s : sound a ≡ true) (d : Edited a w) (room : roomInLog (changedPages a w) ≡ true) where
-  -- a changed header was reached before
-  header-reached : (p : ℕ) → changedPages a w ≡ p ∷ [] → among p (reached a (rootOf a)) ≡ true
-  header-reached p e = subst (All (InBoth a w)) e (changed a w s d) .0 .was
-
-  -- the byte that the commit store begins with is live before
-  place-live : (p : CommitPlace) → Names a w p → live a (placeOffset p) ≡ true
-  unfolding placeOffset live liveIn
-  place-live (Header p) n =
-      let page : pageSize * p / pageSize ≡ p = omega arith in
-      let offset : pageSize * p % pageSize ≡ 0 = omega arith in
-      rw (page, offset, header-reached p (n .0)) (either (ltb (pageSize * p) lineSize))
-    where
-      either : (b : Bool) → (b || true) ≡ true
-      either true = refl
-      either false = refl
-  place-live Root n = refl
-  place-live Log n = refl
-
-  -- the commit store is one at that byte
+  -- the commit store is one at its place's offset, and its line that byte's
   place-store : (p : CommitPlace) → (vs : List ℕ) × (commitStore w (length (changedPages a w)) p ≡ store (placeOffset p) vs)
   unfolding placeOffset commitStore
   place-store (Header p) = (headerLine w p, refl)
   place-store Root = (bytesOf 8 (rootOf w), refl)
   place-store Log = (markBytes (length (changedPages a w)) (rootOf w), refl)
 
-  -- the line that it is flushed by is the line of that byte
   place-line : (p : CommitPlace) → commitLine p ≡ lineOf (placeOffset p)
   unfolding placeOffset commitLine
   place-line (Header p) = omega arith
@@ -146,7 +122,10 @@ module _ (a w : List ℕ) (s : sound a ≡ true) (d : Edited a w) (room : roomIn
   writes = All-left (Writable (length a)) (t .safe .prepare) _ (subst (All (Writable (length a))) shape (taken-fits a w s d room))
 
   first : touches (t .safe .prepare) (placeOffset (x .place)) ≡ false
-  first = t .safe .dead (placeOffset (x .place)) (place-live (x .place) (t .names))
+  first =
+      let o : store (placeOffset (x .place)) vs ≡ store (t .safe .place) (t .safe .bytes) = sym (place-store (x .place) .1) ∙ t .isStore in
+      let at : placeOffset (x .place) ≡ t .safe .place = cc in
+      ap (touches (t .safe .prepare)) at ∙ t .safe .dead (t .safe .place) (commit-live a (x .tape) (x .work) s (t .safe))
 
   -- the commit store stands on the tape
   pub taken-stands : CommitStands (x .place) (x .tape)

@@ -25,7 +25,7 @@ use Rattle.transaction.specs.Calls.{isAccepted}
 use Rattle.transaction.specs.declared.Transacted.the-variants as transacted
 use Rattle.transaction.proofs.Demand2.{target, target-table}
 use Rattle.durability.specs.Demand.{Call, onImage, played, imageAfter, acceptedIn, feedOf, feeds, Attempt, placeOffset, commitAt, Issued, Flushed, commands, failed, last, history, ledger, accepted, Survives, Demand3}
-use Rattle.durability.proofs.Transactions.{accepted-feed, played-sound, played-table}
+use Rattle.durability.proofs.Transactions.{accepted-feed, played-table}
 use Rattle.durability.proofs.Attempts.{holds-allowed, holds-accepted, completed, attempts-hold, attempts-allowed}
 use Rattle.durability.proofs.Committed.{commit-cut}
 
@@ -61,9 +61,6 @@ module _ (a : List ℕ) (ks : List Call) (k : Call) (c : ℕ) (f : ℕ → ℕ) 
     (e : onImage (played a ks) k .answer ≡ transacted.Accepted d) where
   abbrev img : List ℕ
   img = played a ks
-
-  sound-img : sound img ≡ true
-  sound-img = played-sound ks a s
 
   -- the edited image of the next one
   abbrev w : List ℕ

@@ -33,7 +33,7 @@ use Rattle.image.proofs.Soundness.{sound-facts}
 use Rattle.image.proofs.Frame.{frame, live-place}
 use Rattle.journal.specs.Changes.{stageA, changedPages, sameRoot}
 use Rattle.journal.specs.Log.{ownPage, headerStores, headerFlushes, logTape, ending, replayTape}
-use Rattle.journal.specs.Recovery.{linesFrom, logged, loggedOk, recoveryTape}
+use Rattle.journal.specs.Recovery.{linesFrom, logged, loggedOk, rootIs, recoveryTape}
 use Rattle.journal.specs.Tape.{newHeaders, joinLines, byLog}
 use Rattle.journal.specs.Edited.{Edited}
 use Rattle.journal.specs.Commit.{commitStore, commitLine}
@@ -195,7 +195,7 @@ module _ (a w : List ℕ) (s : sound a ≡ true) (d : Edited a w) (same : Bool) 
   root-w : part w 8 8 ≡ bytesOf 8 root
   root-w = line-root w noMark (rootOf w) (line-w a w s d)
 
-  same-b : eqs (part b 8 8) (bytesOf 8 root) ≡ same
+  same-b : rootIs b root ≡ same
   unfolding sameRoot
   same-b = ap₂ eqs (part-line 8 8 (omega arith) (omega arith)) (sym root-w) ∙ isSame
 

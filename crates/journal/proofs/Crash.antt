@@ -1,15 +1,16 @@
 -- A tape that follows the method, cut anywhere: recovery finds the table before it or the one after; the first while the commit store is
 -- not issued, the second once it is durable.
 -- Assumes nothing.
-use Prim.Native.Nat.{ℕ, suc, _+_, _-_, _/_, _≤_}
-use mathlib.Core.Path.{_≡_, sym, ap, _∙_, subst}
+use Prim.Native.Nat.{ℕ, suc, _+_, _-_, _/_, _%_, _≤_}
+use mathlib.Core.Path.{_≡_, refl, sym, ap, _∙_, subst}
 use mathlib.Core.Logic.{_⊎_, inl, inr}
-use mathlib.Core.Bool.{true}
+use mathlib.Core.Bool.{true, or-true}
 use mathlib.Core.List.{List, [], _∷_, _++_, map}
 use native.Mathlib.Decide.{decLe}
 use native.Mathlib.Omega.{arith}
 use lib.ListN.{length, take, drop}
 use lib.Seq.{sets, length-sets, take-append-le, take-append-add, drop-append-add}
+use lib.Dec.{ltb}
 use Rattle.codec.proofs.Tests.{both, true-allB}
 use Rattle.device.specs.Tape.{Op, store}
 use Rattle.device.specs.Cut.{after, lineOf, durable, cutImage, Closed}
@@ -17,10 +18,11 @@ use Rattle.device.proofs.Clauses.{after-nil, closed-nil, closed-store}
 use Rattle.device.proofs.Cuts.{length-after, after-append, length-cut}
 use Rattle.device.proofs.Segments.{run-other, cut-untouched, cut-early, cut-late, cut-zero, cut-nil, closed-append, durable-late}
 use Rattle.device.proofs.Stores.{storeless-closed, one-after, one-cut, one-durable}
-use Rattle.page.specs.Layout.{pageSize}
+use Rattle.page.specs.Layout.{pageSize, lineSize}
 use Rattle.image.specs.PageZero.{pageCount, isPage, rootOf}
 use Rattle.image.specs.Image.{reached, among, sound}
 use Rattle.image.specs.Table.{table}
+use Rattle.image.specs.Live.{liveIn, live}
 use Rattle.journal.specs.Log.{ownPage}
 use Rattle.journal.specs.Recovery.{logged, loggedOk}
 use Rattle.journal.specs.Holds.{replay, Waits, Holds, CutHolds}
@@ -44,6 +46,19 @@ module _ (a : List ℕ) (cs : List Op) (w : List ℕ) (s : sound a ≡ true) (t 
 
   abbrev b : List ℕ
   b = sets x (t .place) (t .bytes)
+
+  -- the commit store is the first that touches a live byte of a: by `dead` none before it does
+  pub commit-live : live a (t .place) ≡ true
+  unfolding live liveIn
+  commit-live = go (t .commits)
+    where
+      go : (OnePlace a (t .place) (t .bytes) × (t .rest ≡ [])) ⊎ ByMark a b (t .place) (t .bytes) (t .rest) → live a (t .place) ≡ true
+      go (inl (inl (p, was, at, line), none)) =
+          let page : t .place / pageSize ≡ p = omega (arith, at) in
+          let offset : t .place % pageSize ≡ 0 = omega (arith, at) in
+          rw (page, offset, was) (or-true (ltb (t .place) lineSize))
+      go (inl (inr (at, word), none)) = subst (λ (i : ℕ). live a i ≡ true) (sym at) refl
+      go (inr m) = subst (λ (i : ℕ). live a i ≡ true) (sym (m .isPlace)) refl
 
   -- the commit store, with the commands that make it durable
   abbrev commit : List Op

@@ -29,7 +29,7 @@ use Rattle.journal.specs.Log.{headerStores, endStores}
 use Rattle.journal.specs.Recovery.{logged, rootIs}
 use Rattle.journal.specs.Holds.{replay, Waits, Holds}
 use Rattle.journal.specs.Safe.{Redo}
-use Rattle.journal.proofs.Standing.{Standing, settle-sets, waits-long, logged-lines, logged-outside, replay-after}
+use Rattle.journal.proofs.Standing.{Standing, end-sets, waits-long, logged-lines, logged-outside, replay-after}
 use Rattle.journal.proofs.Holds.{sound-replay, holds-sound, holds-size, Recovers, standing-recovers}
 use Rattle.journal.proofs.Ways.{headers-same, headers-untouched}
 
@@ -81,19 +81,22 @@ module _ (b : List ℕ) (k root : ℕ) (w : Waits b k root) (cs : List Op) (r : 
 
   -- ---- the end: a first part of its stores
 
-  -- all of them; a root word that does not differ may be stored or not
+  -- all of them, with the root word; and without it, if it does not differ
+  with-root : after x (endStores false root) ≡ replay b
+  with-root = sym (after-append b (headerStores hs) (endStores false root)) ∙ sym (replay-after b k root w)
+
   end-run : (same : Bool) → rootIs b root ≡ same → after x (endStores same root) ≡ replay b
-  end-run false e = sym (after-append b (headerStores hs) (endStores false root)) ∙ sym (replay-after b k root w)
+  end-run false e = with-root
   end-run true e =
       let word : part x 8 8 ≡ part b 8 8 = sym (part-agree x b 8 8 length-x (λ i p q. run-other b (headerStores hs) i (logged-outside b k root w i (omega arith)))) in
       let stands : sets x 8 (bytesOf 8 root) ≡ x = sets-stands x 8 (bytesOf 8 root) rootFits (ap (part x 8) (length-bytesOf 8 root) ∙ word ∙ eqs-true (part b 8 8) (bytesOf 8 root) e) in
       after-store 0 noMark [] x
       ∙ after-nil (sets x 0 noMark)
       ∙ ap (λ (y : List ℕ). sets y 0 noMark) (sym stands)
-      ∙ sym (settle-sets x root)
-      ∙ sym (after-append b (headerStores hs) (endStores false root))
-      ∙ sym (replay-after b k root w)
+      ∙ sym (end-sets x root)
+      ∙ with-root
 
+  -- what a cut leaves: an image that stands, or the replayed one
   abbrev Left : List ℕ → Type 0
   Left y = Standing b y k root ⊎ (y ≡ replay b)
 

@@ -78,14 +78,15 @@ pub length-mark : (k root : ℕ) → length (markBytes k root) ≡ 8
 unfolding markBytes
 length-mark k root = ap (λ (n : ℕ). suc (suc n)) (length-append (bytesOf 2 root) (replicate 4 0) ∙ omega (arith, length-bytesOf 2 root))
 
-pub settle-sets : (x : List ℕ) (root : ℕ) → after x (endStores false root) ≡ sets (sets x 8 (bytesOf 8 root)) 0 noMark
-settle-sets x root = after-store 8 (bytesOf 8 root) (store 0 noMark ∷ []) x ∙ after-store 0 noMark [] (sets x 8 (bytesOf 8 root)) ∙ after-nil _
+-- the root word and the mark's clearing, stored
+pub end-sets : (x : List ℕ) (root : ℕ) → after x (endStores false root) ≡ sets (sets x 8 (bytesOf 8 root)) 0 noMark
+end-sets x root = after-store 8 (bytesOf 8 root) (store 0 noMark ∷ []) x ∙ after-store 0 noMark [] (sets x 8 (bytesOf 8 root)) ∙ after-nil _
 
-settle-splice : (x : List ℕ) (root : ℕ) → 16 ≤ length x → after x (endStores false root) ≡ splice (splice x 8 (bytesOf 8 root)) 0 noMark
-settle-splice x root long =
+end-splice : (x : List ℕ) (root : ℕ) → 16 ≤ length x → after x (endStores false root) ≡ splice (splice x 8 (bytesOf 8 root)) 0 noMark
+end-splice x root long =
     let fits : 8 + length (bytesOf 8 root) ≤ length x = omega (arith, length-bytesOf 8 root) in
     let same = length-splice x 8 (bytesOf 8 root) fits in
-    settle-sets x root
+    end-sets x root
     ∙ ap (λ (y : List ℕ). sets y 0 noMark) (sym (splice-sets x 8 (bytesOf 8 root) fits))
     ∙ sym (splice-sets (splice x 8 (bytesOf 8 root)) 0 noMark (omega (arith, length-noMark)))
 
@@ -120,7 +121,7 @@ module _ (a : List ℕ) (k root : ℕ) (w : Waits a k root) where
       let h : withHeaders hs a ≡ after a (headerStores hs) = headers-after hs a logged-lines logged-pages in
       ap (replayFrom a) (w .zero)
       ∙ ap (λ (x : List ℕ). splice (splice x 8 (bytesOf 8 root)) 0 noMark) h
-      ∙ sym (settle-splice (after a (headerStores hs)) root (omega (arith, length-after a (headerStores hs), waits-long)))
+      ∙ sym (end-splice (after a (headerStores hs)) root (omega (arith, length-after a (headerStores hs), waits-long)))
       ∙ sym (after-append a (headerStores hs) (endStores false root))
 
   pub length-replay : length (replay a) ≡ length a

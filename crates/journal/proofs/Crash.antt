@@ -12,7 +12,7 @@ use lib.ListN.{length, take, drop}
 use lib.Seq.{sets, length-sets, take-append-le, take-append-add, drop-append-add}
 use lib.Dec.{ltb}
 use Rattle.codec.proofs.Tests.{both, true-allB}
-use Rattle.device.specs.Tape.{Op, store}
+use Rattle.device.specs.Tape.{Op, store, Writable}
 use Rattle.device.specs.Cut.{after, lineOf, durable, cutImage, Closed}
 use Rattle.device.proofs.Clauses.{after-nil, closed-nil, closed-store}
 use Rattle.device.proofs.Cuts.{length-after, after-append, length-cut}
@@ -23,6 +23,8 @@ use Rattle.image.specs.PageZero.{pageCount, isPage, rootOf}
 use Rattle.image.specs.Image.{reached, among, sound}
 use Rattle.image.specs.Table.{table}
 use Rattle.image.specs.Live.{liveIn, live}
+use Rattle.image.proofs.Zero.{Size, size-true, isPage-true}
+use Rattle.image.proofs.Soundness.{sound-facts}
 use Rattle.journal.specs.Log.{ownPage}
 use Rattle.journal.specs.Recovery.{logged, loggedOk}
 use Rattle.journal.specs.Holds.{replay, Waits, Holds, CutHolds}
@@ -59,6 +61,18 @@ module _ (a : List ℕ) (cs : List Op) (w : List ℕ) (s : sound a ≡ true) (t 
           rw (page, offset, was) (or-true (ltb (t .place) lineSize))
       go (inl (inr (at, word), none)) = subst (λ (i : ℕ). live a i ≡ true) (sym at) refl
       go (inr m) = subst (λ (i : ℕ). live a i ≡ true) (sym (m .isPlace)) refl
+
+  -- and it is one command of the device: a word or a line of the image
+  pub commit-fits : Writable (length a) (store (t .place) (t .bytes))
+  commit-fits = go (t .commits)
+    where
+      size : Size (length a)
+      size = size-true (length a) (sound-facts a s .size)
+
+      go : (OnePlace a (t .place) (t .bytes) × (t .rest ≡ [])) ⊎ ByMark a b (t .place) (t .bytes) (t .rest) → Writable (length a) (store (t .place) (t .bytes))
+      go (inl (inl (p, was, at, line), none)) = let q = isPage-true (pageCount a) p (reached-page a s p was) in inr (line, omega (arith, at), omega (arith, at))
+      go (inl (inr (at, word), none)) = inl (word, omega (arith, at), omega (arith, at, size .low))
+      go (inr m) = inl (m .isWord, omega (arith, m .isPlace), omega (arith, m .isPlace, size .low))
 
   -- the commit store, with the commands that make it durable
   abbrev commit : List Op

@@ -28,7 +28,7 @@ use Rattle.image.proofs.Soundness.{sound-facts}
 use Rattle.journal.specs.Log.{ownPage}
 use Rattle.journal.specs.Recovery.{logged, loggedOk}
 use Rattle.journal.specs.Holds.{replay, Waits, Holds, CutHolds}
-use Rattle.journal.specs.Safe.{OnePlace, ByMark, Safe}
+use Rattle.journal.specs.Safe.{ByMark, Commits, Safe}
 use Rattle.journal.proofs.Holds.{holds-sound, holds-dead, waits-replayable, recovers-holds}
 use Rattle.journal.proofs.Changed.{reached-page}
 use Rattle.journal.proofs.Redo.{redo-closed, redo-run, redo-cut}
@@ -54,7 +54,7 @@ module _ (a : List ℕ) (cs : List Op) (w : List ℕ) (s : sound a ≡ true) (t 
   unfolding live liveIn
   commit-live = go (t .commits)
     where
-      go : (OnePlace a (t .place) (t .bytes) × (t .rest ≡ [])) ⊎ ByMark a b (t .place) (t .bytes) (t .rest) → live a (t .place) ≡ true
+      go : Commits a x (t .place) (t .bytes) (t .rest) → live a (t .place) ≡ true
       go (inl (inl (p, was, at, line), none)) =
           let page : t .place / pageSize ≡ p = omega (arith, at) in
           let offset : t .place % pageSize ≡ 0 = omega (arith, at) in
@@ -69,7 +69,7 @@ module _ (a : List ℕ) (cs : List Op) (w : List ℕ) (s : sound a ≡ true) (t 
       size : Size (length a)
       size = size-true (length a) (sound-facts a s .size)
 
-      go : (OnePlace a (t .place) (t .bytes) × (t .rest ≡ [])) ⊎ ByMark a b (t .place) (t .bytes) (t .rest) → Writable (length a) (store (t .place) (t .bytes))
+      go : Commits a x (t .place) (t .bytes) (t .rest) → Writable (length a) (store (t .place) (t .bytes))
       go (inl (inl (p, was, at, line), none)) = let q = isPage-true (pageCount a) p (reached-page a s p was) in inr (line, omega (arith, at), omega (arith, at))
       go (inl (inr (at, word), none)) = inl (word, omega (arith, at), omega (arith, at, size .low))
       go (inr m) = inl (m .isWord, omega (arith, m .isPlace), omega (arith, m .isPlace, size .low))
@@ -117,7 +117,7 @@ module _ (a : List ℕ) (cs : List Op) (w : List ℕ) (s : sound a ≡ true) (t 
   rest-holds : (f : ℕ → ℕ) (d : ℕ) → Holds (table w) (cutImage b f d (t .rest))
   rest-holds f d = go (t .commits)
     where
-      go : (OnePlace a (t .place) (t .bytes) × (t .rest ≡ [])) ⊎ ByMark a b (t .place) (t .bytes) (t .rest) → Holds (table w) (cutImage b f d (t .rest))
+      go : Commits a x (t .place) (t .bytes) (t .rest) → Holds (table w) (cutImage b f d (t .rest))
       go (inl one) =
           let done : b ≡ w = sym (after-nil b) ∙ ap (after b) (sym (one .1)) ∙ rest-leaves in
           subst (Holds (table w)) (sym (ap (cutImage b f d) (one .1) ∙ cut-nil b f d ∙ done)) (holds-sound w (t .isSound))
@@ -126,7 +126,7 @@ module _ (a : List ℕ) (cs : List Op) (w : List ℕ) (s : sound a ≡ true) (t 
   rest-closed : Closed (t .rest)
   rest-closed = go (t .commits)
     where
-      go : (OnePlace a (t .place) (t .bytes) × (t .rest ≡ [])) ⊎ ByMark a b (t .place) (t .bytes) (t .rest) → Closed (t .rest)
+      go : Commits a x (t .place) (t .bytes) (t .rest) → Closed (t .rest)
       go (inl one) = subst Closed (sym (one .1)) closed-nil
       go (inr m) = redo-closed b (m .count) (m .root) (t .rest) (m .redo)
 

@@ -61,6 +61,10 @@ pub record ByMark (a b : List ℕ) (place : ℕ) (bytes : List ℕ) (rest : List
   pub wereReached : All (λ (p : ℕ). among p (reached a (rootOf a)) ≡ true) (map ownPage (logged count b))
   pub redo : Redo b count root rest
 
+-- over the image x: one place, after which "no store follows", or a mark
+abbrev pub Commits : List ℕ → List ℕ → ℕ → List ℕ → List Op → Type 0
+Commits a x place bytes rest = (OnePlace a place bytes × (rest ≡ [])) ⊎ ByMark a (sets x place bytes) place bytes rest
+
 -- ---- the tape: the commands cs over the image a, which leave w
 
 pub record Safe (a : List ℕ) (cs : List Op) (w : List ℕ) : Type 0 where
@@ -77,8 +81,7 @@ pub record Safe (a : List ℕ) (cs : List Op) (w : List ℕ) : Type 0 where
   pub shape : cs ≡ prepare ++ (store place bytes ∷ (wait ++ rest))
   pub noStore : stores wait ≡ []
   pub isDurable : durable (lineOf place) wait ≡ true
-  -- one place, after which "no store follows", or a mark
-  pub commits : (OnePlace a place bytes × (rest ≡ [])) ⊎ ByMark a (sets (after a prepare) place bytes) place bytes rest
+  pub commits : Commits a (after a prepare) place bytes rest
   -- "The end has .. a sound image"
   pub leaves : after a cs ≡ w
   pub isSound : sound w ≡ true

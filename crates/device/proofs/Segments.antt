@@ -17,6 +17,7 @@ use Rattle.codec.proofs.Lists.{sets-apart, sets-both}
 use Rattle.codec.proofs.Agree.{or-left, or-right}
 use Rattle.device.specs.Tape.{Op, store, flush, malformed}
 use Rattle.device.specs.Cut.{apply, after, lineOf, durable, less, consIf, kept, cutImage, hits, touches, Closed, Sealed}
+use Rattle.device.proofs.Clauses.{durable-nil}
 use Rattle.device.proofs.Cuts.{length-after, kept-durable}
 
 -- ---- bytes that no store touches
@@ -133,12 +134,11 @@ durable-second l (malformed ∷ a) b e = durable-second l a b e
 
 -- what makes a store durable comes after it: if, of the first c commands, those past the first m do, then m is below c
 pub durable-late : (l m c : ℕ) (cs : List Op) → durable l (drop m (take c cs)) ≡ true → m < c
-unfolding durable
 durable-late l m c cs e = go (decLe (suc m) c)
   where
     go : Dec (suc m ≤ c) → suc m ≤ c
     go (yes h) = h
-    go (no h) = absurd (false≢true (ap (durable l) (sym (drop-of-length-le (take c cs) {i = m} (simp length-take (omega arith)))) ∙ e))
+    go (no h) = absurd (false≢true (sym (durable-nil l) ∙ ap (durable l) (sym (drop-of-length-le (take c cs) {i = m} (simp length-take (omega arith)))) ∙ e))
 
 pub closed-append : (a b : List Op) → Closed a → Closed b → Closed (a ++ b)
 unfolding Closed

@@ -5,6 +5,7 @@ use mathlib.Core.Path.{_≡_, refl}
 use mathlib.Core.Bool.{true, false, _||_}
 use mathlib.Core.List.{List, [], _∷_}
 use lib.Seq.{sets}
+use lib.Dec.{eqb}
 use borrow.Author.Tests.{eq-eqb}
 use Rattle.device.specs.Tape.{Op, store, flush, wellFormed, flushCount}
 use Rattle.device.specs.Cut.{after, lineOf, durable, hits, touches, stores, Closed, Sealed}
@@ -86,6 +87,10 @@ module _ (m : ℕ) (cs : List Op) where
   pub flushCount-flush : flushCount (flush m ∷ cs) ≡ suc (flushCount cs)
   unfolding flushCount
   flushCount-flush = refl
+
+  pub durable-flush : (l : ℕ) → durable l (flush m ∷ cs) ≡ (eqb m l || durable l cs)
+  unfolding durable
+  durable-flush l = refl
 
   pub durable-here : durable m (flush m ∷ cs) ≡ true
   unfolding durable

@@ -113,24 +113,23 @@ cut-untouched image f c cs i e = run-other image (kept f (take c cs)) i (touches
 
 -- ---- lists whose stores are durable at their end
 
--- a store that one of two lists makes durable is durable after both
-durable-first : (l : ℕ) (a b : List Op) → durable l a ≡ true → durable l (a ++ b) ≡ true
+pub durable-append : (l : ℕ) (a b : List Op) → durable l (a ++ b) ≡ (durable l a || durable l b)
 unfolding durable
-durable-first l [] b e = absurd (false≢true e)
-durable-first l (store p vs ∷ a) b e = durable-first l a b e
-durable-first l (flush m ∷ a) b e = go (eqb m l) e (durable-first l a b)
+durable-append l [] b = refl
+durable-append l (store p vs ∷ a) b = durable-append l a b
+durable-append l (flush m ∷ a) b = go (eqb m l) (durable-append l a b)
   where
-    go : (t : Bool) → (t || durable l a) ≡ true → (durable l a ≡ true → durable l (a ++ b) ≡ true) → (t || durable l (a ++ b)) ≡ true
-    go true q h = refl
-    go false q h = h q
-durable-first l (malformed ∷ a) b e = durable-first l a b e
+    go : (t : Bool) → durable l (a ++ b) ≡ (durable l a || durable l b) → (t || durable l (a ++ b)) ≡ ((t || durable l a) || durable l b)
+    go true q = refl
+    go false q = q
+durable-append l (malformed ∷ a) b = durable-append l a b
+
+-- of which only these two are used: a store that one of two lists makes durable is durable after both
+durable-first : (l : ℕ) (a b : List Op) → durable l a ≡ true → durable l (a ++ b) ≡ true
+durable-first l a b e = durable-append l a b ∙ rw e
 
 durable-second : (l : ℕ) (a b : List Op) → durable l b ≡ true → durable l (a ++ b) ≡ true
-unfolding durable
-durable-second l [] b e = e
-durable-second l (store p vs ∷ a) b e = durable-second l a b e
-durable-second l (flush m ∷ a) b e = rw (durable-second l a b e) (or-true (eqb m l))
-durable-second l (malformed ∷ a) b e = durable-second l a b e
+durable-second l a b e = durable-append l a b ∙ rw e (or-true (durable l a))
 
 -- what makes a store durable comes after it: if, of the first c commands, those past the first m do, then m is below c
 pub durable-late : (l m c : ℕ) (cs : List Op) → durable l (drop m (take c cs)) ≡ true → m < c

@@ -94,16 +94,18 @@ take-twice m n xs = go (decLe m n)
     go (yes q) = (m, take-take m n xs q)
     go (no q) = (n, take-all m (take n xs) (omega (arith, length-take n xs)))
 
--- "some first part of its pending stores", with those that are durable before it
+-- "some first part of its pending stores": those that are durable, and as many more as the choice says
+pub kept-first : (l : ℕ) (f : ℕ → ℕ) (cs : List Op) → All (To l) (stores cs) → kept f cs ≡ take (settled l cs + f l) (stores cs)
+kept-first l f cs h = sym (to-line l (kept f cs) (to-kept l f cs h)) ∙ keep-line l f cs ∙ ap (take (settled l cs + f l)) (to-line l (stores cs) h)
+
+-- so a cut anywhere keeps a first part of them
 pub cut-first : (image : List ℕ) (f : ℕ → ℕ) (c l : ℕ) (cs : List Op) → All (To l) (stores cs) → (m : ℕ) × (cutImage image f c cs ≡ after image (take m (stores cs)))
 unfolding cutImage
 cut-first image f c l cs h =
     let t = stores-take c cs in
-    let to : All (To l) (stores (take c cs)) = subst (All (To l)) (sym (t .1)) (to-take l (t .0) (stores cs) h) in
     let n = settled l (take c cs) + f l in
     let q = take-twice n (t .0) (stores cs) in
-    let line = sym (to-line l (kept f (take c cs)) (to-kept l f (take c cs) to)) ∙ keep-line l f (take c cs) in
-    (q .0, ap (after image) (line ∙ ap (take n) (to-line l (stores (take c cs)) to ∙ t .1) ∙ q .1))
+    (q .0, ap (after image) (kept-first l f (take c cs) (subst (All (To l)) (sym (t .1)) (to-take l (t .0) (stores cs) h)) ∙ ap (take n) (t .1) ∙ q .1))
 
 -- ---- one store, and no other
 

@@ -131,11 +131,14 @@ module _ (a w : List ℕ) (s : sound a ≡ true) (d : Edited a w) (room : roomIn
   pub taken-stands : CommitStands (x .place) (x .tape)
   taken-stands = stands (length a) (x .place) (x .tape) (t .safe .prepare) vs (t .safe .rest) shape writes first
 
-  -- where its place finds it, the tape is cut as the journal says
+  -- where the transaction says
+  pub taken-found : commitAt (x .place) (x .tape) ≡ x .commitAt
+  taken-found = found (length a) (x .place) (x .tape) (t .safe .prepare) vs (t .safe .rest) shape writes first ∙ sym (t .commits)
+
+  -- by its place, the tape is cut as the journal says
   pub place-cut : (f : ℕ → ℕ) (c : ℕ) → CutHolds (table a) (table w) a (x .tape) (commitAt (x .place) (x .tape)) (lineOf (placeOffset (x .place))) f c
   place-cut f c =
-      let at : x .commitAt ≡ commitAt (x .place) (x .tape) = t .commits ∙ sym (found (length a) (x .place) (x .tape) (t .safe .prepare) vs (t .safe .rest) shape writes first) in
-      subst (λ (n : ℕ). CutHolds (table a) (table w) a (x .tape) n (lineOf (placeOffset (x .place))) f c) at
+      subst (λ (n : ℕ). CutHolds (table a) (table w) a (x .tape) n (lineOf (placeOffset (x .place))) f c) (sym taken-found)
       (subst (λ (l : ℕ). CutHolds (table a) (table w) a (x .tape) (x .commitAt) l f c) (place-line (x .place)) (taken-cut a w s d room f c))
 
 -- ---- the call

@@ -28,6 +28,11 @@ module _ (a : List ℕ) (s : sound a ≡ true) where
   unfolding replayFrom
   sound-replay = ap (replayFrom a) (sound-facts a s .zero)
 
+  -- "Recovery with mark 0 gives no commands."
+  pub sound-tape : tapeOf a ≡ []
+  unfolding recoveryTape
+  sound-tape = ap (recoveryTape a) (sound-facts a s .zero)
+
   pub holds-sound : Holds (table a) a
   unfolding replayable
   holds-sound =

@@ -32,6 +32,7 @@ use Rattle.preview.specs.Says.{previewed, lookedUp, held}
 use Rattle.preview.specs.Answers.{AskedSound, bad-image, bad-list, bad-key}
 use Rattle.preview.specs.declared.Preview.the-variants as previews
 use Rattle.preview.proofs.Answers.{answers-preview, preview-exact, refused-broken, broken-refused, lookup-exact}
+use Rattle.journal.specs.declared.Way.{Way}
 use Rattle.transaction.specs.Calls.{Result, refusedWith, acceptedWith, transactionCall}
 use Rattle.transaction.specs.Demand2.{Makes}
 use Rattle.transaction.specs.Answers as transactions
@@ -48,18 +49,18 @@ use Rattle.as_committed.specs.Claims.{AsCommitted, RefusedAlike, Refused
 
 -- ---- accepted
 
-module _ (a work tape bytes : List ℕ) (c : Commit) (e : transactionCall a work tape bytes .answer ≡ Accepted c) (k : ℕ) where
+module _ (way : Way) (a work tape bytes : List ℕ) (c : Commit) (e : transactionCall way a work tape bytes .answer ≡ Accepted c) (k : ℕ) where
   abbrev w : List ℕ
-  w = transactionCall a work tape bytes .work
+  w = transactionCall way a work tape bytes .work
 
   abbrev es : List Edit
   es = editsOf (editList bytes)
 
-  made : Acceptance a work tape bytes
-  made = call-accepted a work tape bytes c e
+  made : Acceptance way a work tape bytes
+  made = call-accepted way a work tape bytes c e
 
-  M : Makes a tape bytes c (transactionCall a work tape bytes)
-  M = demand-2 a work tape bytes c e
+  M : Makes a tape bytes c (transactionCall way a work tape bytes)
+  M = demand-2 way a work tape bytes c e
 
   checked : checkCall a ≡ answers.Accepted
   checked = made .begun .checked
@@ -117,22 +118,22 @@ module _ (a work tape bytes : List ℕ) (k : ℕ) (low : 1 ≤ k) (high : k ≤ 
   edit-alike c es reads n i eight nine G =
       broken-refused a bytes (check-sound a c) k es (list-whole bytes es reads) low high n i (grounds-broken a (check-sound a c) es (list-proper bytes es reads) n i G eight nine)
 
-  alike : (r : Refusal) → r .number ≤ 9 → (r .number ≡ 2 → ⊥) → (r .number ≡ 4 → NotOpened a r) → (x : Result) → transactions.Answers a work tape bytes x → x .answer ≡ Refused r → previewCall a bytes k ≡ previews.Refused r
+  alike : (way : Way) (r : Refusal) → r .number ≤ 9 → (r .number ≡ 2 → ⊥) → (r .number ≡ 4 → NotOpened a r) → (x : Result) → transactions.Answers way a work tape bytes x → x .answer ≡ Refused r → previewCall a bytes k ≡ previews.Refused r
   unfolding acceptedWith
-  alike r most other opens _ (transactions.bad-size z) q = size-alike z ∙ ap previews.Refused (refused-is 1 0 work tape r q)
-  alike r most other opens _ (transactions.bad-work _ _) q = absurd (other (ap (λ (x : Refusal). x .number) (sym (refused-is 2 0 work tape r q))))
-  alike r most other opens _ (transactions.bad-image _ _ s c) q = let z : s ≡ r = cc in image-alike s c (λ e. subst (NotOpened a) (sym z) (opens (ap (λ (x : Refusal). x .number) (sym z) ∙ e))) ∙ ap previews.Refused z
-  alike r most other opens _ (transactions.bad-list B n i f) q = list-alike (B .checked) n i f ∙ ap previews.Refused (refused-is n i work tape r q)
-  alike r most other opens _ (transactions.bad-edit B es reads n i eight G) q =
+  alike way r most other opens _ (transactions.bad-size z) q = size-alike z ∙ ap previews.Refused (refused-is 1 0 work tape r q)
+  alike way r most other opens _ (transactions.bad-work _ _) q = absurd (other (ap (λ (x : Refusal). x .number) (sym (refused-is 2 0 work tape r q))))
+  alike way r most other opens _ (transactions.bad-image _ _ s c) q = let z : s ≡ r = cc in image-alike s c (λ e. subst (NotOpened a) (sym z) (opens (ap (λ (x : Refusal). x .number) (sym z) ∙ e))) ∙ ap previews.Refused z
+  alike way r most other opens _ (transactions.bad-list B n i f) q = list-alike (B .checked) n i f ∙ ap previews.Refused (refused-is n i work tape r q)
+  alike way r most other opens _ (transactions.bad-edit B es reads n i eight G) q =
       let z = refused-is n i a tape r q in
       let nine : n ≤ 9 = subst (λ (m : ℕ). m ≤ 9) (ap (λ (x : Refusal). x .number) (sym z)) most in
       edit-alike (B .checked) es reads n i eight nine G ∙ ap previews.Refused z
-  alike r most other opens _ (transactions.no-log _ _ _ _ _) q = absurd (omega (arith, most, ap (λ (x : Refusal). x .number) (refused-is 12 0 a tape r q)))
-  alike r most other opens _ (transactions.no-tape _ _ _ _ _ _) q = absurd (omega (arith, most, ap (λ (x : Refusal). x .number) (refused-is 13 0 a tape r q)))
-  alike r most other opens _ (transactions.accepted _ _ _ _ _ _) q = let z : _≡_ {A = ℕ} 0 1 = cc in absurd (omega arith)
+  alike way r most other opens _ (transactions.no-log _ _ _ _ _) q = absurd (omega (arith, most, ap (λ (x : Refusal). x .number) (refused-is 12 0 a tape r q)))
+  alike way r most other opens _ (transactions.no-tape _ _ _ _ _ _) q = absurd (omega (arith, most, ap (λ (x : Refusal). x .number) (refused-is 13 0 a tape r q)))
+  alike way r most other opens _ (transactions.accepted _ _ _ _ _ _) q = let z : _≡_ {A = ℕ} 0 1 = cc in absurd (omega arith)
 
 pub refused-alike : RefusedAlike
-refused-alike a work tape bytes r e most other opens k low high = alike a work tape bytes k low high r most other opens (transactionCall a work tape bytes) (call-answers a work tape bytes) e
+refused-alike way a work tape bytes r e most other opens k low high = alike a work tape bytes k low high way r most other opens (transactionCall way a work tape bytes) (call-answers way a work tape bytes) e
 
 -- ---- and the other way
 
@@ -177,16 +178,16 @@ module _ (a work tape bytes : List ℕ) (same : length work ≡ length a) (k : �
       go true e = (s, refl, inr (inr (eqb-true (s .number) 4 e, c)))
       go false e = so s (image-alike a work tape bytes k low high s c (λ four. absurd (eqb-false (s .number) 4 e four)))
 
-  refuses : (x : Result) → transactions.Answers a work tape bytes x → RefusedSo a r (x .answer)
+  refuses : (way : Way) (x : Result) → transactions.Answers way a work tape bytes x → RefusedSo a r (x .answer)
   unfolding refusedWith
-  refuses _ (transactions.bad-size z) = so _ (size-alike a work tape bytes k low high z)
-  refuses _ (transactions.bad-work _ other) = absurd (other same)
-  refuses _ (transactions.bad-image _ _ s c) = image-refuses s c
-  refuses _ (transactions.bad-list B n i f) = so _ (list-alike a work tape bytes k low high (B .checked) n i f)
-  refuses _ (transactions.bad-edit B es reads n i eight G) = edit-refuses (B .checked) es reads n i eight G
-  refuses _ (transactions.no-log B es st D _) = absurd (not-made (B .checked) es (D .reads) st (D .makes))
-  refuses _ (transactions.no-tape B es st D _ _) = absurd (not-made (B .checked) es (D .reads) st (D .makes))
-  refuses _ (transactions.accepted B es st D _ _) = absurd (not-made (B .checked) es (D .reads) st (D .makes))
+  refuses way _ (transactions.bad-size z) = so _ (size-alike a work tape bytes k low high z)
+  refuses way _ (transactions.bad-work _ other) = absurd (other same)
+  refuses way _ (transactions.bad-image _ _ s c) = image-refuses s c
+  refuses way _ (transactions.bad-list B n i f) = so _ (list-alike a work tape bytes k low high (B .checked) n i f)
+  refuses way _ (transactions.bad-edit B es reads n i eight G) = edit-refuses (B .checked) es reads n i eight G
+  refuses way _ (transactions.no-log B es st D _) = absurd (not-made (B .checked) es (D .reads) st (D .makes))
+  refuses way _ (transactions.no-tape B es st D _ _) = absurd (not-made (B .checked) es (D .reads) st (D .makes))
+  refuses way _ (transactions.accepted B es st D _ _) = absurd (not-made (B .checked) es (D .reads) st (D .makes))
 
 pub refused-too : RefusedToo
-refused-too a work tape bytes same k low high r q = refuses a work tape bytes same k low high r q (transactionCall a work tape bytes) (call-answers a work tape bytes)
+refused-too way a work tape bytes same k low high r q = refuses a work tape bytes same k low high r q way (transactionCall way a work tape bytes) (call-answers way a work tape bytes)

@@ -25,6 +25,7 @@ use Rattle.journal.specs.Tape.{Taken, commitOf, roomInLog, takenFor}
 use Rattle.journal.specs.Commit.{commitStore, commitLine}
 use Rattle.journal.specs.Edited.{Edited}
 use Rattle.journal.specs.Holds.{CutHolds}
+use Rattle.journal.specs.declared.Way.{Way}
 use Rattle.journal.specs.declared.Commit.{Commit}
 use Rattle.journal.specs.declared.CommitPlace.{CommitPlace}
 use Rattle.journal.specs.declared.CommitPlace.the-variants.{Header, Root, Log}
@@ -92,7 +93,7 @@ module _ (n : ℕ) (place : CommitPlace) (cs bef : List Op) (vs : List ℕ) (res
 
 -- ---- the commit place of a transaction from a to w
 
-module _ (a w : List ℕ) (s : sound a ≡ true) (d : Edited a w) (room : roomInLog (changedPages a w) ≡ true) where
+module _ (way : Way) (a w : List ℕ) (s : sound a ≡ true) (d : Edited a w) (room : roomInLog (changedPages a w) ≡ true) where
   -- the commit store is one at its place's offset, and its line that byte's
   place-store : (p : CommitPlace) → (vs : List ℕ) × (commitStore w (length (changedPages a w)) p ≡ store (placeOffset p) vs)
   unfolding placeOffset commitStore
@@ -107,10 +108,10 @@ module _ (a w : List ℕ) (s : sound a ≡ true) (d : Edited a w) (room : roomIn
   place-line Log = refl
 
   abbrev x : Taken
-  x = takenFor a w
+  x = takenFor way a w
 
   t : Follows a w x
-  t = taken-follows a w s d room
+  t = taken-follows way a w s d room
 
   abbrev vs : List ℕ
   vs = place-store (x .place) .0
@@ -119,7 +120,7 @@ module _ (a w : List ℕ) (s : sound a ≡ true) (d : Edited a w) (room : roomIn
   shape = follows-shape a w x t ∙ ap₂ (λ (c : Op) (l : ℕ). t .safe .prepare ++ (c ∷ flush l ∷ t .safe .rest)) (place-store (x .place) .1) (place-line (x .place))
 
   writes : All (Writable (length a)) (t .safe .prepare)
-  writes = All-left (Writable (length a)) (t .safe .prepare) _ (subst (All (Writable (length a))) shape (taken-fits a w s d room))
+  writes = All-left (Writable (length a)) (t .safe .prepare) _ (subst (All (Writable (length a))) shape (taken-fits way a w s d room))
 
   first : touches (t .safe .prepare) (placeOffset (x .place)) ≡ false
   first =
@@ -139,41 +140,41 @@ module _ (a w : List ℕ) (s : sound a ≡ true) (d : Edited a w) (room : roomIn
   pub place-cut : (f : ℕ → ℕ) (c : ℕ) → CutHolds (table a) (table w) a (x .tape) (commitAt (x .place) (x .tape)) (lineOf (placeOffset (x .place))) f c
   place-cut f c =
       subst (λ (n : ℕ). CutHolds (table a) (table w) a (x .tape) n (lineOf (placeOffset (x .place))) f c) (sym taken-found)
-      (subst (λ (l : ℕ). CutHolds (table a) (table w) a (x .tape) (x .commitAt) l f c) (place-line (x .place)) (taken-cut a w s d room f c))
+      (subst (λ (l : ℕ). CutHolds (table a) (table w) a (x .tape) (x .commitAt) l f c) (place-line (x .place)) (taken-cut way a w s d room f c))
 
 -- ---- the call
 
 module _ (a : List ℕ) (k : Call) (d : Commit) (e : onImage a k .answer ≡ Accepted d) where
   -- its edited image, and the transaction to it
   abbrev w : List ℕ
-  w = target a (k .work) (k .tape) (k .edits) d e
+  w = target (k .way) a (k .work) (k .tape) (k .edits) d e
 
   abbrev made : Taken
-  made = takenFor a w
+  made = takenFor (k .way) a w
 
   abbrev cs : List Op
   cs = commandsOn a (d .bytes) (onImage a k .tape)
 
   s : sound a ≡ true
-  s = was-sound a (k .work) (k .tape) (k .edits) d e
+  s = was-sound (k .way) a (k .work) (k .tape) (k .edits) d e
 
   edited : Edited a w
-  edited = target-edited a (k .work) (k .tape) (k .edits) d e
+  edited = target-edited (k .way) a (k .work) (k .tape) (k .edits) d e
 
   inLog : roomInLog (changedPages a w) ≡ true
-  inLog = room a (k .work) (k .tape) (k .edits) d e
+  inLog = room (k .way) a (k .work) (k .tape) (k .edits) d e
 
   -- what holds of the transaction's place and commands holds of the answer's
   answered : (P : CommitPlace → List Op → Type 0) → P (made .place) (made .tape) → P (d .place) cs
   unfolding commitOf
   answered P h =
-      subst (P (d .place)) (sym (commands-are a (k .work) (k .tape) (k .edits) d e))
-      (subst (λ (c : Commit). P (c .place) (made .tape)) (sym (answer-is a (k .work) (k .tape) (k .edits) d e)) h)
+      subst (P (d .place)) (sym (commands-are (k .way) a (k .work) (k .tape) (k .edits) d e))
+      (subst (λ (c : Commit). P (c .place) (made .tape)) (sym (answer-is (k .way) a (k .work) (k .tape) (k .edits) d e)) h)
 
   -- the commit store of an accepted transaction stands on its tape, with its flush next
   pub commit-stands : CommitStands (d .place) cs
-  commit-stands = answered CommitStands (taken-stands a w s edited inLog)
+  commit-stands = answered CommitStands (taken-stands (k .way) a w s edited inLog)
 
   -- and cut anywhere the tape leaves the table before or the one after
   pub commit-cut : (f : ℕ → ℕ) (c : ℕ) → CutHolds (table a) (table w) a cs (commitAt (d .place) cs) (lineOf (placeOffset (d .place))) f c
-  commit-cut f c = answered (λ (p : CommitPlace) (os : List Op). CutHolds (table a) (table w) a os (commitAt p os) (lineOf (placeOffset p)) f c) (place-cut a w s edited inLog f c)
+  commit-cut f c = answered (λ (p : CommitPlace) (os : List Op). CutHolds (table a) (table w) a os (commitAt p os) (lineOf (placeOffset p)) f c) (place-cut (k .way) a w s edited inLog f c)

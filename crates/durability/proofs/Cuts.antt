@@ -13,6 +13,7 @@ use Rattle.device.proofs.Encode.{writable-formed}
 use Rattle.device.proofs.Calls.{cut-accepts}
 use Rattle.page.specs.Layout.{Rec}
 use Rattle.journal.specs.Holds.{tapeOf, Holds}
+use Rattle.journal.specs.declared.Way.{Way}
 use Rattle.journal.specs.declared.Commit.{Commit}
 use Rattle.journal.proofs.Holds.{holds-size}
 use Rattle.journal.proofs.Fitting.{recovery-fits}
@@ -36,7 +37,7 @@ said choices l = getD choices l 0
 module _ (a : List ℕ) (k : Call) (d : Commit) (e : onImage a k .answer ≡ transacted.Accepted d) where
   -- "It then leaves the image after its tape": run does so
   pub left-run : (work : List ℕ) → length work ≡ length a → runCall a work (take (d .bytes) (onImage a k .tape)) ≡ accepted (imageAfter a k)
-  left-run work same = demand-2 a (k .work) (k .tape) (k .edits) d e .runs work same ∙ ap accepted (sym (leaves-work a k d e))
+  left-run work same = demand-2 (k .way) a (k .work) (k .tape) (k .edits) d e .runs work same ∙ ap accepted (sym (leaves-work a k d e))
 
 -- "if power fails at any command of the next accepted one": what is left is what cut leaves
 pub failed-cut : (a : List ℕ) (ks : List Call) (k : Call) (c : ℕ) (xs : List Attempt) (d : Commit) → onImage (played a ks) k .answer ≡ transacted.Accepted d → (work choices : List ℕ) →
@@ -44,26 +45,26 @@ pub failed-cut : (a : List ℕ) (ks : List Call) (k : Call) (c : ℕ) (xs : List
     cutCall (played a ks) work (take (d .bytes) (onImage (played a ks) k .tape)) c choices ≡ accepted (failed a ks k c (said choices) xs d)
 failed-cut a ks k c xs d e work choices same bytes few =
     cut-accepts (played a ks) work (take (d .bytes) (onImage (played a ks) k .tape)) choices c
-    (acceptance (played a ks) (k .work) (k .tape) (k .edits) d e .begun .size) same bytes (formed (played a ks) (k .work) (k .tape) (k .edits) d e) few
+    (acceptance (k .way) (played a ks) (k .work) (k .tape) (k .edits) d e .begun .size) same bytes (formed (k .way) (played a ks) (k .work) (k .tape) (k .edits) d e) few
 
 -- ---- a recovery of an image that a failure has left
 
 module _ (t : List Rec) (img : List ℕ) (h : Holds t img) where
   -- "a cut one leaves what the cut keeps": accepted, it leaves what cut leaves
-  pub attempted-cut : (lent tape : List ℕ) (e : Redone) → recoverCall img lent tape .answer ≡ recovered.Accepted e → (c : ℕ) (work choices : List ℕ) →
-      length work ≡ length img → length choices ≡ length img / 64 → c ≤ length (commandsOn img (e .bytes) (recoverCall img lent tape .tape)) →
-      cutCall img work (take (e .bytes) (recoverCall img lent tape .tape)) c choices ≡ accepted (attempted img (record { work = lent; tape = tape; stop = c; choices = said choices }))
+  pub attempted-cut : (way : Way) (lent tape : List ℕ) (e : Redone) → recoverCall way img lent tape .answer ≡ recovered.Accepted e → (c : ℕ) (work choices : List ℕ) →
+      length work ≡ length img → length choices ≡ length img / 64 → c ≤ length (commandsOn img (e .bytes) (recoverCall way img lent tape .tape)) →
+      cutCall img work (take (e .bytes) (recoverCall way img lent tape .tape)) c choices ≡ accepted (attempted img (record { way = way; work = lent; tape = tape; stop = c; choices = said choices }))
   unfolding cutBy
-  attempted-cut lent tape e q c work choices same bytes few =
-      let cs = commands-are t img h lent tape e q in
-      let formed : wellFormed (commandsOn img (e .bytes) (recoverCall img lent tape .tape)) ≡ true = ap wellFormed cs ∙ writable-formed (length img) (tapeOf img) (recovery-fits img h) in
-      cut-accepts img work (take (e .bytes) (recoverCall img lent tape .tape)) choices c (holds-size img h) same bytes formed few
-      ∙ ap (λ (r : Recovered). accepted (cutBy img r (recoverCall img lent tape .tape) c (said choices))) (sym q)
+  attempted-cut way lent tape e q c work choices same bytes few =
+      let cs = commands-are t img h way lent tape e q in
+      let formed : wellFormed (commandsOn img (e .bytes) (recoverCall way img lent tape .tape)) ≡ true = ap wellFormed cs ∙ writable-formed (length img) (tapeOf way img) (recovery-fits way img h) in
+      cut-accepts img work (take (e .bytes) (recoverCall way img lent tape .tape)) choices c (holds-size img h) same bytes formed few
+      ∙ ap (λ (r : Recovered). accepted (cutBy img r (recoverCall way img lent tape .tape) c (said choices))) (sym q)
 
 -- "a refused one the image it was given"
-pub attempted-refused : (img : List ℕ) (x : Attempt) (r : Refusal) → recoverCall img (x .work) (x .tape) .answer ≡ recovered.Refused r → attempted img x ≡ img
+pub attempted-refused : (img : List ℕ) (x : Attempt) (r : Refusal) → recoverCall (x .way) img (x .work) (x .tape) .answer ≡ recovered.Refused r → attempted img x ≡ img
 unfolding cutBy
-attempted-refused img x r q = ap (λ (y : Recovered). cutBy img y (recoverCall img (x .work) (x .tape) .tape) (x .stop) (x .choices)) q
+attempted-refused img x r q = ap (λ (y : Recovered). cutBy img y (recoverCall (x .way) img (x .work) (x .tape) .tape) (x .stop) (x .choices)) q
 
 -- "refused but with 2 or 13"
 pub allowed-numbers : (r : Refusal) → Allowed (recovered.Refused r) → (r .number ≡ 2) ⊎ (r .number ≡ 13)

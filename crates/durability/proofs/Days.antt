@@ -43,7 +43,7 @@ module _ (a : List ℕ) (s : sound a ≡ true) (y : Day) (r : DayRuns a y) where
 
   holds : HoldsCount (claim .held) (opened (table a)) all (dayEnd a y)
   unfolding dayEnd
-  holds = claim .completes (y .work) (y .tape) (y .redone) (r .recovers)
+  holds = claim .completes (y .way) (y .work) (y .tape) (y .redone) (r .recovers)
 
   pub day-holds : DayHolds
   unfolding fed

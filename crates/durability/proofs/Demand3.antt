@@ -64,7 +64,7 @@ module _ (a : List ℕ) (ks : List Call) (k : Call) (c : ℕ) (f : ℕ → ℕ) 
 
   -- the edited image of the next one
   abbrev w : List ℕ
-  w = target img (k .work) (k .tape) (k .edits) d e
+  w = target (k .way) img (k .work) (k .tape) (k .edits) d e
 
   abbrev cs : List Op
   cs = commands a ks k c f xs d
@@ -79,7 +79,7 @@ module _ (a : List ℕ) (ks : List Call) (k : Call) (c : ℕ) (f : ℕ → ℕ) 
 
   table-more : table w ≡ tableAt (suc n) (ledger a ks k c f xs d) (history a ks k c f xs d)
   table-more =
-      target-table img (k .work) (k .tape) (k .edits) d e
+      target-table (k .way) img (k .work) (k .tape) (k .edits) d e
       ∙ ap (applyEdits (editsOf (editList (k .edits)))) (sym (played-table ks a s (opened (table a)) refl))
       ∙ sym (table-at-next a ks k d e)
 
@@ -97,8 +97,8 @@ module _ (a : List ℕ) (ks : List Call) (k : Call) (c : ℕ) (f : ℕ → ℕ) 
         onlyRoom = attempts-allowed xs t (failed a ks k c f xs d) h;
         nextOnlyRoom = holds-allowed t (last a ks k c f xs d) img-last;
         roomCompletes = holds-accepted t (last a ks k c f xs d) img-last;
-        completes = λ work tape r q.
-            let u = completed t (last a ks k c f xs d) img-last work tape r q in
+        completes = λ way work tape r q.
+            let u = completed t (last a ks k c f xs d) img-last way work tape r q in
             record { isSound = u .0; isTable = u .1 };
       }
 

@@ -5,3 +5,4 @@ pub mod Cuts
 pub mod Committed
 pub mod Demand3
 pub mod Days
+pub mod Devices

@@ -20,7 +20,7 @@ use Rattle.durability.specs.Demand.{Call, onImage, leftBy, imageAfter, p
 
 module _ (a : List ℕ) (k : Call) (d : Commit) (e : onImage a k .answer ≡ Accepted d) where
   made : Makes a (k .tape) (k .edits) d (onImage a k)
-  made = demand-2 a (k .work) (k .tape) (k .edits) d e
+  made = demand-2 (k .way) a (k .work) (k .tape) (k .edits) d e
 
   -- what it leaves is the work image
   pub leaves-work : imageAfter a k ≡ onImage a k .work

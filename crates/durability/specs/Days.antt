@@ -12,6 +12,7 @@ use Rattle.image.specs.Image.{sound}
 use Rattle.image.specs.Table.{table}
 use Rattle.edit.specs.EditList.{editsOf, editList}
 use Rattle.edit.specs.Ledger.{opened, Feed, ledgerAfter}
+use Rattle.journal.specs.declared.Way.{Way}
 use Rattle.journal.specs.declared.Commit.{Commit}
 use Rattle.transaction.specs.Calls.{commandsOn}
 use Rattle.transaction.specs.declared.Transacted.the-variants as transacted
@@ -32,7 +33,8 @@ pub record Day : Type 0 where
   pub choices : ℕ → ℕ
   -- the recoveries that are refused or cut
   pub attempts : List Attempt
-  -- and the buffers that the one that completes is lent, with its answer
+  -- and the one that completes: which call it is, the buffers that it is lent, and its answer
+  pub way : Way
   pub work : List ℕ
   pub tape : List ℕ
   pub redone : Redone
@@ -50,11 +52,11 @@ lastOf a y = last a (y .calls) (y .next) (y .stop) (y .choices) (y .attempts) (y
 -- the day's two accepted calls answer as it says
 pub record DayRuns (a : List ℕ) (y : Day) : Type 0 where
   pub accepts : onImage (played a (y .calls)) (y .next) .answer ≡ transacted.Accepted (y .commit)
-  pub recovers : recovery.recoverCall (lastOf a y) (y .work) (y .tape) .answer ≡ recovered.Accepted (y .redone)
+  pub recovers : recovery.recoverCall (y .way) (lastOf a y) (y .work) (y .tape) .answer ≡ recovered.Accepted (y .redone)
 
 -- "An accepted call has run to the end, or completes, when its whole tape is done. It then leaves the image after its tape": the last recovery's
 unfoldable pub dayEnd : List ℕ → Day → List ℕ
-dayEnd a y = after (lastOf a y) (commandsOn (lastOf a y) (y .redone .bytes) (recovery.recoverCall (lastOf a y) (y .work) (y .tape) .tape))
+dayEnd a y = after (lastOf a y) (commandsOn (lastOf a y) (y .redone .bytes) (recovery.recoverCall (y .way) (lastOf a y) (y .work) (y .tape) .tape))
 
 -- ---- days, each from the store that the last left
 

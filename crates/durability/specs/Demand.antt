@@ -1,5 +1,6 @@
--- Demand 3: what a store holds after a list of transactions, a power failure in the next one, and a list of recoveries
--- (document 01, 'The plain ledger', and the desk's third demand).
+-- Demand 3: what a store holds after a list of transactions, a power failure in the next one, and a list of recoveries (document 01, 'The plain
+-- ledger', and the desk's third demand). Each call is of either device (document 02 (d), "The recovered count is stated again for this device"): with
+-- line stores alone, with words alone, or mixed.
 -- Assumes nothing.
 use Prim.Native.Nat.{ℕ, suc, _+_, _*_, _≤_, _<_}
 use mathlib.Core.Path.{_≡_}
@@ -19,6 +20,7 @@ use Rattle.image.specs.Table.{table}
 use Rattle.edit.specs.EditList.{editsOf, editList}
 use Rattle.edit.specs.Ledger.{Ledger, opened, Feed, tableAt}
 use Rattle.journal.specs.Recovery.{recoveryTape}
+use Rattle.journal.specs.declared.Way.{Way}
 use Rattle.journal.specs.declared.CommitPlace.{CommitPlace}
 use Rattle.journal.specs.declared.CommitPlace.the-variants.{Header, Root, Log}
 use Rattle.journal.specs.declared.Commit.{Commit}
@@ -33,15 +35,16 @@ use Rattle.recovery.specs.declared.Recovered.the-variants as recovered
 
 -- ---- transactions, each on the image that the last left
 
--- what a transaction is lent besides the image
+-- a transaction: which of the two calls it is, and what it is lent besides the image
 pub record Call : Type 0 where
+  pub way : Way
   pub work : List ℕ
   pub tape : List ℕ
   pub edits : List ℕ
 
 -- the transaction k on the image a
 abbrev pub onImage : List ℕ → Call → transaction.Result
-onImage a k = transaction.transactionCall a (k .work) (k .tape) (k .edits)
+onImage a k = transaction.transactionCall (k .way) a (k .work) (k .tape) (k .edits)
 
 -- "An accepted call has run to the end, or completes, when its whole tape is done. It then leaves the image after its tape; ..
 -- a refused one the image it was given."
@@ -118,8 +121,9 @@ pub record CommitStands (place : CommitPlace) (cs : List Op) : Type 0 where
 
 -- ---- recoveries
 
--- a recovery: the buffers that it is lent, and where it is cut if it is accepted
+-- a recovery: which of the two calls it is, the buffers that it is lent, and where it is cut if it is accepted
 pub record Attempt : Type 0 where
+  pub way : Way
   pub work : List ℕ
   pub tape : List ℕ
   pub stop : ℕ
@@ -132,7 +136,7 @@ cutBy a (recovered.Refused r) tape c f = a
 
 abbrev pub attempted : List ℕ → Attempt → List ℕ
 attempted a x =
-    let r = recovery.recoverCall a (x .work) (x .tape) in
+    let r = recovery.recoverCall (x .way) a (x .work) (x .tape) in
     cutBy a (r .answer) (r .tape) (x .stop) (x .choices)
 
 unfoldable pub attemptedAll : List ℕ → List Attempt → List ℕ
@@ -146,7 +150,7 @@ Allowed (recovered.Refused r) = (r .number ≡ workSize) ⊎ (r .number ≡ tape
 
 unfoldable pub AllAllowed : List ℕ → List Attempt → Type 0
 AllAllowed a [] = Unit {0}
-AllAllowed a (x ∷ xs) = Allowed (recovery.recoverCall a (x .work) (x .tape) .answer) × AllAllowed (attempted a x) xs
+AllAllowed a (x ∷ xs) = Allowed (recovery.recoverCall (x .way) a (x .work) (x .tape) .answer) × AllAllowed (attempted a x) xs
 
 -- ---- the demand
 
@@ -185,13 +189,13 @@ module _ (a : List ℕ) (ks : List Call) (k : Call) (c : ℕ) (f : ℕ → ℕ) 
     pub afterFlush : Flushed (d .place) commands c → held ≡ suc accepted
     -- "no recovery in the list is refused but with 2 or 13", nor is any next one
     pub onlyRoom : AllAllowed failed xs
-    pub nextOnlyRoom : (work tape : List ℕ) → Allowed (recovery.recoverCall last work tape .answer)
+    pub nextOnlyRoom : (way : Way) (work tape : List ℕ) → Allowed (recovery.recoverCall way last work tape .answer)
     -- and with a work buffer of the image's length and room on the tape, the next one completes
-    pub roomCompletes : (work tape : List ℕ) → length work ≡ length last → length (tapeBytes (recoveryTape last (pageZero last))) ≤ length tape →
-        (e : Redone) × (recovery.recoverCall last work tape .answer ≡ recovered.Accepted e)
+    pub roomCompletes : (way : Way) (work tape : List ℕ) → length work ≡ length last → length (tapeBytes (recoveryTape way last (pageZero last))) ≤ length tape →
+        (e : Redone) × (recovery.recoverCall way last work tape .answer ≡ recovered.Accepted e)
     -- one that completes leaves a store that holds `held` transactions
-    pub completes : (work tape : List ℕ) (e : Redone) → recovery.recoverCall last work tape .answer ≡ recovered.Accepted e →
-        HoldsCount held ledger history (after last (commandsOn last (e .bytes) (recovery.recoverCall last work tape .tape)))
+    pub completes : (way : Way) (work tape : List ℕ) (e : Redone) → recovery.recoverCall way last work tape .answer ≡ recovered.Accepted e →
+        HoldsCount held ledger history (after last (commandsOn last (e .bytes) (recovery.recoverCall way last work tape .tape)))
 
 -- Demand 3, for every image, list, call, cut and recoveries
 abbrev pub Demand3 : Type 0

@@ -39,7 +39,9 @@ use Rattle.journal.specs.Edited.{Edited}
 use Rattle.journal.specs.Commit.{commitStore, commitLine}
 use Rattle.journal.specs.Holds.{tapeOf}
 use Rattle.journal.specs.Safe.{Redo, ByMark}
-use Rattle.journal.proofs.Headers.{Lines, lines-agree, header-flushing, logged-inside, headers-outside}
+use Rattle.journal.specs.declared.Way.{Way}
+use Rattle.journal.specs.declared.Way.the-variants.{ByLine}
+use Rattle.journal.proofs.Headers.{Lines, lines-agree, header-flushing, logged-inside, headers-outside, headers-in, headers-touches}
 use Rattle.journal.proofs.Standing.{page-small, line-root, line-other, length-noMark, length-mark}
 use Rattle.journal.proofs.Replay.{recovery-redo}
 use Rattle.journal.proofs.StageA.{stageA-closed, stageA-outside, stageA-writes, stageA-dead}
@@ -80,20 +82,20 @@ workOf w hs = splice w lineSize (joinLines hs)
 
 -- ---- the log lines in w
 
-module _ (w : List ℕ) (s : sound w ≡ true) (hs : List (List ℕ)) (lines : Lines hs) (few : length hs ≤ logMost) (long : pageSize ≤ length w) where
+module _ (way : Way) (w : List ℕ) (s : sound w ≡ true) (hs : List (List ℕ)) (lines : Lines hs) (few : length hs ≤ logMost) (long : pageSize ≤ length w) where
   fits : lineSize * (1 + length hs) ≤ length w
   fits = omega arith
 
-  length-work : length (workOf w hs) ≡ length w
+  pub length-work : length (workOf w hs) ≡ length w
   length-work = length-splice w lineSize (joinLines hs) (omega (arith, length-join hs lines))
 
   -- where the log is not stored
-  work-other : (i : ℕ) → touches (logTape hs) i ≡ false → getD (workOf w hs) i 0 ≡ getD w i 0
-  work-other i t = ap (λ (l : List ℕ). getD l i 0) (sym (log-after hs lines w fits)) ∙ run-other w (logTape hs) i t
+  pub work-other : (i : ℕ) → touches (logTape way hs) i ≡ false → getD (workOf w hs) i 0 ≡ getD w i 0
+  work-other i t = ap (λ (l : List ℕ). getD l i 0) (sym (log-after way hs lines w fits)) ∙ run-other w (logTape way hs) i t
 
-  log-apart : (i : ℕ) → (i < lineSize) ⊎ (pageSize ≤ i) → touches (logTape hs) i ≡ false
-  log-apart i (inl h) = log-touches hs lines i (inl h)
-  log-apart i (inr h) = log-touches hs lines i (inr (omega arith))
+  pub log-apart : (i : ℕ) → (i < lineSize) ⊎ (pageSize ≤ i) → touches (logTape way hs) i ≡ false
+  log-apart i (inl h) = log-touches way hs lines i (inl h)
+  log-apart i (inr h) = log-touches way hs lines i (inr (omega arith))
 
   -- "log lines may hold anything"
   work-sound : (sound (workOf w hs) ≡ true) × (table (workOf w hs) ≡ table w)
@@ -101,8 +103,8 @@ module _ (w : List ℕ) (s : sound w ≡ true) (hs : List (List ℕ)) (lines : L
       let f = frame w (workOf w hs) s (sym length-work) (λ i v. sym (work-other i (log-apart i (live-place w i s v .1)))) in
       (f .0, f .1)
 
-  work-log : All (Writes (workOf w hs)) (logTape hs)
-  work-log = log-writes hs lines (workOf w hs) (omega (arith, length-work, fits)) (ap (logged (length hs)) (sym (log-after hs lines w fits)) ∙ log-read hs lines w fits)
+  work-log : All (Writes (workOf w hs)) (logTape way hs)
+  work-log = log-writes way hs lines (workOf w hs) (omega (arith, length-work, fits)) (ap (logged (length hs)) (sym (log-after way hs lines w fits)) ∙ log-read way hs lines w fits)
 
   -- what stands in w outside page 0
   work-move : (cs : List Op) → ((i : ℕ) → i < pageSize → touches cs i ≡ false) → All (Writes w) cs → All (Writes (workOf w hs)) cs
@@ -114,7 +116,7 @@ module _ (w : List ℕ) (s : sound w ≡ true) (hs : List (List ℕ)) (lines : L
 
 -- ---- the transaction
 
-module _ (a w : List ℕ) (s : sound a ≡ true) (d : Edited a w) (same : Bool) (isSame : sameRoot a w ≡ same) (some : 1 ≤ length (changedPages a w)) (few : length (changedPages a w) ≤ logMost) where
+module _ (way : Way) (a w : List ℕ) (s : sound a ≡ true) (d : Edited a w) (same : Bool) (isSame : sameRoot a w ≡ same) (some : 1 ≤ length (changedPages a w)) (few : length (changedPages a w) ≤ logMost) where
   abbrev hs : List (List ℕ)
   hs = newHeaders w (changedPages a w)
 
@@ -137,7 +139,7 @@ module _ (a w : List ℕ) (s : sound a ≡ true) (d : Edited a w) (same : Bool) 
   long = omega (arith, sizeA .low, d .sameLength)
 
   abbrev prepare : List Op
-  prepare = stageA a w ++ logTape hs
+  prepare = stageA a w ++ logTape way hs
 
   -- ---- the image that the mark commits
 
@@ -155,7 +157,7 @@ module _ (a w : List ℕ) (s : sound a ≡ true) (d : Edited a w) (same : Bool) 
 
   -- line 0 is a's, but for the mark
   line-x : (i : ℕ) → i < lineSize → getD x i 0 ≡ getD a i 0
-  line-x i h = run-other a (stageA a w ++ logTape hs) i (touches-both (stageA a w) (logTape hs) i (stageA-outside a w i (omega arith)) (log-touches hs lines i (inl h)))
+  line-x i h = run-other a (stageA a w ++ logTape way hs) i (touches-both (stageA a w) (logTape way hs) i (stageA-outside a w i (omega arith)) (log-touches way hs lines i (inl h)))
 
   past-mark : (i : ℕ) → 8 ≤ i → getD b i 0 ≡ getD x i 0
   past-mark i h = sets-apart x 0 mark i (inr (omega (arith, length-mark (length hs) root)))
@@ -167,15 +169,15 @@ module _ (a w : List ℕ) (s : sound a ≡ true) (d : Edited a w) (same : Bool) 
   mark-b = part-sets (after a prepare) 0 (markBytes (length hs) root) 8 (length-mark (length hs) root) (omega (arith, length-after a prepare, sizeA .low))
 
   -- the log is read back
-  x-is : x ≡ after (after a (stageA a w)) (logTape hs)
-  x-is = after-append a (stageA a w) (logTape hs)
+  x-is : x ≡ after (after a (stageA a w)) (logTape way hs)
+  x-is = after-append a (stageA a w) (logTape way hs)
 
   logged-b : logged (length hs) b ≡ hs
   unfolding logged
   logged-b =
       lines-agree (length hs) 1 x b (length-sets x 0 mark) (λ i p q. past-mark i (omega arith))
       ∙ ap (linesFrom (length hs) 1) x-is
-      ∙ log-read hs lines (after a (stageA a w)) (omega (arith, length-after a (stageA a w), sizeA .low, few-hs))
+      ∙ log-read way hs lines (after a (stageA a w)) (omega (arith, length-after a (stageA a w), sizeA .low, few-hs))
 
   root-page : isPage (pageCount a) root ≡ true
   root-page = ap (λ (n : ℕ). isPage (n / pageSize) (rootOf w)) (sym (d .sameLength)) ∙ line-w a w s d .page
@@ -199,9 +201,9 @@ module _ (a w : List ℕ) (s : sound a ≡ true) (d : Edited a w) (same : Bool) 
   unfolding sameRoot
   same-b = ap₂ eqs (part-line 8 8 (omega arith) (omega arith)) (sym root-w) ∙ isSame
 
-  tape-b : tapeOf b ≡ replayTape hs same root
+  tape-b : tapeOf way b ≡ replayTape way hs same root
   unfolding recoveryTape
-  tape-b = ap (recoveryTape b) waiting ∙ ap₂ (λ (l : List (List ℕ)) (q : Bool). replayTape l q root) logged-b same-b
+  tape-b = ap (recoveryTape way b) waiting ∙ ap₂ (λ (l : List (List ℕ)) (q : Bool). replayTape way l q root) logged-b same-b
 
   -- ---- what the tape stores stands in the work image, but for the mark
 
@@ -209,20 +211,20 @@ module _ (a w : List ℕ) (s : sound a ≡ true) (d : Edited a w) (same : Bool) 
   work = workOf w hs
 
   length-work-w : length work ≡ length w
-  length-work-w = length-work w (d .isSound) hs lines few-hs long
+  length-work-w = length-work way w (d .isSound) hs lines few-hs long
 
   move : (cs : List Op) → ((i : ℕ) → i < pageSize → touches cs i ≡ false) → All (Writes w) cs → All (Writes work) cs
-  move = work-move w (d .isSound) hs lines few-hs long
+  move = work-move way w (d .isSound) hs lines few-hs long
 
   prepare-writes : All (Writes work) prepare
   prepare-writes =
-      All-append (Writes work) (stageA a w) (logTape hs) (move (stageA a w) (stageA-outside a w) (stageA-writes a w (d .sameLength) (sizeA .whole))) (work-log w (d .isSound) hs lines few-hs long)
+      All-append (Writes work) (stageA a w) (logTape way hs) (move (stageA a w) (stageA-outside a w) (stageA-writes a w (d .sameLength) (sizeA .whole))) (work-log way w (d .isSound) hs lines few-hs long)
 
   -- a word of line 0 that stands in w
   line-writes : (o : ℕ) (vs : List ℕ) → o + 8 ≤ lineSize → length vs ≡ 8 → part w o 8 ≡ vs → Writes work (store o vs)
   line-writes o vs h n e = (
     omega (arith, length-work-w, long),
-    ap (part work o) n ∙ sym (part-agree work w o 8 length-work-w (λ i p q. work-other w (d .isSound) hs lines few-hs long i (log-touches hs lines i (inl (omega arith))))) ∙ e,
+    ap (part work o) n ∙ sym (part-agree work w o 8 length-work-w (λ i p q. work-other way w (d .isSound) hs lines few-hs long i (log-touches way hs lines i (inl (omega arith))))) ∙ e,
   )
 
   ending-writes : All (Writes work) (ending same root)
@@ -239,54 +241,54 @@ module _ (a w : List ℕ) (s : sound a ≡ true) (d : Edited a w) (same : Bool) 
       go true = (cleared, (tt, tt))
       go false = (rootIn, (cleared, (tt, tt)))
 
-  replay-writes : All (Writes work) (replayTape hs same root)
+  replay-writes : All (Writes work) (replayTape way hs same root)
   unfolding replayTape
   replay-writes =
-      All-append (Writes work) (headerStores hs) (headerFlushes hs ++ ending same root)
-      (move (headerStores hs) (λ i h. headers-outside (pageCount a) hs i (logged-inside (pageCount a) hs hs-ok) h) (headers-write a w s d (changedPages a w) (changed a w s d)))
-      (All-append (Writes work) (headerFlushes hs) (ending same root) (flushes-write work (headerFlushes hs) (header-flushing hs .flushes)) ending-writes)
+      All-append (Writes work) (headerStores way hs) (headerFlushes hs ++ ending same root)
+      (move (headerStores way hs) (λ i h. headers-outside way (pageCount a) hs i lines (logged-inside (pageCount a) hs hs-ok) h) (headers-write a w s d way (changedPages a w) (changed a w s d)))
+      (All-append (Writes work) (headerFlushes hs) (ending same root) (flushes-write work (headerFlushes hs) (header-flushing way hs .flushes)) ending-writes)
 
   -- ---- and every byte where a and the work image differ is stored
 
-  replay-untouched : (i : ℕ) → touches (replayTape hs same root) i ≡ false → (touches (headerStores hs) i ≡ false) × (8 ≤ i) × ((same ≡ true) ⊎ (16 ≤ i))
+  replay-untouched : (i : ℕ) → touches (replayTape way hs same root) i ≡ false → (touches (headerStores ByLine hs) i ≡ false) × (8 ≤ i) × ((same ≡ true) ⊎ (16 ≤ i))
   unfolding replayTape
   replay-untouched i u =
-      let e = ending-untouched root i same (touches-right (headerFlushes hs) (ending same root) i (touches-right (headerStores hs) (headerFlushes hs ++ ending same root) i u)) in
-      (touches-left (headerStores hs) (headerFlushes hs ++ ending same root) i u, e .0, e .1)
+      let e = ending-untouched root i same (touches-right (headerFlushes hs) (ending same root) i (touches-right (headerStores way hs) (headerFlushes hs ++ ending same root) i u)) in
+      (sym (headers-touches hs (headerStores way hs) i lines (headers-in way hs)) ∙ touches-left (headerStores way hs) (headerFlushes hs ++ ending same root) i u, e .0, e .1)
 
-  agrees : (i : ℕ) → touches prepare i ≡ false → touches (replayTape hs same root) i ≡ false → getD a i 0 ≡ getD work i 0
-  agrees i t u = go (v .2) ∙ sym (work-other w (d .isSound) hs lines few-hs long i (touches-right (stageA a w) (logTape hs) i t))
+  agrees : (i : ℕ) → touches prepare i ≡ false → touches (replayTape way hs same root) i ≡ false → getD a i 0 ≡ getD work i 0
+  agrees i t u = go (v .2) ∙ sym (work-other way w (d .isSound) hs lines few-hs long i (touches-right (stageA a w) (logTape way hs) i t))
     where
-      v : (touches (headerStores hs) i ≡ false) × (8 ≤ i) × ((same ≡ true) ⊎ (16 ≤ i))
+      v : (touches (headerStores ByLine hs) i ≡ false) × (8 ≤ i) × ((same ≡ true) ⊎ (16 ≤ i))
       v = replay-untouched i u
 
       tA : touches (stageA a w) i ≡ false
-      tA = touches-left (stageA a w) (logTape hs) i t
+      tA = touches-left (stageA a w) (logTape way hs) i t
 
       go : (same ≡ true) ⊎ (16 ≤ i) → getD a i 0 ≡ getD w i 0
       go (inl e) = agree-same a w s d (isSame ∙ e) i tA (v .0)
       go (inr h) = agree a w s d i (inr h) tA (v .0)
 
-  run : after b (replayTape hs same root) ≡ work
+  run : after b (replayTape way hs same root) ≡ work
   run =
-      writes-after work b (replayTape hs same root) (length-b ∙ sym (length-work-w ∙ d .sameLength)) replay-writes
+      writes-after work b (replayTape way hs same root) (length-b ∙ sym (length-work-w ∙ d .sameLength)) replay-writes
       (λ i u. past-mark i (replay-untouched i u .1) ∙ writes-at work a prepare i (sym (length-work-w ∙ d .sameLength)) prepare-writes (λ t. agrees i t u))
 
-  leaves : after a (prepare ++ (store 0 mark ∷ flush 0 ∷ replayTape hs same root)) ≡ work
+  leaves : after a (prepare ++ (store 0 mark ∷ flush 0 ∷ replayTape way hs same root)) ≡ work
   leaves =
-      after-append a prepare (store 0 mark ∷ flush 0 ∷ replayTape hs same root)
-      ∙ after-store 0 mark (flush 0 ∷ replayTape hs same root) x
-      ∙ after-flush 0 (replayTape hs same root) b
+      after-append a prepare (store 0 mark ∷ flush 0 ∷ replayTape way hs same root)
+      ∙ after-store 0 mark (flush 0 ∷ replayTape way hs same root) x
+      ∙ after-flush 0 (replayTape way hs same root) b
       ∙ run
 
   dead : (i : ℕ) → live a i ≡ true → touches prepare i ≡ false
-  dead i v = touches-both (stageA a w) (logTape hs) i (stageA-dead a w d i v) (log-apart w (d .isSound) hs lines few-hs long i (live-place a i s v .1))
+  dead i v = touches-both (stageA a w) (logTape way hs) i (stageA-dead a w d i v) (log-apart way w (d .isSound) hs lines few-hs long i (live-place a i s v .1))
 
   -- the logged headers are of the changed pages, which were reached before
   pages : map ownPage (logged (length hs) b) ≡ changedPages a w
   pages = ap (map ownPage) logged-b ∙ own-all a w s d (changedPages a w) (changed a w s d)
 
-  by-mark : ByMark a b 0 mark (replayTape hs same root)
+  by-mark : ByMark a b 0 mark (replayTape way hs same root)
   by-mark =
       record {
         isPlace = refl;
@@ -296,28 +298,28 @@ module _ (a w : List ℕ) (s : sound a ≡ true) (d : Edited a w) (same : Bool) 
         isMark = waiting;
         apart = ap distinct pages ∙ changed-distinct a w;
         wereReached = subst (All Was) (sym pages) (All-map (InBoth a w) Was (λ p h. h .was) (changedPages a w) (changed a w s d));
-        redo = subst (Redo b (length hs) root) tape-b (recovery-redo b (length hs) root waiting);
+        redo = subst (Redo b (length hs) root) tape-b (recovery-redo way b (length hs) root waiting);
       }
     where
       Was : ℕ → Type 0
       Was p = among p (reached a (rootOf a)) ≡ true
 
-  pub log-follows : Follows a w (byLog (stageA a w) w same (newHeaders w (changedPages a w)))
+  pub log-follows : Follows a w (byLog way (stageA a w) w same (newHeaders w (changedPages a w)))
   unfolding byLog commitStore commitLine
   log-follows =
-      let f = work-sound w (d .isSound) hs lines few-hs long in
+      let f = work-sound way w (d .isSound) hs lines few-hs long in
       record {
         safe =
             record {
               prepare = prepare;
               dead = dead;
-              prepared = closed-append (stageA a w) (logTape hs) (stageA-closed a w) (log-closed hs);
+              prepared = closed-append (stageA a w) (logTape way hs) (stageA-closed a w) (log-closed way hs);
               place = 0;
               bytes = mark;
               wait = flush 0 ∷ [];
               noStore = stores-flush 0 [] ∙ stores-nil;
               isDurable = durable-here 0 [];
-              rest = replayTape hs same root;
+              rest = replayTape way hs same root;
               commits = inr by-mark;
               shape = refl;
               leaves = leaves;

@@ -21,12 +21,17 @@ use Rattle.page.specs.Layout.{pageSize, lineSize}
 use Rattle.image.specs.PageZero.{pageCount, isPage, rootOf, noMark}
 use Rattle.image.specs.Image.{reached, among, sound}
 use Rattle.image.proofs.Zero.{Size, size-true, isPage-true, Line, ready-facts}
+use Rattle.image.proofs.General.{All-append}
 use Rattle.image.proofs.Soundness.{sound-facts}
 use Rattle.journal.specs.Changes.{wordSize, pageWords, lineWords, freeWord, stageA, headerLine, changedPages}
+use Rattle.journal.specs.Way.{lineBy}
 use Rattle.journal.specs.Log.{ownPage, headerStores}
 use Rattle.journal.specs.Recovery.{loggedOk}
 use Rattle.journal.specs.Tape.{newHeaders}
 use Rattle.journal.specs.Edited.{Edited}
+use Rattle.journal.specs.declared.Way.{Way}
+use Rattle.journal.specs.declared.Way.the-variants.{ByLine}
+use Rattle.journal.proofs.Ways.{line-writes}
 use Rattle.journal.proofs.Headers.{Lines}
 use Rattle.journal.proofs.StageA.{freeByte, stageA-covers}
 use Rattle.journal.proofs.Changed.{InBoth, reached-page, reached-own, changed-both, changed-distinct, changed-all}
@@ -73,13 +78,18 @@ module _ (a w : List ℕ) (s : sound a ≡ true) (d : Edited a w) where
   unfolding headerLine
   header-write p h = let n = header-length p h in (omega (arith, n, header-fits p h), ap (part w (pageSize * p)) n)
 
-  pub headers-write : (qs : List ℕ) → All (InBoth a w) qs → All (Writes w) (headerStores (newHeaders w qs))
+  pub headers-write : (way : Way) (qs : List ℕ) → All (InBoth a w) qs → All (Writes w) (headerStores way (newHeaders w qs))
   unfolding headerStores
-  headers-write [] h = tt
-  headers-write (q ∷ qs) h = (subst (λ (p : ℕ). Writes w (store (pageSize * p) (headerLine w q))) (sym (header-own q (h .0))) (header-write q (h .0)), headers-write qs (h .1))
+  headers-write way [] h = tt
+  headers-write way (q ∷ qs) h =
+      let line = headerLine w q in
+      let p = pageSize * ownPage line in
+      All-append (Writes w) (lineBy way p line) (headerStores way (newHeaders w qs))
+      (line-writes p line (header-length q (h .0)) way w (subst (λ (p : ℕ). Writes w (store (pageSize * p) line)) (sym (header-own q (h .0))) (header-write q (h .0))))
+      (headers-write way qs (h .1))
 
-  headers-touch : (qs : List ℕ) (p i : ℕ) → All (InBoth a w) qs → among p qs ≡ true → pageSize * p ≤ i → i < pageSize * p + lineSize → touches (headerStores (newHeaders w qs)) i ≡ true
-  unfolding among headerStores
+  headers-touch : (qs : List ℕ) (p i : ℕ) → All (InBoth a w) qs → among p qs ≡ true → pageSize * p ≤ i → i < pageSize * p + lineSize → touches (headerStores ByLine (newHeaders w qs)) i ≡ true
+  unfolding among headerStores lineBy
   headers-touch [] p i h e low high = absurd (false≢true e)
   headers-touch (q ∷ qs) p i h e low high = go (either (eqb p q) (among p qs) e) (λ e. headers-touch qs p i (h .1) e low high)
     where
@@ -90,7 +100,7 @@ module _ (a w : List ℕ) (s : sound a ≡ true) (d : Edited a w) where
       n = header-length q (h .0)
 
       rest : List Op
-      rest = headerStores (newHeaders w qs)
+      rest = headerStores ByLine (newHeaders w qs)
 
       go : (eqb p q ≡ true) ⊎ (among p qs ≡ true) → (among p qs ≡ true → touches rest i ≡ true) → touches (store (pageSize * ownPage (headerLine w q)) (headerLine w q) ∷ rest) i ≡ true
       go (inl e) g = let same = eqb-true p q e in touches-in (pageSize * ownPage (headerLine w q)) (headerLine w q) rest i (omega (arith, own)) (omega (arith, own, n))
@@ -109,7 +119,7 @@ module _ (a w : List ℕ) (s : sound a ≡ true) (d : Edited a w) where
 
   -- a header that is not stored does not differ
   header-kept : (i : ℕ) → pageSize ≤ i → i % pageSize < lineSize → among (i / pageSize) (reached a (rootOf a)) ≡ true →
-      touches (headerStores (newHeaders w (changedPages a w))) i ≡ false → getD a i 0 ≡ getD w i 0
+      touches (headerStores ByLine (newHeaders w (changedPages a w))) i ≡ false → getD a i 0 ≡ getD w i 0
   unfolding headerLine
   header-kept i low line was t = go (among (i / pageSize) (reached w (rootOf w))) refl
     where
@@ -125,7 +135,7 @@ module _ (a w : List ℕ) (s : sound a ≡ true) (d : Edited a w) where
       go true e = same (changed-all a w p (record { page = reached-page a s p was; was = was; stays = e }))
 
   -- a and w agree where neither stage A nor a header nor the root word is stored
-  pub agree : (i : ℕ) → (i < 8) ⊎ (16 ≤ i) → touches (stageA a w) i ≡ false → touches (headerStores (newHeaders w (changedPages a w))) i ≡ false → getD a i 0 ≡ getD w i 0
+  pub agree : (i : ℕ) → (i < 8) ⊎ (16 ≤ i) → touches (stageA a w) i ≡ false → touches (headerStores ByLine (newHeaders w (changedPages a w))) i ≡ false → getD a i 0 ≡ getD w i 0
   agree i o t u = go (decLt i pageSize) (freeByte a i) refl
     where
       go : Dec (i < pageSize) → (b : Bool) → freeByte a i ≡ b → getD a i 0 ≡ getD w i 0

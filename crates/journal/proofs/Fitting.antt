@@ -21,32 +21,37 @@ use Rattle.image.specs.Image.{reached, sound}
 use Rattle.image.proofs.General.{All-append}
 use Rattle.image.proofs.Zero.{size-true, isPage-true}
 use Rattle.journal.specs.Changes.{wordSize, freeWord, wordStores, flushesFrom, flushesOf, stageA, headerLine, changedPages, sameRoot}
+use Rattle.journal.specs.Way.{lineBy}
 use Rattle.journal.specs.Log.{pageLines, ownPage, logStores, logFlushes, logTape, headerStores, headerFlushes, ending, replayTape}
-use Rattle.journal.specs.Tape.{newHeaders, byHeader, byRoot, byLog, choose, roomInLog, takenFor}
+use Rattle.journal.specs.Tape.{newHeaders, byHeader, byRoot, byLog, roomInLog, takenFor}
 use Rattle.journal.specs.Recovery.{logged, recoveryTape}
 use Rattle.journal.specs.Edited.{Edited}
 use Rattle.journal.specs.Holds.{tapeOf, Holds}
+use Rattle.journal.specs.declared.Way.{Way}
+use Rattle.journal.specs.declared.Way.the-variants.{ByLine}
+use Rattle.journal.proofs.Ways.{line-fits}
 use Rattle.journal.proofs.Headers.{Lines, Inside, logged-inside}
 use Rattle.journal.proofs.Standing.{waits-long, logged-lines, logged-pages, length-noMark, length-mark}
 use Rattle.journal.proofs.Holds.{holds-size, Cases, cases}
 use Rattle.journal.proofs.StageA.{wordAt, walk, walk-all}
 use Rattle.journal.proofs.Changed.{InBoth}
+use Rattle.journal.proofs.Chosen.{choose-all}
 use Rattle.journal.proofs.Edits.{size, changed, header-length, headers-lines, headers-ok}
 
 -- ---- stage A
 
 module _ (n : ℕ) (whole : n % pageSize ≡ 0) where
   -- the line of a store lies in the image
-  line-fits : (p : ℕ) (vs : List ℕ) → Writable n (store p vs) → lineSize * (p / lineSize) + lineSize ≤ n
-  line-fits p vs (inl h) = omega (arith, h .1, h .2)
-  line-fits p vs (inr h) = omega (arith, h .1, h .2)
+  flush-fits : (p : ℕ) (vs : List ℕ) → Writable n (store p vs) → lineSize * (p / lineSize) + lineSize ≤ n
+  flush-fits p vs (inl h) = omega (arith, h .1, h .2)
+  flush-fits p vs (inr h) = omega (arith, h .1, h .2)
 
   from-fits : (l : ℕ) (cs : List Op) → lineSize * l + lineSize ≤ n → All (Writable n) cs → All (Writable n) (flushesFrom l cs)
   unfolding flushesFrom
   from-fits l [] h k = (h, tt)
   from-fits l (flush m ∷ cs) h k = from-fits l cs h (k .1)
   from-fits l (malformed ∷ cs) h k = absurd (k .0)
-  from-fits l (store p vs ∷ cs) h k = go (eqb l (p / lineSize)) (from-fits (p / lineSize) cs (line-fits p vs (k .0)) (k .1))
+  from-fits l (store p vs ∷ cs) h k = go (eqb l (p / lineSize)) (from-fits (p / lineSize) cs (flush-fits p vs (k .0)) (k .1))
     where
       rest : List Op
       rest = flushesFrom (p / lineSize) cs
@@ -60,7 +65,7 @@ module _ (n : ℕ) (whole : n % pageSize ≡ 0) where
   flushes-fit [] k = tt
   flushes-fit (flush m ∷ cs) k = flushes-fit cs (k .1)
   flushes-fit (malformed ∷ cs) k = absurd (k .0)
-  flushes-fit (store p vs ∷ cs) k = from-fits (p / lineSize) cs (line-fits p vs (k .0)) (k .1)
+  flushes-fit (store p vs ∷ cs) k = from-fits (p / lineSize) cs (flush-fits p vs (k .0)) (k .1)
 
 words-fit : (rs a w : List ℕ) (n k : ℕ) → wordSize * (k + n) ≤ length w → All (Writable (length w)) (walk rs a w n k)
 words-fit rs a w = walk-all rs a w (λ n k cs. wordSize * (k + n) ≤ length w → All (Writable (length w)) cs) (λ k h. tt) (λ n k cs q ih h. ih (omega arith)) stored
@@ -78,32 +83,35 @@ stageA-fits a w same whole =
 
 -- ---- the log, the headers, the end of the tape
 
-module _ (n : ℕ) where
-  log-stores-fit : (l : ℕ) (hs : List (List ℕ)) → Lines hs → lineSize * (l + length hs) ≤ n → All (Writable n) (logStores l hs)
+module _ (way : Way) (n : ℕ) where
+  log-stores-fit : (l : ℕ) (hs : List (List ℕ)) → Lines hs → lineSize * (l + length hs) ≤ n → All (Writable n) (logStores way l hs)
   unfolding logStores
   log-stores-fit l [] k h = tt
-  log-stores-fit l (g ∷ hs) k h = (inr (k .0, omega arith, omega arith), log-stores-fit (suc l) hs (k .1) (omega arith))
+  log-stores-fit l (g ∷ hs) k h =
+      All-append (Writable n) (lineBy way (lineSize * l) g) (logStores way (suc l) hs) (line-fits (lineSize * l) g (k .0) way n (omega arith) (omega arith)) (log-stores-fit (suc l) hs (k .1) (omega arith))
 
   log-flushes-fit : (l : ℕ) (hs : List (List ℕ)) → lineSize * (l + length hs) ≤ n → All (Writable n) (logFlushes l hs)
   unfolding logFlushes
   log-flushes-fit l [] h = tt
   log-flushes-fit l (g ∷ hs) h = (omega arith, log-flushes-fit (suc l) hs (omega arith))
 
-  log-fits : (hs : List (List ℕ)) → Lines hs → lineSize * (1 + length hs) ≤ n → All (Writable n) (logTape hs)
+  log-fits : (hs : List (List ℕ)) → Lines hs → lineSize * (1 + length hs) ≤ n → All (Writable n) (logTape way hs)
   unfolding logTape
-  log-fits hs k h = All-append (Writable n) (logStores 1 hs) (logFlushes 1 hs) (log-stores-fit 1 hs k h) (log-flushes-fit 1 hs h)
+  log-fits hs k h = All-append (Writable n) (logStores way 1 hs) (logFlushes 1 hs) (log-stores-fit 1 hs k h) (log-flushes-fit 1 hs h)
 
   -- a header at its page
-  header-fits : (p : ℕ) (h : List ℕ) → length h ≡ lineSize → p < n / pageSize → Writable n (store (pageSize * p) h)
-  header-fits p h e k = inr (e, omega arith, omega arith)
+  header-fits : (v : Way) (p : ℕ) (h : List ℕ) → length h ≡ lineSize → p < n / pageSize → All (Writable n) (lineBy v (pageSize * p) h)
+  header-fits v p h e k = line-fits (pageSize * p) h e v n (omega arith) (omega arith)
 
   header-flush-fits : (p : ℕ) → p < n / pageSize → lineSize * (pageLines * p) + lineSize ≤ n
   header-flush-fits p k = omega arith
 
-  headers-fit : (hs : List (List ℕ)) → Lines hs → Inside (n / pageSize) hs → All (Writable n) (headerStores hs)
+  headers-fit : (hs : List (List ℕ)) → Lines hs → Inside (n / pageSize) hs → All (Writable n) (headerStores way hs)
   unfolding headerStores
   headers-fit [] k i = tt
-  headers-fit (h ∷ hs) k i = (header-fits (ownPage h) h (k .0) (isPage-true (n / pageSize) (ownPage h) (i .0) .1), headers-fit hs (k .1) (i .1))
+  headers-fit (h ∷ hs) k i =
+      All-append (Writable n) (lineBy way (pageSize * ownPage h) h) (headerStores way hs) (header-fits way (ownPage h) h (k .0) (isPage-true (n / pageSize) (ownPage h) (i .0) .1))
+      (headers-fit hs (k .1) (i .1))
 
   header-flushes-fit : (hs : List (List ℕ)) → Inside (n / pageSize) hs → All (Writable n) (headerFlushes hs)
   unfolding headerFlushes
@@ -119,24 +127,24 @@ module _ (n : ℕ) where
     ending-fits true root = (inl (length-noMark, refl, omega arith), (omega arith, tt))
     ending-fits false root = (root-fits root, (inl (length-noMark, refl, omega arith), (omega arith, tt)))
 
-    replay-fits : (hs : List (List ℕ)) (same : Bool) (root : ℕ) → Lines hs → Inside (n / pageSize) hs → All (Writable n) (replayTape hs same root)
+    replay-fits : (hs : List (List ℕ)) (same : Bool) (root : ℕ) → Lines hs → Inside (n / pageSize) hs → All (Writable n) (replayTape way hs same root)
     unfolding replayTape
     replay-fits hs same root k i =
-        All-append (Writable n) (headerStores hs) (headerFlushes hs ++ ending same root) (headers-fit hs k i)
+        All-append (Writable n) (headerStores way hs) (headerFlushes hs ++ ending same root) (headers-fit hs k i)
         (All-append (Writable n) (headerFlushes hs) (ending same root) (header-flushes-fit hs i) (ending-fits same root))
 
 -- ---- a transaction's tape
 
-module _ (a w : List ℕ) (s : sound a ≡ true) (d : Edited a w) (room : roomInLog (changedPages a w) ≡ true) where
+module _ (way : Way) (a w : List ℕ) (s : sound a ≡ true) (d : Edited a w) (room : roomInLog (changedPages a w) ≡ true) where
   long : pageSize ≤ length a
   long = omega (arith, size a w s d .low)
 
   before : All (Writable (length a)) (stageA a w)
   before = stageA-fits a w (d .sameLength) (size a w s d .whole)
 
-  by-log : (same : Bool) (ps : List ℕ) → changedPages a w ≡ ps → All (Writable (length a)) (byLog (stageA a w) w same (newHeaders w ps) .tape)
+  by-log : (same : Bool) (ps : List ℕ) → changedPages a w ≡ ps → All (Writable (length a)) (byLog way (stageA a w) w same (newHeaders w ps) .tape)
   unfolding byLog roomInLog
-  by-log same ps e = subst (λ (qs : List ℕ). All (Writable (length a)) (byLog (stageA a w) w same (newHeaders w qs) .tape)) e go
+  by-log same ps e = subst (λ (qs : List ℕ). All (Writable (length a)) (byLog way (stageA a w) w same (newHeaders w qs) .tape)) e go
     where
       hs : List (List ℕ)
       hs = newHeaders w (changedPages a w)
@@ -150,41 +158,41 @@ module _ (a w : List ℕ) (s : sound a ≡ true) (d : Edited a w) (room : roomIn
       mark : Writable (length a) (store 0 (markBytes (length hs) (rootOf w)))
       mark = inl (length-mark (length hs) (rootOf w), refl, omega (arith, long))
 
-      go : All (Writable (length a)) (byLog (stageA a w) w same hs .tape)
+      go : All (Writable (length a)) (byLog way (stageA a w) w same hs .tape)
       go =
-          All-append (Writable (length a)) (stageA a w ++ logTape hs) (store 0 (markBytes (length hs) (rootOf w)) ∷ flush 0 ∷ replayTape hs same (rootOf w))
-          (All-append (Writable (length a)) (stageA a w) (logTape hs) before (log-fits (length a) hs lines fits))
-          (mark, (omega (arith, long), replay-fits (length a) long hs same (rootOf w) lines (logged-inside (pageCount a) hs (headers-ok a w s d))))
+          All-append (Writable (length a)) (stageA a w ++ logTape way hs) (store 0 (markBytes (length hs) (rootOf w)) ∷ flush 0 ∷ replayTape way hs same (rootOf w))
+          (All-append (Writable (length a)) (stageA a w) (logTape way hs) before (log-fits way (length a) hs lines fits))
+          (mark, (omega (arith, long), replay-fits way (length a) long hs same (rootOf w) lines (logged-inside (pageCount a) hs (headers-ok a w s d))))
 
-  pub taken-fits : All (Writable (length a)) (takenFor a w .tape)
-  unfolding takenFor choose byHeader byRoot
-  taken-fits = go (sameRoot a w) (changedPages a w) refl
+  pub taken-fits : All (Writable (length a)) (takenFor way a w .tape)
+  unfolding takenFor byHeader byRoot lineBy
+  taken-fits =
+      choose-all way (stageA a w) w (λ same ps t. changedPages a w ≡ ps → All (Writable (length a)) (t .tape))
+      (λ same e. All-append (Writable (length a)) (stageA a w) _ before (root-fits way (length a) long (rootOf w), (omega (arith, long), tt))) header (λ same p ps e. by-log same (p ∷ ps) e)
+      (sameRoot a w) (changedPages a w) refl
     where
-      go : (same : Bool) (ps : List ℕ) → changedPages a w ≡ ps → All (Writable (length a)) (choose (stageA a w) w same ps .tape)
-      go same [] e = All-append (Writable (length a)) (stageA a w) _ before (root-fits (length a) long (rootOf w), (omega (arith, long), tt))
-      go true (p ∷ []) e =
+      header : way ≡ ByLine → (p : ℕ) → changedPages a w ≡ p ∷ [] → All (Writable (length a)) (byHeader (stageA a w) w p .tape)
+      header line p e =
           let b : InBoth a w p = (subst (All (InBoth a w)) e (changed a w s d)) .0 in
           let q = isPage-true (pageCount a) p (b .page) in
-          All-append (Writable (length a)) (stageA a w) _ before (header-fits (length a) p (headerLine w p) (header-length a w s d p b) (q .1), (header-flush-fits (length a) p (q .1), tt))
-      go false (p ∷ []) e = by-log false (p ∷ []) e
-      go same (p ∷ q ∷ ps) e = by-log same (p ∷ q ∷ ps) e
+          All-append (Writable (length a)) (stageA a w) _ before (header-fits way (length a) ByLine p (headerLine w p) (header-length a w s d p b) (q .1) .0, (header-flush-fits way (length a) p (q .1), tt))
 
   -- the tape's bytes say its commands
-  pub taken-decode : decode (length a) (tapeBytes (takenFor a w .tape)) ≡ takenFor a w .tape
-  taken-decode = decode-whole (length a) (size a w s d .high) (takenFor a w .tape) taken-fits
+  pub taken-decode : decode (length a) (tapeBytes (takenFor way a w .tape)) ≡ takenFor way a w .tape
+  taken-decode = decode-whole (length a) (size a w s d .high) (takenFor way a w .tape) taken-fits
 
 -- ---- a recovery's tape
 
-module _ {t : List Rec} (img : List ℕ) (h : Holds t img) where
-  pub recovery-fits : All (Writable (length img)) (tapeOf img)
+module _ {t : List Rec} (way : Way) (img : List ℕ) (h : Holds t img) where
+  pub recovery-fits : All (Writable (length img)) (tapeOf way img)
   unfolding recoveryTape
   recovery-fits = go (cases img (h .isReplayable))
     where
-      go : Cases img → All (Writable (length img)) (tapeOf img)
-      go (inl e) = subst (All (Writable (length img))) (sym (e .1)) tt
+      go : Cases img → All (Writable (length img)) (tapeOf way img)
+      go (inl e) = subst (All (Writable (length img))) (sym (e .1 way)) tt
       go (inr (k, root, w)) =
-          subst (All (Writable (length img))) (sym (ap (recoveryTape img) (w .zero)))
-          (replay-fits (length img) (waits-long img k root w) (logged k img) (eqs (part img 8 8) (bytesOf 8 root)) root (logged-lines img k root w) (logged-pages img k root w))
+          subst (All (Writable (length img))) (sym (ap (recoveryTape way img) (w .zero)))
+          (replay-fits way (length img) (waits-long img k root w) (logged k img) (eqs (part img 8 8) (bytesOf 8 root)) root (logged-lines img k root w) (logged-pages img k root w))
 
-  pub recovery-decode : decode (length img) (tapeBytes (tapeOf img)) ≡ tapeOf img
-  recovery-decode = decode-whole (length img) (size-true (length img) (holds-size img h) .high) (tapeOf img) recovery-fits
+  pub recovery-decode : decode (length img) (tapeBytes (tapeOf way img)) ≡ tapeOf way img
+  recovery-decode = decode-whole (length img) (size-true (length img) (holds-size img h) .high) (tapeOf way img) recovery-fits

@@ -19,6 +19,7 @@ use Rattle.image.proofs.Soundness.{sound-facts}
 use Rattle.image.proofs.Frame.{frame}
 use Rattle.journal.specs.Recovery.{replayFrom, recoveryTape, replayable}
 use Rattle.journal.specs.Holds.{replay, Waits, tapeOf, Holds}
+use Rattle.journal.specs.declared.Way.{Way}
 use Rattle.journal.proofs.Standing.{Standing, length-replay, standing-waits, standing-replay}
 
 -- ---- an image with mark 0
@@ -29,9 +30,9 @@ module _ (a : List ℕ) (s : sound a ≡ true) where
   sound-replay = ap (replayFrom a) (sound-facts a s .zero)
 
   -- "Recovery with mark 0 gives no commands."
-  pub sound-tape : tapeOf a ≡ []
+  pub sound-tape : (way : Way) → tapeOf way a ≡ []
   unfolding recoveryTape
-  sound-tape = ap (recoveryTape a) (sound-facts a s .zero)
+  sound-tape way = ap (recoveryTape way a) (sound-facts a s .zero)
 
   pub holds-sound : Holds (table a) a
   unfolding replayable
@@ -52,7 +53,7 @@ holds-dead a b s l h =
 
 -- the mark is 0 or waits
 abbrev pub Cases : List ℕ → Type 0
-Cases img = ((replay img ≡ img) × (tapeOf img ≡ [])) ⊎ ((k : ℕ) × (root : ℕ) × Waits img k root)
+Cases img = ((replay img ≡ img) × ((way : Way) → tapeOf way img ≡ [])) ⊎ ((k : ℕ) × (root : ℕ) × Waits img k root)
 
 pub cases : (img : List ℕ) → replayable img (pageZero img) ≡ true → Cases img
 unfolding replayable replayFrom recoveryTape
@@ -61,7 +62,7 @@ cases img h = go (pageZero img) refl h
     go : (z : PageZero) → pageZero img ≡ z → replayable img z ≡ true → Cases img
     go Wrong e r = absurd (false≢true r)
     go (Waiting k root) e r = inr (k, root, record { zero = e; ok = r })
-    go (Ready root) e r = inl (ap (replayFrom img) e, ap (recoveryTape img) e)
+    go (Ready root) e r = inl (ap (replayFrom img) e, λ way. ap (recoveryTape way img) e)
 
 pub waits-replayable : (img : List ℕ) (k root : ℕ) → Waits img k root → replayable img (pageZero img) ≡ true
 unfolding replayable

@@ -1,7 +1,7 @@
+pub mod Ways
 pub mod Headers
 pub mod Standing
 pub mod Holds
-pub mod Ways
 pub mod Redo
 pub mod Replay
 pub mod StageA
@@ -9,6 +9,7 @@ pub mod Log
 pub mod Changed
 pub mod Crash
 pub mod Follows
+pub mod Chosen
 pub mod Edits
 pub mod OnePlace
 pub mod ByLog
@@ -17,3 +18,4 @@ pub mod Fitting
 pub mod Rising
 pub mod Order
 pub mod Stated
+pub mod Devices

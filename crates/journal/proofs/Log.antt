@@ -1,4 +1,4 @@
--- The log, for any number of headers by one argument: durable in itself, stored in its lines alone, and read back.
+-- The log, for any number of headers and either way to write a line by one argument: durable in itself, stored in its lines alone, and read back.
 -- Assumes nothing.
 use Prim.Native.Nat.{ℕ, suc, _+_, _*_, _≤_, _<_}
 use mathlib.Core.Path.{_≡_, refl, sym, ap, ap₂, _∙_}
@@ -11,34 +11,37 @@ use lib.Seq.{sets, length-sets}
 use Rattle.codec.specs.Lists.{part, splice, All}
 use Rattle.codec.proofs.Lists.{splice-sets, sets-append, sets-apart}
 use Rattle.codec.proofs.Agree.{part-sets, part-agree}
-use Rattle.device.specs.Cut.{after, lineOf, touches, Closed, Flushing, Writes}
-use Rattle.device.proofs.Clauses.{after-nil, after-store, touches-nil}
-use Rattle.device.proofs.Writing.{flushing-none, flushing-next, flushing-closed, flushing-touches, flushing-after, flushes-write, touches-out}
+use Rattle.device.specs.Cut.{after, touches, Closed, Flushing, Writes}
+use Rattle.device.proofs.Clauses.{after-nil, touches-nil}
+use Rattle.device.proofs.Cuts.{after-append}
+use Rattle.device.proofs.Writing.{flushing-none, flushing-closed, flushing-touches, flushing-after, flushes-write, touches-both}
 use Rattle.page.specs.Layout.{lineSize}
 use Rattle.image.proofs.General.{All-append}
+use Rattle.journal.specs.Way.{lineBy}
 use Rattle.journal.specs.Log.{logStores, logFlushes, logTape}
 use Rattle.journal.specs.Tape.{joinLines}
 use Rattle.journal.specs.Recovery.{linesFrom, logged}
+use Rattle.journal.specs.declared.Way.{Way}
+use Rattle.journal.proofs.Ways.{line-after, line-untouched, line-writes, line-flushing}
 use Rattle.journal.proofs.Headers.{Lines}
 
 -- ---- from line l on
 
-pub log-flushing : (l : ℕ) (hs : List (List ℕ)) → Flushing (logStores l hs) (logFlushes l hs)
+pub log-flushing : (way : Way) (l : ℕ) (hs : List (List ℕ)) → Flushing (logStores way l hs) (logFlushes l hs)
 unfolding logStores logFlushes
-log-flushing l [] = flushing-none
-log-flushing l (h ∷ hs) =
-    let line : lineOf (lineSize * l) ≡ l = omega arith in
-    flushing-next (lineSize * l) h l (logStores (suc l) hs) (logFlushes (suc l) hs) line (log-flushing (suc l) hs)
+log-flushing way l [] = flushing-none
+log-flushing way l (h ∷ hs) = line-flushing way (lineSize * l) h l (logStores way (suc l) hs) (logFlushes (suc l) hs) refl (log-flushing way (suc l) hs)
 
 pub length-join : (hs : List (List ℕ)) → Lines hs → length (joinLines hs) ≡ lineSize * length hs
 unfolding joinLines
 length-join [] k = refl
 length-join (h ∷ hs) k = length-append h (joinLines hs) ∙ omega (arith, k .0, length-join hs (k .1))
 
-stores-touch : (l : ℕ) (hs : List (List ℕ)) (i : ℕ) → Lines hs → (i < lineSize * l) ⊎ (lineSize * (l + length hs) ≤ i) → touches (logStores l hs) i ≡ false
+stores-touch : (way : Way) (l : ℕ) (hs : List (List ℕ)) (i : ℕ) → Lines hs → (i < lineSize * l) ⊎ (lineSize * (l + length hs) ≤ i) → touches (logStores way l hs) i ≡ false
 unfolding logStores
-stores-touch l [] i k o = touches-nil i
-stores-touch l (h ∷ hs) i k o = touches-out (lineSize * l) h (logStores (suc l) hs) i (here o) (stores-touch (suc l) hs i (k .1) (there o))
+stores-touch way l [] i k o = touches-nil i
+stores-touch way l (h ∷ hs) i k o =
+    touches-both (lineBy way (lineSize * l) h) (logStores way (suc l) hs) i (line-untouched (lineSize * l) h (k .0) way i (here o)) (stores-touch way (suc l) hs i (k .1) (there o))
   where
     here : (i < lineSize * l) ⊎ (lineSize * (l + suc (length hs)) ≤ i) → (i < lineSize * l) ⊎ (lineSize * l + length h ≤ i)
     here (inl q) = inl q
@@ -54,11 +57,14 @@ next-line l h e = omega arith
 stores-join : (a : List ℕ) (l : ℕ) (h : List ℕ) (vs : List ℕ) → length h ≡ lineSize → sets (sets a (lineSize * l) h) (lineSize * suc l) vs ≡ sets a (lineSize * l) (h ++ vs)
 stores-join a l h vs e = ap (λ (o : ℕ). sets (sets a (lineSize * l) h) o vs) (sym (next-line l h e)) ∙ sets-append a (lineSize * l) h vs
 
-stores-after : (l : ℕ) (hs : List (List ℕ)) (a : List ℕ) → Lines hs → after a (logStores l hs) ≡ sets a (lineSize * l) (joinLines hs)
+stores-after : (way : Way) (l : ℕ) (hs : List (List ℕ)) (a : List ℕ) → Lines hs → after a (logStores way l hs) ≡ sets a (lineSize * l) (joinLines hs)
 unfolding logStores joinLines
-stores-after l [] a k = after-nil a
-stores-after l (h ∷ hs) a k =
-    after-store (lineSize * l) h (logStores (suc l) hs) a ∙ stores-after (suc l) hs (sets a (lineSize * l) h) (k .1) ∙ stores-join a l h (joinLines hs) (k .0)
+stores-after way l [] a k = after-nil a
+stores-after way l (h ∷ hs) a k =
+    after-append a (lineBy way (lineSize * l) h) (logStores way (suc l) hs)
+    ∙ ap (λ (b : List ℕ). after b (logStores way (suc l) hs)) (line-after (lineSize * l) h (k .0) way a)
+    ∙ stores-after way (suc l) hs (sets a (lineSize * l) h) (k .1)
+    ∙ stores-join a l h (joinLines hs) (k .0)
 
 lines-read : (l : ℕ) (hs : List (List ℕ)) (a : List ℕ) → Lines hs → lineSize * (l + length hs) ≤ length a → linesFrom (length hs) l (sets a (lineSize * l) (joinLines hs)) ≡ hs
 unfolding linesFrom joinLines
@@ -74,42 +80,43 @@ lines-read l (h ∷ hs) a k fits =
     ∙ ap₂ (λ (x : List ℕ) (xs : List (List ℕ)). x ∷ xs) first (lines-read (suc l) hs b (k .1) (omega arith))
 
 -- lines that read back in an image are stores of what stands in it
-stores-write : (l : ℕ) (hs : List (List ℕ)) (b : List ℕ) → Lines hs → lineSize * (l + length hs) ≤ length b → linesFrom (length hs) l b ≡ hs → All (Writes b) (logStores l hs)
+stores-write : (way : Way) (l : ℕ) (hs : List (List ℕ)) (b : List ℕ) → Lines hs → lineSize * (l + length hs) ≤ length b → linesFrom (length hs) l b ≡ hs → All (Writes b) (logStores way l hs)
 unfolding linesFrom logStores
-stores-write l [] b k fits e = tt
-stores-write l (h ∷ hs) b k fits e =
+stores-write way l [] b k fits e = tt
+stores-write way l (h ∷ hs) b k fits e =
     let first : part b (lineSize * l) lineSize ≡ h = cc in
     let rest : linesFrom (length hs) (suc l) b ≡ hs = cc in
-    ((omega (arith, k .0), ap (part b (lineSize * l)) (k .0) ∙ first), stores-write (suc l) hs b (k .1) (omega arith) rest)
+    All-append (Writes b) (lineBy way (lineSize * l) h) (logStores way (suc l) hs)
+    (line-writes (lineSize * l) h (k .0) way b (omega (arith, k .0), ap (part b (lineSize * l)) (k .0) ∙ first)) (stores-write way (suc l) hs b (k .1) (omega arith) rest)
 
 -- ---- the log
 
-module _ (hs : List (List ℕ)) where
-  pub log-closed : Closed (logTape hs)
+module _ (way : Way) (hs : List (List ℕ)) where
+  pub log-closed : Closed (logTape way hs)
   unfolding logTape
-  log-closed = flushing-closed (logStores 1 hs) (logFlushes 1 hs) (log-flushing 1 hs)
+  log-closed = flushing-closed (logStores way 1 hs) (logFlushes 1 hs) (log-flushing way 1 hs)
 
   module _ (lines : Lines hs) where
     -- only its lines are touched
-    pub log-touches : (i : ℕ) → (i < lineSize) ⊎ (lineSize * (1 + length hs) ≤ i) → touches (logTape hs) i ≡ false
+    pub log-touches : (i : ℕ) → (i < lineSize) ⊎ (lineSize * (1 + length hs) ≤ i) → touches (logTape way hs) i ≡ false
     unfolding logTape
-    log-touches i o = flushing-touches (logStores 1 hs) (logFlushes 1 hs) (log-flushing 1 hs) i ∙ stores-touch 1 hs i lines o
+    log-touches i o = flushing-touches (logStores way 1 hs) (logFlushes 1 hs) (log-flushing way 1 hs) i ∙ stores-touch way 1 hs i lines o
 
     module _ (a : List ℕ) (fits : lineSize * (1 + length hs) ≤ length a) where
-      pub log-after : after a (logTape hs) ≡ splice a lineSize (joinLines hs)
+      pub log-after : after a (logTape way hs) ≡ splice a lineSize (joinLines hs)
       unfolding logTape
       log-after =
-          flushing-after (logStores 1 hs) (logFlushes 1 hs) (log-flushing 1 hs) a
-          ∙ stores-after 1 hs a lines
+          flushing-after (logStores way 1 hs) (logFlushes 1 hs) (log-flushing way 1 hs) a
+          ∙ stores-after way 1 hs a lines
           ∙ sym (splice-sets a lineSize (joinLines hs) (omega (arith, length-join hs lines)))
 
       -- the logged headers are read back
-      pub log-read : logged (length hs) (after a (logTape hs)) ≡ hs
+      pub log-read : logged (length hs) (after a (logTape way hs)) ≡ hs
       unfolding logged logTape
       log-read =
-          ap (linesFrom (length hs) 1) (flushing-after (logStores 1 hs) (logFlushes 1 hs) (log-flushing 1 hs) a ∙ stores-after 1 hs a lines) ∙ lines-read 1 hs a lines fits
+          ap (linesFrom (length hs) 1) (flushing-after (logStores way 1 hs) (logFlushes 1 hs) (log-flushing way 1 hs) a ∙ stores-after way 1 hs a lines) ∙ lines-read 1 hs a lines fits
 
-    pub log-writes : (b : List ℕ) → lineSize * (1 + length hs) ≤ length b → logged (length hs) b ≡ hs → All (Writes b) (logTape hs)
+    pub log-writes : (b : List ℕ) → lineSize * (1 + length hs) ≤ length b → logged (length hs) b ≡ hs → All (Writes b) (logTape way hs)
     unfolding logTape logged
     log-writes b fits e =
-        All-append (Writes b) (logStores 1 hs) (logFlushes 1 hs) (stores-write 1 hs b lines fits e) (flushes-write b (logFlushes 1 hs) (log-flushing 1 hs .flushes))
+        All-append (Writes b) (logStores way 1 hs) (logFlushes 1 hs) (stores-write way 1 hs b lines fits e) (flushes-write b (logFlushes 1 hs) (log-flushing way 1 hs .flushes))

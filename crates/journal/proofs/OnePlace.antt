@@ -23,11 +23,13 @@ use Rattle.image.specs.Image.{sound}
 use Rattle.image.specs.Table.{table}
 use Rattle.image.proofs.General.{All-append}
 use Rattle.journal.specs.Changes.{stageA, headerLine, changedPages, sameRoot}
+use Rattle.journal.specs.Way.{lineBy}
 use Rattle.journal.specs.Log.{headerStores}
 use Rattle.journal.specs.Tape.{Taken, newHeaders, byHeader, byRoot}
 use Rattle.journal.specs.Edited.{Edited}
 use Rattle.journal.specs.Commit.{commitStore, commitLine, Names}
 use Rattle.journal.specs.Safe as safe
+use Rattle.journal.specs.declared.Way.the-variants.{ByLine}
 use Rattle.journal.proofs.Standing.{line-root}
 use Rattle.journal.proofs.StageA.{stageA-closed, stageA-writes, stageA-dead}
 use Rattle.journal.proofs.Follows.{Follows}
@@ -42,7 +44,7 @@ module _ (a w : List ℕ) (s : sound a ≡ true) (d : Edited a w) where
       (omega (arith, n, d .sameLength, size a w s d .low), ap (part w 8) n ∙ line-root w noMark (rootOf w) (line-w a w s d))
 
   -- a and w agree where neither stage A nor a header is stored, if the root word does not differ
-  pub agree-same : sameRoot a w ≡ true → (i : ℕ) → touches (stageA a w) i ≡ false → touches (headerStores (newHeaders w (changedPages a w))) i ≡ false → getD a i 0 ≡ getD w i 0
+  pub agree-same : sameRoot a w ≡ true → (i : ℕ) → touches (stageA a w) i ≡ false → touches (headerStores ByLine (newHeaders w (changedPages a w))) i ≡ false → getD a i 0 ≡ getD w i 0
   unfolding sameRoot
   agree-same e i t u = go (decLt i 8) (decLe 16 i)
     where
@@ -94,10 +96,10 @@ module _ (a w : List ℕ) (s : sound a ≡ true) (d : Edited a w) where
       one-follows 8 (bytesOf 8 (rootOf w)) root-write alike (byRoot (stageA a w) w) refl refl refl refl refl (inr (refl, length-bytesOf 8 (rootOf w))) none
     where
       alike : (i : ℕ) → touches (stageA a w) i ≡ false → (i < 8) ⊎ (8 + length (bytesOf 8 (rootOf w)) ≤ i) → getD a i 0 ≡ getD w i 0
-      alike i t o = agree a w s d i (rw (length-bytesOf 8 (rootOf w)) at o) t (ap (λ (qs : List ℕ). touches (headerStores (newHeaders w qs)) i) none ∙ touches-nil i)
+      alike i t o = agree a w s d i (rw (length-bytesOf 8 (rootOf w)) at o) t (ap (λ (qs : List ℕ). touches (headerStores ByLine (newHeaders w qs)) i) none ∙ touches-nil i)
 
   pub header-follows : (p : ℕ) → changedPages a w ≡ p ∷ [] → sameRoot a w ≡ true → Follows a w (byHeader (stageA a w) w p)
-  unfolding byHeader commitStore commitLine headerStores
+  unfolding byHeader commitStore commitLine headerStores lineBy
   header-follows p one same =
       one-follows (pageSize * p) (headerLine w p) (header-write a w s d p stays) alike (byHeader (stageA a w) w p) refl refl refl refl (omega arith)
       (inl (p, stays .was, refl, header-length a w s d p stays)) (one, same)
@@ -105,8 +107,8 @@ module _ (a w : List ℕ) (s : sound a ≡ true) (d : Edited a w) where
       stays : InBoth a w p
       stays = (subst (All (InBoth a w)) one (changed a w s d)) .0
 
-      stores-is : headerStores (newHeaders w (changedPages a w)) ≡ store (pageSize * p) (headerLine w p) ∷ []
-      stores-is = ap (λ (qs : List ℕ). headerStores (newHeaders w qs)) one ∙ ap (λ (q : ℕ). store (pageSize * q) (headerLine w p) ∷ []) (header-own a w s d p stays)
+      stores-is : headerStores ByLine (newHeaders w (changedPages a w)) ≡ store (pageSize * p) (headerLine w p) ∷ []
+      stores-is = ap (λ (qs : List ℕ). headerStores ByLine (newHeaders w qs)) one ∙ ap (λ (q : ℕ). store (pageSize * q) (headerLine w p) ∷ []) (header-own a w s d p stays)
 
       alike : (i : ℕ) → touches (stageA a w) i ≡ false → (i < pageSize * p) ⊎ (pageSize * p + length (headerLine w p) ≤ i) → getD a i 0 ≡ getD w i 0
       alike i t o = agree-same same i t (ap (λ (cs : List Op). touches cs i) stores-is ∙ touches-out (pageSize * p) (headerLine w p) [] i o (touches-nil i))

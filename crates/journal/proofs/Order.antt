@@ -1,103 +1,91 @@
--- The order of the line stores on a transaction's tape: log lines 1 to k, which take the new headers, and then the headers by rising page.
+-- The order of the stores past stage A on a transaction's tape: log lines 1 to k, which take the new headers, and then the headers by rising
+-- page, each by one store or by its words, rising.
 -- Assumes nothing.
-use Prim.Native.Nat.{ℕ, suc, _+_, _*_, _/_, _≤_}
+use Prim.Native.Nat.{ℕ, suc, _+_, _*_, _≤_, _<_}
 use mathlib.Core.Path.{_≡_, refl, sym, ap, _∙_, subst}
 use mathlib.Core.Bool.{Bool, true, false}
 use mathlib.Core.List.{List, [], _∷_, _++_, append-assoc}
 use native.Mathlib.Omega.{arith}
 use lib.ListN.{length, length-map}
-use borrow.Author.Tests.{leb-true, eq-eqb, ne-eqb}
+use borrow.Author.Tests.{leb-true, lt-leb}
 use Rattle.codec.specs.Lists.{splice, All}
 use Rattle.codec.specs.Numbers.{bytesOf}
-use Rattle.codec.proofs.Numbers.{length-bytesOf}
-use Rattle.codec.proofs.Agree.{length-part-le}
 use Rattle.device.specs.Tape.{Op, store, flush, malformed}
 use Rattle.device.specs.Cut.{IsFlush}
 use Rattle.page.specs.Layout.{pageSize, lineSize}
 use Rattle.image.specs.PageZero.{rootOf, logMost, markBytes, noMark}
-use Rattle.image.specs.Image.{reached, sound}
-use Rattle.journal.specs.Changes.{wordSize, wordStores, flushesOf, stageA, headerLine, changedPages, sameRoot}
+use Rattle.image.specs.Image.{sound}
+use Rattle.journal.specs.Changes.{stageA, headerLine, changedPages, sameRoot}
+use Rattle.journal.specs.Way.{lineBy}
 use Rattle.journal.specs.Log.{pageLines, ownPage, logStores, logFlushes, logTape, headerStores, headerFlushes, ending, replayTape}
-use Rattle.journal.specs.Tape.{newHeaders, joinLines, byHeader, byRoot, byLog, choose, roomInLog, takenFor}
+use Rattle.journal.specs.Tape.{newHeaders, joinLines, byHeader, byRoot, byLog, roomInLog, takenFor}
 use Rattle.journal.specs.Recovery.{logged}
 use Rattle.journal.specs.Edited.{Edited}
-use Rattle.journal.specs.Order.{RisesFrom, Rises, lineStores}
+use Rattle.journal.specs.Order.{RisesFrom, Rises, placesPast}
+use Rattle.journal.specs.declared.Way.{Way}
+use Rattle.journal.specs.declared.Way.the-variants.{ByLine}
 use Rattle.journal.specs.declared.CommitPlace.the-variants.{Log}
+use Rattle.journal.proofs.Ways.{rises-lower, line-rises}
 use Rattle.journal.proofs.Headers.{Lines, header-flushing}
-use Rattle.journal.proofs.Standing.{length-noMark, length-mark}
-use Rattle.journal.proofs.StageA.{flushing-of, wordAt, walk-all}
 use Rattle.journal.proofs.Log.{log-flushing, log-after, log-read}
+use Rattle.journal.proofs.Chosen.{choose-all}
 use Rattle.journal.proofs.Changed.{InBoth}
-use Rattle.journal.proofs.Edits.{size, changed, header-own, header-length, headers-lines}
-use Rattle.journal.proofs.Rising.{rises-lower, from-one}
+use Rattle.journal.proofs.Edits.{size, changed, header-own, headers-lines}
+use Rattle.journal.proofs.Rising.{from-one}
 
--- ---- the line stores of a list of commands
+-- ---- the places past line 0
 
-module _ (p : ℕ) (vs : List ℕ) (rest : List Op) where
-  line-store : length vs ≡ lineSize → lineStores (store p vs ∷ rest) ≡ p ∷ lineStores rest
-  unfolding lineStores
-  line-store e = rw (eq-eqb (length vs) lineSize e)
+-- a store to line 0
+place-near : (p : ℕ) (vs : List ℕ) (rest : List Op) → p < lineSize → placesPast (store p vs ∷ rest) ≡ placesPast rest
+unfolding placesPast
+place-near p vs rest h = rw (lt-leb lineSize p h)
 
-  word-store : length vs ≤ wordSize → lineStores (store p vs ∷ rest) ≡ lineStores rest
-  unfolding lineStores
-  word-store h = rw (ne-eqb (length vs) lineSize (λ e. omega arith))
+past-flushes : (ys rest : List Op) → All IsFlush ys → placesPast (ys ++ rest) ≡ placesPast rest
+unfolding placesPast
+past-flushes [] rest h = refl
+past-flushes (store p vs ∷ ys) rest h = absurd (h .0)
+past-flushes (flush l ∷ ys) rest h = past-flushes ys rest (h .1)
+past-flushes (malformed ∷ ys) rest h = absurd (h .0)
 
-line-flushes : (ys rest : List Op) → All IsFlush ys → lineStores (ys ++ rest) ≡ lineStores rest
-unfolding lineStores
-line-flushes [] rest h = refl
-line-flushes (store p vs ∷ ys) rest h = absurd (h .0)
-line-flushes (flush l ∷ ys) rest h = line-flushes ys rest (h .1)
-line-flushes (malformed ∷ ys) rest h = absurd (h .0)
-
--- ---- stage A stores no line
-
-module _ (a w : List ℕ) where
-  abbrev stores : List Op
-  stores = wordStores (reached a (rootOf a)) (length a / wordSize) 0 a w
-
-  stores-line : (rest : List Op) → lineStores (stores ++ rest) ≡ lineStores rest
-  stores-line rest =
-      walk-all (reached a (rootOf a)) a w (λ n k cs. lineStores (cs ++ rest) ≡ lineStores rest) (λ k. refl) (λ n k cs q h. h)
-      (λ n k cs free differ h. word-store (wordSize * k) (wordAt w k) (cs ++ rest) (length-part-le w (wordSize * k) wordSize) ∙ h) (length a / wordSize) 0
-
-  stageA-lines : (rest : List Op) → lineStores (stageA a w ++ rest) ≡ lineStores rest
-  unfolding stageA
-  stageA-lines rest = ap lineStores (append-assoc stores (flushesOf stores) rest) ∙ stores-line (flushesOf stores ++ rest) ∙ line-flushes (flushesOf stores) rest (flushing-of stores .flushes)
-
--- ---- the log and the headers, with what follows them
-
-log-rises : (l : ℕ) (hs : List (List ℕ)) (rest : List Op) → Lines hs → RisesFrom (lineSize * (l + length hs)) (lineStores rest) → RisesFrom (lineSize * l) (lineStores (logStores l hs ++ rest))
-unfolding logStores
-log-rises l [] rest k r = rises-lower (lineSize * l) (lineSize * (l + 0)) (lineStores rest) (omega arith) r
-log-rises l (h ∷ hs) rest k r =
-    let next = logStores (suc l) hs ++ rest in
-    let ih = log-rises (suc l) hs rest (k .1) (rises-lower (lineSize * (suc l + length hs)) (lineSize * (l + suc (length hs))) (lineStores rest) (omega arith) r) in
-    subst (RisesFrom (lineSize * l)) (sym (line-store (lineSize * l) h next (k .0)))
-    (omega arith, rises-lower (suc (lineSize * l)) (lineSize * suc l) (lineStores next) (omega arith) ih)
-
-ending-lines : (same : Bool) (root : ℕ) → lineStores (ending same root) ≡ []
-unfolding ending lineStores
-ending-lines same root = go same
+ending-near : (same : Bool) (root : ℕ) → placesPast (ending same root) ≡ []
+unfolding ending placesPast
+ending-near same root = go same
   where
-    cleared : lineStores (store 0 noMark ∷ flush 0 ∷ []) ≡ []
-    cleared = word-store 0 noMark (flush 0 ∷ []) (omega (arith, length-noMark))
+    cleared : placesPast (store 0 noMark ∷ flush 0 ∷ []) ≡ []
+    cleared = place-near 0 noMark (flush 0 ∷ []) (omega arith)
 
-    go : (same : Bool) → lineStores (ending same root) ≡ []
+    go : (same : Bool) → placesPast (ending same root) ≡ []
     go true = cleared
-    go false = word-store 8 (bytesOf 8 root) (store 0 noMark ∷ flush 0 ∷ []) (omega (arith, length-bytesOf 8 root)) ∙ cleared
+    go false = place-near 8 (bytesOf 8 root) (store 0 noMark ∷ flush 0 ∷ []) (omega arith) ∙ cleared
+
+-- ---- the log, with what follows it
+
+log-rises : (way : Way) (l : ℕ) (hs : List (List ℕ)) (rest : List Op) → 1 ≤ l → RisesFrom (lineSize * (l + length hs)) (placesPast rest) →
+    RisesFrom (lineSize * l) (placesPast (logStores way l hs ++ rest))
+unfolding logStores
+log-rises way l [] rest some r = rises-lower (lineSize * l) (lineSize * (l + 0)) (placesPast rest) (omega arith) r
+log-rises way l (h ∷ hs) rest some r =
+    let p = lineSize * l in
+    let next = logStores way (suc l) hs ++ rest in
+    let ih = log-rises way (suc l) hs rest (omega arith) (rises-lower (lineSize * (suc l + length hs)) (lineSize * (l + suc (length hs))) (placesPast rest) (omega arith) r) in
+    subst (λ (cs : List Op). RisesFrom p (placesPast cs)) (sym (append-assoc (lineBy way p h) (logStores way (suc l) hs) rest))
+    (line-rises p h way p next (omega arith) (omega arith) (rises-lower (p + lineSize) (lineSize * suc l) (placesPast next) (omega arith) ih))
 
 -- ---- the tape
 
-module _ (a w : List ℕ) (s : sound a ≡ true) (d : Edited a w) (room : roomInLog (changedPages a w) ≡ true) where
-  headers-rise : (low : ℕ) (qs : List ℕ) (rest : List Op) → All (InBoth a w) qs → RisesFrom low qs → lineStores rest ≡ [] → RisesFrom (pageSize * low) (lineStores (headerStores (newHeaders w qs) ++ rest))
+module _ (way : Way) (a w : List ℕ) (s : sound a ≡ true) (d : Edited a w) (room : roomInLog (changedPages a w) ≡ true) where
+  headers-rise : (low : ℕ) (qs : List ℕ) (rest : List Op) → 1 ≤ low → All (InBoth a w) qs → RisesFrom low qs → placesPast rest ≡ [] →
+      RisesFrom (pageSize * low) (placesPast (headerStores way (newHeaders w qs) ++ rest))
   unfolding headerStores
-  headers-rise low [] rest h r e = subst (RisesFrom (pageSize * low)) (sym e) tt
-  headers-rise low (q ∷ qs) rest h r e =
+  headers-rise low [] rest some h r e = subst (RisesFrom (pageSize * low)) (sym e) tt
+  headers-rise low (q ∷ qs) rest some h r e =
       let own = header-own a w s d q (h .0) in
-      let p = pageSize * ownPage (headerLine w q) in
-      let next = headerStores (newHeaders w qs) ++ rest in
-      subst (RisesFrom (pageSize * low)) (sym (line-store p (headerLine w q) next (header-length a w s d q (h .0))))
-      (omega (arith, own, r .0), rises-lower (suc p) (pageSize * suc q) (lineStores next) (omega (arith, own)) (headers-rise (suc q) qs rest (h .1) (r .1) e))
+      let line = headerLine w q in
+      let p = pageSize * ownPage line in
+      let next = headerStores way (newHeaders w qs) ++ rest in
+      subst (λ (cs : List Op). RisesFrom (pageSize * low) (placesPast cs)) (sym (append-assoc (lineBy way p line) (headerStores way (newHeaders w qs)) rest))
+      (line-rises p line way (pageSize * low) next (omega (arith, own, r .0)) (omega (arith, own, r .0))
+      (rises-lower (p + lineSize) (pageSize * suc q) (placesPast next) (omega (arith, own)) (headers-rise (suc q) qs rest (omega arith) (h .1) (r .1) e)))
 
   abbrev new : List (List ℕ)
   new = newHeaders w (changedPages a w)
@@ -110,54 +98,57 @@ module _ (a w : List ℕ) (s : sound a ≡ true) (d : Edited a w) (room : roomIn
   unfolding roomInLog
   log-inside = omega (arith, length-map (changedPages a w) (headerLine w), leb-true (length (changedPages a w)) logMost room)
 
-  replay-rises : (same : Bool) → RisesFrom pageSize (lineStores (replayTape new same (rootOf w)))
+  replay-rises : (same : Bool) → RisesFrom pageSize (placesPast (replayTape way new same (rootOf w)))
   unfolding replayTape
   replay-rises same =
-      headers-rise 1 (changedPages a w) (headerFlushes new ++ ending same (rootOf w)) (changed a w s d) (from-one a w)
-      (line-flushes (headerFlushes new) (ending same (rootOf w)) (header-flushing new .flushes) ∙ ending-lines same (rootOf w))
+      headers-rise 1 (changedPages a w) (headerFlushes new ++ ending same (rootOf w)) (omega arith) (changed a w s d) (from-one a w)
+      (past-flushes (headerFlushes new) (ending same (rootOf w)) (header-flushing way new .flushes) ∙ ending-near same (rootOf w))
 
-  log-tape : (rest : List Op) → RisesFrom pageSize (lineStores rest) → RisesFrom lineSize (lineStores ((stageA a w ++ logTape new) ++ rest))
+  log-tape : (rest : List Op) → RisesFrom pageSize (placesPast rest) → RisesFrom lineSize (placesPast (logTape way new ++ rest))
   unfolding logTape
   log-tape rest r =
-      let L = logStores 1 new in
+      let L = logStores way 1 new in
       let F = logFlushes 1 new in
-      subst (RisesFrom lineSize) (sym (ap lineStores (append-assoc (stageA a w) (L ++ F) rest ∙ ap (λ (cs : List Op). stageA a w ++ cs) (append-assoc L F rest)) ∙ stageA-lines a w (L ++ (F ++ rest))))
-      (log-rises 1 new (F ++ rest) lines
-      (subst (RisesFrom (lineSize * (1 + length new))) (sym (line-flushes F rest (log-flushing 1 new .flushes))) (rises-lower (lineSize * (1 + length new)) pageSize (lineStores rest) log-inside r)))
+      subst (λ (cs : List Op). RisesFrom lineSize (placesPast cs)) (sym (append-assoc L F rest))
+      (log-rises way 1 new (F ++ rest) (omega arith)
+      (subst (RisesFrom (lineSize * (1 + length new))) (sym (past-flushes F rest (log-flushing way 1 new .flushes))) (rises-lower (lineSize * (1 + length new)) pageSize (placesPast rest) log-inside r)))
 
-  by-log : (same : Bool) (ps : List ℕ) → changedPages a w ≡ ps → Rises (lineStores (byLog (stageA a w) w same (newHeaders w ps) .tape))
-  unfolding byLog lineStores
-  by-log same ps e = subst (λ (qs : List ℕ). Rises (lineStores (byLog (stageA a w) w same (newHeaders w qs) .tape))) e go
+  -- stage A first; past it, the stores beyond line 0 rise
+  abbrev Ordered : List Op → Type 0
+  Ordered cs = (rest : List Op) × (cs ≡ stageA a w ++ rest) × Rises (placesPast rest)
+
+  by-log : (same : Bool) (ps : List ℕ) → changedPages a w ≡ ps → Ordered (byLog way (stageA a w) w same (newHeaders w ps) .tape)
+  unfolding byLog placesPast
+  by-log same ps e = subst (λ (qs : List ℕ). Ordered (byLog way (stageA a w) w same (newHeaders w qs) .tape)) e (logTape way new ++ (store 0 mark ∷ T), append-assoc (stageA a w) (logTape way new) (store 0 mark ∷ T), go)
     where
       T : List Op
-      T = flush 0 ∷ replayTape new same (rootOf w)
+      T = flush 0 ∷ replayTape way new same (rootOf w)
 
       mark : List ℕ
       mark = markBytes (length new) (rootOf w)
 
-      all : List ℕ
-      all = lineStores ((stageA a w ++ logTape new) ++ (store 0 mark ∷ T))
-
-      go : Rises all
+      go : Rises (placesPast (logTape way new ++ (store 0 mark ∷ T)))
       go =
-          rises-lower 0 lineSize all (omega arith)
-          (log-tape (store 0 mark ∷ T) (subst (RisesFrom pageSize) (sym (word-store 0 mark T (omega (arith, length-mark (length new) (rootOf w))))) (replay-rises same)))
+          rises-lower 0 lineSize (placesPast (logTape way new ++ (store 0 mark ∷ T))) (omega arith)
+          (log-tape (store 0 mark ∷ T) (subst (RisesFrom pageSize) (sym (place-near 0 mark T (omega arith))) (replay-rises same)))
 
   -- log lines 1 to k, then the headers by rising page
-  pub lines-rising : Rises (lineStores (takenFor a w .tape))
-  unfolding takenFor choose byHeader byRoot lineStores
-  lines-rising = go (sameRoot a w) (changedPages a w) refl
+  pub lines-rising : Ordered (takenFor way a w .tape)
+  unfolding takenFor byHeader byRoot placesPast lineBy
+  lines-rising =
+      choose-all way (stageA a w) w (λ same ps t. changedPages a w ≡ ps → Ordered (t .tape)) (λ same e. (store 8 (bytesOf 8 (rootOf w)) ∷ flush 0 ∷ [], refl, root)) header (λ same p ps e. by-log same (p ∷ ps) e)
+      (sameRoot a w) (changedPages a w) refl
     where
-      go : (same : Bool) (ps : List ℕ) → changedPages a w ≡ ps → Rises (lineStores (choose (stageA a w) w same ps .tape))
-      go same [] e = subst Rises (sym (stageA-lines a w (store 8 (bytesOf 8 (rootOf w)) ∷ flush 0 ∷ []) ∙ word-store 8 (bytesOf 8 (rootOf w)) (flush 0 ∷ []) (omega (arith, length-bytesOf 8 (rootOf w))))) tt
-      go true (p ∷ []) e =
-          let b : InBoth a w p = (subst (All (InBoth a w)) e (changed a w s d)) .0 in
-          let ends = flush (pageLines * p) ∷ [] in
-          subst Rises (sym (stageA-lines a w (store (pageSize * p) (headerLine w p) ∷ ends) ∙ line-store (pageSize * p) (headerLine w p) ends (header-length a w s d p b))) (omega arith, tt)
-      go false (p ∷ []) e = by-log false (p ∷ []) e
-      go same (p ∷ q ∷ ps) e = by-log same (p ∷ q ∷ ps) e
+      root : Rises (placesPast (store 8 (bytesOf 8 (rootOf w)) ∷ flush 0 ∷ []))
+      root = subst Rises (sym (place-near 8 (bytesOf 8 (rootOf w)) (flush 0 ∷ []) (omega arith))) tt
 
-  log-work : (same : Bool) (ps : List ℕ) → changedPages a w ≡ ps → logged (length ps) (byLog (stageA a w) w same (newHeaders w ps) .work) ≡ newHeaders w ps
+      header : way ≡ ByLine → (p : ℕ) → changedPages a w ≡ p ∷ [] → Ordered (byHeader (stageA a w) w p .tape)
+      header line p e =
+          let ends = flush (pageLines * p) ∷ [] in
+          let past = (subst (RisesFrom 1) e (from-one a w)) .0 in
+          (store (pageSize * p) (headerLine w p) ∷ ends, refl, line-rises (pageSize * p) (headerLine w p) ByLine 0 ends (omega arith) (omega arith) tt)
+
+  log-work : (same : Bool) (ps : List ℕ) → changedPages a w ≡ ps → logged (length ps) (byLog way (stageA a w) w same (newHeaders w ps) .work) ≡ newHeaders w ps
   unfolding byLog
   log-work same ps e = subst (λ (qs : List ℕ). logged (length qs) (splice w lineSize (joinLines (newHeaders w qs))) ≡ newHeaders w qs) e go
     where
@@ -167,16 +158,13 @@ module _ (a w : List ℕ) (s : sound a ≡ true) (d : Edited a w) (room : roomIn
       go : logged (length (changedPages a w)) (splice w lineSize (joinLines new)) ≡ new
       go =
           ap (λ (n : ℕ). logged n (splice w lineSize (joinLines new))) (sym (length-map (changedPages a w) (headerLine w)))
-          ∙ ap (logged (length new)) (sym (log-after new lines w fits))
-          ∙ log-read new lines w fits
+          ∙ ap (logged (length new)) (sym (log-after way new lines w fits))
+          ∙ log-read way new lines w fits
 
   -- "log lines 1 to k take the new headers by rising page"
-  pub log-holds : takenFor a w .place ≡ Log → logged (length (changedPages a w)) (takenFor a w .work) ≡ newHeaders w (changedPages a w)
-  unfolding takenFor choose byHeader byRoot
-  log-holds = go (sameRoot a w) (changedPages a w) refl
-    where
-      go : (same : Bool) (ps : List ℕ) → changedPages a w ≡ ps → choose (stageA a w) w same ps .place ≡ Log → logged (length ps) (choose (stageA a w) w same ps .work) ≡ newHeaders w ps
-      go same [] e l = let z : _≡_ {A = ℕ} 0 1 = cc in absurd (omega arith)
-      go true (p ∷ []) e l = let z : _≡_ {A = ℕ} 0 1 = cc in absurd (omega arith)
-      go false (p ∷ []) e l = log-work false (p ∷ []) e
-      go same (p ∷ q ∷ ps) e l = log-work same (p ∷ q ∷ ps) e
+  pub log-holds : takenFor way a w .place ≡ Log → logged (length (changedPages a w)) (takenFor way a w .work) ≡ newHeaders w (changedPages a w)
+  unfolding takenFor byHeader byRoot
+  log-holds =
+      choose-all way (stageA a w) w (λ same ps t. changedPages a w ≡ ps → t .place ≡ Log → logged (length ps) (t .work) ≡ newHeaders w ps)
+      (λ same e l. let z : _≡_ {A = ℕ} 0 1 = cc in absurd (omega arith)) (λ line p e l. let z : _≡_ {A = ℕ} 0 1 = cc in absurd (omega arith)) (λ same p ps e l. log-work same (p ∷ ps) e)
+      (sameRoot a w) (changedPages a w) refl

@@ -29,9 +29,10 @@ use Rattle.journal.specs.Log.{headerStores, endStores}
 use Rattle.journal.specs.Recovery.{logged, rootIs}
 use Rattle.journal.specs.Holds.{replay, Waits, Holds}
 use Rattle.journal.specs.Safe.{Redo}
+use Rattle.journal.specs.declared.Way.the-variants.{ByLine}
 use Rattle.journal.proofs.Standing.{Standing, end-sets, waits-long, logged-lines, logged-outside, replay-after}
 use Rattle.journal.proofs.Holds.{sound-replay, holds-sound, holds-size, Recovers, standing-recovers}
-use Rattle.journal.proofs.Ways.{headers-same, headers-untouched}
+use Rattle.journal.proofs.Headers.{headers-same, headers-touches}
 
 -- the end's stores go to line 0
 pub end-line : (same : Bool) (root : ℕ) → All (To 0) (endStores same root)
@@ -44,23 +45,23 @@ module _ (b : List ℕ) (k root : ℕ) (w : Waits b k root) (cs : List Op) (r : 
 
   -- the headers in
   abbrev x : List ℕ
-  x = after b (headerStores hs)
+  x = after b (headerStores ByLine hs)
 
-  headers-in : after b (r .headers) ≡ x
-  headers-in = sym (after-stores b (r .headers)) ∙ headers-same hs (stores (r .headers)) b (logged-lines b k root w) (r .headersIn)
+  headers-left : after b (r .headers) ≡ x
+  headers-left = sym (after-stores b (r .headers)) ∙ headers-same hs (stores (r .headers)) b (logged-lines b k root w) (r .headersIn)
 
-  headers-other : (i : ℕ) → touches (headerStores hs) i ≡ false → touches (r .headers) i ≡ false
-  headers-other i t = sym (touches-stores (r .headers) i) ∙ headers-untouched hs (stores (r .headers)) i (logged-lines b k root w) (r .headersIn) t
+  headers-other : (i : ℕ) → touches (headerStores ByLine hs) i ≡ false → touches (r .headers) i ≡ false
+  headers-other i t = sym (touches-stores (r .headers) i) ∙ headers-touches hs (stores (r .headers)) i (logged-lines b k root w) (r .headersIn) ∙ t
 
   length-x : length x ≡ length b
-  length-x = length-after b (headerStores hs)
+  length-x = length-after b (headerStores ByLine hs)
 
   rootFits : 8 + length (bytesOf 8 root) ≤ length x
   rootFits = omega (arith, length-bytesOf 8 root, length-x, waits-long b k root w)
 
   -- ---- images that stand: some of the headers in, and the root too
 
-  headers-stand : (y : List ℕ) → length y ≡ length b → ((i : ℕ) → touches (headerStores hs) i ≡ false → getD y i 0 ≡ getD b i 0) → Standing b y k root
+  headers-stand : (y : List ℕ) → length y ≡ length b → ((i : ℕ) → touches (headerStores ByLine hs) i ≡ false → getD y i 0 ≡ getD b i 0) → Standing b y k root
   headers-stand y l h =
       record {
         sameLength = l;
@@ -69,13 +70,13 @@ module _ (b : List ℕ) (k root : ℕ) (w : Waits b k root) (cs : List Op) (r : 
       }
 
   x-stands : Standing b x k root
-  x-stands = headers-stand x length-x (λ i t. run-other b (headerStores hs) i t)
+  x-stands = headers-stand x length-x (λ i t. run-other b (headerStores ByLine hs) i t)
 
   root-stands : Standing b (sets x 8 (bytesOf 8 root)) k root
   root-stands =
       record {
         sameLength = length-sets x 8 (bytesOf 8 root) ∙ length-x;
-        elsewhere = λ i t o. sets-apart x 8 (bytesOf 8 root) i (rw (length-bytesOf 8 root) o) ∙ run-other b (headerStores hs) i t;
+        elsewhere = λ i t o. sets-apart x 8 (bytesOf 8 root) i (rw (length-bytesOf 8 root) o) ∙ run-other b (headerStores ByLine hs) i t;
         rootWord = inr (part-sets x 8 (bytesOf 8 root) 8 (length-bytesOf 8 root) (omega (arith, rootFits, length-bytesOf 8 root)));
       }
 
@@ -83,12 +84,12 @@ module _ (b : List ℕ) (k root : ℕ) (w : Waits b k root) (cs : List Op) (r : 
 
   -- all of them, with the root word; and without it, if it does not differ
   with-root : after x (endStores false root) ≡ replay b
-  with-root = sym (after-append b (headerStores hs) (endStores false root)) ∙ sym (replay-after b k root w)
+  with-root = sym (after-append b (headerStores ByLine hs) (endStores false root)) ∙ sym (replay-after b k root w)
 
   end-run : (same : Bool) → rootIs b root ≡ same → after x (endStores same root) ≡ replay b
   end-run false e = with-root
   end-run true e =
-      let word : part x 8 8 ≡ part b 8 8 = sym (part-agree x b 8 8 length-x (λ i p q. run-other b (headerStores hs) i (logged-outside b k root w i (omega arith)))) in
+      let word : part x 8 8 ≡ part b 8 8 = sym (part-agree x b 8 8 length-x (λ i p q. run-other b (headerStores ByLine hs) i (logged-outside b k root w i (omega arith)))) in
       let stands : sets x 8 (bytesOf 8 root) ≡ x = sets-stands x 8 (bytesOf 8 root) rootFits (ap (part x 8) (length-bytesOf 8 root) ∙ word ∙ eqs-true (part b 8 8) (bytesOf 8 root) e) in
       after-store 0 noMark [] x
       ∙ after-nil (sets x 0 noMark)
@@ -113,7 +114,7 @@ module _ (b : List ℕ) (k root : ℕ) (w : Waits b k root) (cs : List Op) (r : 
   redo-run =
       ap (after b) (r .shape)
       ∙ after-append b (r .headers) (r .ending)
-      ∙ ap (λ (y : List ℕ). after y (r .ending)) headers-in
+      ∙ ap (λ (y : List ℕ). after y (r .ending)) headers-left
       ∙ sym (after-stores x (r .ending))
       ∙ ap (after x) (r .ends)
       ∙ end-run (rootIs b root) refl
@@ -131,7 +132,7 @@ module _ (b : List ℕ) (k root : ℕ) (w : Waits b k root) (cs : List Op) (r : 
       let e =
       ap (cutImage b f (length (r .headers) + d)) (r .shape)
       ∙ cut-late b f d (r .headers) (r .ending) (r .headersDurable)
-      ∙ ap (λ (y : List ℕ). cutImage y f d (r .ending)) headers-in
+      ∙ ap (λ (y : List ℕ). cutImage y f d (r .ending)) headers-left
       ∙ m .1
       ∙ ap (λ (es : List Op). after x (take (m .0) es)) (r .ends) in
       subst Left (sym e) (end-part (rootIs b root) refl (m .0))

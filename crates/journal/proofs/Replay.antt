@@ -1,4 +1,4 @@
--- Recovery's tape is what follows a mark: done, it leaves the replayed image, and cut anywhere an image with the same replayed image.
+-- Recovery's tape is what follows a mark, whichever way a line is written: done, it leaves the replayed image, and cut anywhere an image with the same replayed image.
 -- Assumes nothing.
 use Prim.Native.Nat.{ℕ}
 use mathlib.Core.Path.{_≡_, refl, sym, ap, _∙_, subst}
@@ -18,16 +18,16 @@ use Rattle.journal.specs.Log.{headerStores, headerFlushes, endStores, en
 use Rattle.journal.specs.Recovery.{logged, rootIs, recoveryTape}
 use Rattle.journal.specs.Holds.{replay, tapeOf, Holds}
 use Rattle.journal.specs.Safe.{HeadersIn, Redo}
-use Rattle.journal.proofs.Headers.{header-flushing, header-stores}
+use Rattle.journal.specs.declared.Way.{Way}
+use Rattle.journal.proofs.Headers.{header-flushing, header-stores, headers-in}
 use Rattle.journal.proofs.Holds.{Cases, cases, Recovers, recovers-holds}
-use Rattle.journal.proofs.Ways.{headers-by-line}
 use Rattle.journal.proofs.Redo.{end-line, redo-closed, redo-run, redo-cut}
 
-pub recovery-redo : (img : List ℕ) (k root : ℕ) → pageZero img ≡ Waiting k root → Redo img k root (tapeOf img)
+pub recovery-redo : (way : Way) (img : List ℕ) (k root : ℕ) → pageZero img ≡ Waiting k root → Redo img k root (tapeOf way img)
 unfolding recoveryTape replayTape ending
-recovery-redo img k root e =
+recovery-redo way img k root e =
     let hs = logged k img in
-    let H = headerStores hs in
+    let H = headerStores way hs in
     let F = headerFlushes hs in
     let es = endStores (rootIs img root) root in
     let line = end-line (rootIs img root) root in
@@ -35,38 +35,38 @@ recovery-redo img k root e =
     record {
       headers = H ++ F;
       ending = ending (rootIs img root) root;
-      shape = ap (recoveryTape img) e ∙ sym (append-assoc H F (ending (rootIs img root) root));
-      headersIn = subst (HeadersIn hs) (sym (flushing-stores H F (header-flushing hs) ∙ header-stores hs)) (headers-by-line hs);
-      headersDurable = flushing-closed H F (header-flushing hs);
+      shape = ap (recoveryTape way img) e ∙ sym (append-assoc H F (ending (rootIs img root) root));
+      headersIn = subst (HeadersIn hs) (sym (flushing-stores H F (header-flushing way hs) ∙ header-stores way hs)) (headers-in way hs);
+      headersDurable = flushing-closed H F (header-flushing way hs);
       ends = flushing-stores es (flush 0 ∷ []) flushed ∙ to-stores 0 es line;
       endDurable = flushing-closed es (flush 0 ∷ []) flushed;
     }
 
 -- nothing is pending at its end
-pub recovery-closed : (img : List ℕ) → Closed (tapeOf img)
+pub recovery-closed : (way : Way) (img : List ℕ) → Closed (tapeOf way img)
 unfolding recoveryTape
-recovery-closed img = go (pageZero img) refl
+recovery-closed way img = go (pageZero img) refl
   where
-    go : (z : PageZero) → pageZero img ≡ z → Closed (tapeOf img)
-    go Wrong e = subst Closed (sym (ap (recoveryTape img) e)) closed-nil
-    go (Waiting k root) e = redo-closed img k root (tapeOf img) (recovery-redo img k root e)
-    go (Ready root) e = subst Closed (sym (ap (recoveryTape img) e)) closed-nil
+    go : (z : PageZero) → pageZero img ≡ z → Closed (tapeOf way img)
+    go Wrong e = subst Closed (sym (ap (recoveryTape way img) e)) closed-nil
+    go (Waiting k root) e = redo-closed img k root (tapeOf way img) (recovery-redo way img k root e)
+    go (Ready root) e = subst Closed (sym (ap (recoveryTape way img) e)) closed-nil
 
 -- a recovery that is done leaves the replayed image
-pub recovery-run : {t : List Rec} (img : List ℕ) → Holds t img → after img (tapeOf img) ≡ replay img
-recovery-run img h = go (cases img (h .isReplayable))
+pub recovery-run : {t : List Rec} (way : Way) (img : List ℕ) → Holds t img → after img (tapeOf way img) ≡ replay img
+recovery-run way img h = go (cases img (h .isReplayable))
   where
-    go : Cases img → after img (tapeOf img) ≡ replay img
-    go (inl e) = ap (after img) (e .1) ∙ after-nil img ∙ sym (e .0)
-    go (inr (k, root, w)) = redo-run img k root w (tapeOf img) (recovery-redo img k root (w .zero))
+    go : Cases img → after img (tapeOf way img) ≡ replay img
+    go (inl e) = ap (after img) (e .1 way) ∙ after-nil img ∙ sym (e .0)
+    go (inr (k, root, w)) = redo-run img k root w (tapeOf way img) (recovery-redo way img k root (w .zero))
 
 -- cut anywhere, it leaves an image with the same replayed image
-pub recovery-recovers : {t : List Rec} (img : List ℕ) (f : ℕ → ℕ) (c : ℕ) → Holds t img → Recovers img (cutImage img f c (tapeOf img))
-recovery-recovers img f c h = go (cases img (h .isReplayable))
+pub recovery-recovers : {t : List Rec} (way : Way) (img : List ℕ) (f : ℕ → ℕ) (c : ℕ) → Holds t img → Recovers img (cutImage img f c (tapeOf way img))
+recovery-recovers way img f c h = go (cases img (h .isReplayable))
   where
-    go : Cases img → Recovers img (cutImage img f c (tapeOf img))
-    go (inl e) = subst (Recovers img) (sym (ap (cutImage img f c) (e .1) ∙ cut-nil img f c)) (record { still = h .isReplayable; same = refl })
-    go (inr (k, root, w)) = redo-cut img k root w (tapeOf img) (recovery-redo img k root (w .zero)) h f c
+    go : Cases img → Recovers img (cutImage img f c (tapeOf way img))
+    go (inl e) = subst (Recovers img) (sym (ap (cutImage img f c) (e .1 way) ∙ cut-nil img f c)) (record { still = h .isReplayable; same = refl })
+    go (inr (k, root, w)) = redo-cut img k root w (tapeOf way img) (recovery-redo way img k root (w .zero)) h f c
 
-pub recovery-cut : {t : List Rec} (img : List ℕ) (f : ℕ → ℕ) (c : ℕ) → Holds t img → Holds t (cutImage img f c (tapeOf img))
-recovery-cut img f c h = recovers-holds img (cutImage img f c (tapeOf img)) h (recovery-recovers img f c h)
+pub recovery-cut : {t : List Rec} (way : Way) (img : List ℕ) (f : ℕ → ℕ) (c : ℕ) → Holds t img → Holds t (cutImage img f c (tapeOf way img))
+recovery-cut way img f c h = recovers-holds img (cutImage img f c (tapeOf way img)) h (recovery-recovers way img f c h)

@@ -17,13 +17,9 @@ use Rattle.image.specs.PageZero.{pageCount, rootOf}
 use Rattle.image.specs.Image.{reached}
 use Rattle.journal.specs.Changes.{wordSize, wordStores, flushesFrom, flushesOf, stageA, changedPages}
 use Rattle.journal.specs.Order.{RisesFrom, Rises, storePlaces, flushLines}
+use Rattle.journal.proofs.Ways.{rises-lower}
 use Rattle.journal.proofs.StageA.{flushing-of, walk, walk-all}
 use Rattle.journal.proofs.Changed.{from-all}
-
--- numbers that rise from `high` on rise from anything below it on
-pub rises-lower : (low high : ℕ) (ns : List ℕ) → low ≤ high → RisesFrom high ns → RisesFrom low ns
-rises-lower low high [] h r = tt
-rises-lower low high (n ∷ ns) h r = (omega (arith, r .0), r .1)
 
 -- ---- the changed pages: "by rising page"
 

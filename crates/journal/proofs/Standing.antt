@@ -26,6 +26,7 @@ use Rattle.image.proofs.Zero.{Size, isPage-true, Line, Marked, waiting-facts, f
 use Rattle.journal.specs.Log.{headerStores, endStores}
 use Rattle.journal.specs.Recovery.{logged, withHeaders, replayed, replayFrom}
 use Rattle.journal.specs.Holds.{replay, Waits}
+use Rattle.journal.specs.declared.Way.the-variants.{ByLine}
 use Rattle.journal.proofs.Headers.{Lines, Inside, logged-inside, lines-from, lines-agree, headers-outside, headers-after}
 
 -- ---- line 0 by its words
@@ -93,7 +94,7 @@ end-splice x root long =
 -- b is a, but for anything in the lines of the logged headers, and for the new root
 pub record Standing (a b : List ℕ) (k root : ℕ) : Type 0 where
   pub sameLength : length b ≡ length a
-  pub elsewhere : (i : ℕ) → touches (headerStores (logged k a)) i ≡ false → (i < 8) ⊎ (16 ≤ i) → getD b i 0 ≡ getD a i 0
+  pub elsewhere : (i : ℕ) → touches (headerStores ByLine (logged k a)) i ≡ false → (i < 8) ⊎ (16 ≤ i) → getD b i 0 ≡ getD a i 0
   pub rootWord : (part b 8 8 ≡ part a 8 8) ⊎ (part b 8 8 ≡ bytesOf 8 root)
 
 module _ (a : List ℕ) (k root : ℕ) (w : Waits a k root) where
@@ -110,22 +111,22 @@ module _ (a : List ℕ) (k root : ℕ) (w : Waits a k root) where
   pub logged-pages : Inside (pageCount a) (logged k a)
   logged-pages = logged-inside (pageCount a) (logged k a) (w .ok)
 
-  pub logged-outside : (i : ℕ) → i < pageSize → touches (headerStores (logged k a)) i ≡ false
-  logged-outside i h = headers-outside (pageCount a) (logged k a) i logged-pages h
+  pub logged-outside : (i : ℕ) → i < pageSize → touches (headerStores ByLine (logged k a)) i ≡ false
+  logged-outside i h = headers-outside ByLine (pageCount a) (logged k a) i logged-lines logged-pages h
 
   -- the replayed image, as stores
-  pub replay-after : replay a ≡ after a (headerStores (logged k a) ++ endStores false root)
+  pub replay-after : replay a ≡ after a (headerStores ByLine (logged k a) ++ endStores false root)
   unfolding replayFrom replayed
   replay-after =
       let hs = logged k a in
-      let h : withHeaders hs a ≡ after a (headerStores hs) = headers-after hs a logged-lines logged-pages in
+      let h : withHeaders hs a ≡ after a (headerStores ByLine hs) = headers-after hs a logged-lines logged-pages in
       ap (replayFrom a) (w .zero)
       ∙ ap (λ (x : List ℕ). splice (splice x 8 (bytesOf 8 root)) 0 noMark) h
-      ∙ sym (end-splice (after a (headerStores hs)) root (omega (arith, length-after a (headerStores hs), waits-long)))
-      ∙ sym (after-append a (headerStores hs) (endStores false root))
+      ∙ sym (end-splice (after a (headerStores ByLine hs)) root (omega (arith, length-after a (headerStores ByLine hs), waits-long)))
+      ∙ sym (after-append a (headerStores ByLine hs) (endStores false root))
 
   pub length-replay : length (replay a) ≡ length a
-  length-replay = ap length replay-after ∙ length-after a (headerStores (logged k a) ++ endStores false root)
+  length-replay = ap length replay-after ∙ length-after a (headerStores ByLine (logged k a) ++ endStores false root)
 
 module _ (a b : List ℕ) (k root : ℕ) (size : Size (length a)) (w : Waits a k root) (s : Standing a b k root) where
   m : Marked a k root
@@ -166,14 +167,14 @@ module _ (a b : List ℕ) (k root : ℕ) (size : Size (length a)) (w : Waits a k
         ok = rw (same-logged, count) (w .ok);
       }
 
-  untouched : (i : ℕ) → touches (headerStores (logged k a) ++ endStores false root) i ≡ false → getD b i 0 ≡ getD a i 0
+  untouched : (i : ℕ) → touches (headerStores ByLine (logged k a) ++ endStores false root) i ≡ false → getD b i 0 ≡ getD a i 0
   untouched i t =
-      s .elsewhere i (touches-left (headerStores (logged k a)) (endStores false root) i t)
-      (rw (length-bytesOf 8 root) at (untouched-first 8 (bytesOf 8 root) (store 0 noMark ∷ []) i (touches-right (headerStores (logged k a)) (endStores false root) i t)))
+      s .elsewhere i (touches-left (headerStores ByLine (logged k a)) (endStores false root) i t)
+      (rw (length-bytesOf 8 root) at (untouched-first 8 (bytesOf 8 root) (store 0 noMark ∷ []) i (touches-right (headerStores ByLine (logged k a)) (endStores false root) i t)))
 
   pub standing-replay : replay b ≡ replay a
   standing-replay =
       replay-after b k root standing-waits
-      ∙ ap (λ (hs : List (List ℕ)). after b (headerStores hs ++ endStores false root)) same-logged
-      ∙ run-over b a (headerStores (logged k a) ++ endStores false root) (s .sameLength) untouched
+      ∙ ap (λ (hs : List (List ℕ)). after b (headerStores ByLine hs ++ endStores false root)) same-logged
+      ∙ run-over b a (headerStores ByLine (logged k a) ++ endStores false root) (s .sameLength) untouched
       ∙ sym (replay-after a k root w)

@@ -14,6 +14,7 @@ use Rattle.image.specs.declared.PageZero.the-variants.{Waiting}
 use Rattle.image.specs.Image.{sound}
 use Rattle.image.specs.Table.{table}
 use Rattle.journal.specs.Recovery.{logged, loggedOk, replayFrom, recoveryTape, replayable}
+use Rattle.journal.specs.declared.Way.{Way}
 
 -- the replayed image
 abbrev pub replay : List ℕ → List ℕ
@@ -25,8 +26,8 @@ pub record Waits (a : List ℕ) (k root : ℕ) : Type 0 where
   pub ok : loggedOk (pageCount a) (logged k a) ≡ true
 
 -- recovery's tape
-abbrev pub tapeOf : List ℕ → List Op
-tapeOf img = recoveryTape img (pageZero img)
+abbrev pub tapeOf : Way → List ℕ → List Op
+tapeOf way img = recoveryTape way img (pageZero img)
 
 -- a recovery of the image gives a sound store with the table t
 pub record Holds (t : List Rec) (img : List ℕ) : Type 0 where

@@ -1,14 +1,19 @@
--- The log: the stores and flushes of its lines, and what replays them (document 01, 'The transaction's tape').
+-- The log: the stores and flushes of its lines, and what replays them (document 01, 'The transaction's tape'). Each line is written in the
+-- device's way.
 -- Assumes nothing.
-use Prim.Native.Nat.{ℕ, zero, suc, _*_}
+use Prim.Native.Nat.{ℕ, zero, suc, _*_, _≤_, _<_}
+use mathlib.Core.Path.{_≡_}
+use mathlib.Core.Logic.{_⊎_}
 use mathlib.Core.Bool.{Bool, true, false, not}
 use mathlib.Core.List.{List, [], _∷_, _++_, map}
-use lib.ListN.{length}
+use lib.ListN.{length, getD}
 use Rattle.codec.specs.Lists.{part, pick}
 use Rattle.codec.specs.Numbers.{number, bytesOf}
 use Rattle.device.specs.Tape.{Op, store, flush}
 use Rattle.page.specs.Layout.{pageSize, lineSize}
 use Rattle.image.specs.PageZero.{noMark}
+use Rattle.journal.specs.Way.{lineBy}
+use Rattle.journal.specs.declared.Way.{Way}
 
 -- the lines of a page
 abbrev pub pageLines : ℕ
@@ -18,22 +23,27 @@ pageLines = 16
 unfoldable pub ownPage : List ℕ → ℕ
 ownPage h = number (part h 6 2)
 
+-- equal "but for log lines": lines 1 to 15 of page 0
+pub record SameButLog (u v : List ℕ) : Type 0 where
+  pub sameLength : length u ≡ length v
+  pub elsewhere : (i : ℕ) → (i < lineSize) ⊎ (pageSize ≤ i) → getD u i 0 ≡ getD v i 0
+
 -- "log lines 1 to k take the new headers by rising page, then their flushes": from line l on
-unfoldable pub logStores : ℕ → List (List ℕ) → List Op
-logStores l [] = []
-logStores l (h ∷ hs) = store (lineSize * l) h ∷ logStores (suc l) hs
+unfoldable pub logStores : Way → ℕ → List (List ℕ) → List Op
+logStores way l [] = []
+logStores way l (h ∷ hs) = lineBy way (lineSize * l) h ++ logStores way (suc l) hs
 
 unfoldable pub logFlushes : ℕ → List (List ℕ) → List Op
 logFlushes l [] = []
 logFlushes l (h ∷ hs) = flush l ∷ logFlushes (suc l) hs
 
-unfoldable pub logTape : List (List ℕ) → List Op
-logTape hs = logStores 1 hs ++ logFlushes 1 hs
+unfoldable pub logTape : Way → List (List ℕ) → List Op
+logTape way hs = logStores way 1 hs ++ logFlushes 1 hs
 
 -- "header stores, rising; their flushes": in the order of the log
-unfoldable pub headerStores : List (List ℕ) → List Op
-headerStores [] = []
-headerStores (h ∷ hs) = store (pageSize * ownPage h) h ∷ headerStores hs
+unfoldable pub headerStores : Way → List (List ℕ) → List Op
+headerStores way [] = []
+headerStores way (h ∷ hs) = lineBy way (pageSize * ownPage h) h ++ headerStores way hs
 
 unfoldable pub headerFlushes : List (List ℕ) → List Op
 headerFlushes [] = []
@@ -48,5 +58,5 @@ unfoldable pub ending : Bool → ℕ → List Op
 ending same root = endStores same root ++ (flush 0 ∷ [])
 
 -- what follows the mark's flush, in a transaction and in a recovery
-unfoldable pub replayTape : List (List ℕ) → Bool → ℕ → List Op
-replayTape hs same root = headerStores hs ++ (headerFlushes hs ++ ending same root)
+unfoldable pub replayTape : Way → List (List ℕ) → Bool → ℕ → List Op
+replayTape way hs same root = headerStores way hs ++ (headerFlushes hs ++ ending same root)

@@ -2,8 +2,7 @@
 -- Assumes nothing.
 use Prim.Native.Nat.{ℕ, suc, _≤_}
 use mathlib.Core.List.{List, [], _∷_}
-use lib.ListN.{length}
-use lib.Dec.{eqb}
+use lib.Dec.{leb}
 use Rattle.codec.specs.Lists.{pick}
 use Rattle.device.specs.Tape.{Op, store, flush, malformed}
 use Rattle.page.specs.Layout.{lineSize}
@@ -23,12 +22,12 @@ storePlaces (store p vs ∷ cs) = p ∷ storePlaces cs
 storePlaces (flush l ∷ cs) = storePlaces cs
 storePlaces (malformed ∷ cs) = storePlaces cs
 
--- of the line stores alone
-unfoldable pub lineStores : List Op → List ℕ
-lineStores [] = []
-lineStores (store p vs ∷ cs) = pick (eqb (length vs) lineSize) (p ∷ lineStores cs) (lineStores cs)
-lineStores (flush l ∷ cs) = lineStores cs
-lineStores (malformed ∷ cs) = lineStores cs
+-- of those past line 0 alone
+unfoldable pub placesPast : List Op → List ℕ
+placesPast [] = []
+placesPast (store p vs ∷ cs) = pick (leb lineSize p) (p ∷ placesPast cs) (placesPast cs)
+placesPast (flush l ∷ cs) = placesPast cs
+placesPast (malformed ∷ cs) = placesPast cs
 
 -- the line of each flush
 unfoldable pub flushLines : List Op → List ℕ

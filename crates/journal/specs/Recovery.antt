@@ -14,6 +14,7 @@ use Rattle.image.specs.Image.{distinct}
 use Rattle.image.specs.declared.PageZero.{PageZero}
 use Rattle.image.specs.declared.PageZero.the-variants.{Wrong, Waiting, Ready}
 use Rattle.journal.specs.Log.{ownPage, replayTape}
+use Rattle.journal.specs.declared.Way.{Way}
 
 -- k lines of page 0 from line l on
 unfoldable pub linesFrom : ℕ → ℕ → List ℕ → List (List ℕ)
@@ -48,10 +49,10 @@ abbrev pub rootIs : List ℕ → ℕ → Bool
 rootIs a root = eqs (part a 8 8) (bytesOf 8 root)
 
 -- "Recovery with mark 0 gives no commands. Else it stores every logged header, then flushes each, both in log order, and goes on as above."
-unfoldable pub recoveryTape : List ℕ → PageZero → List Op
-recoveryTape a Wrong = []
-recoveryTape a (Waiting k root) = replayTape (logged k a) (rootIs a root) root
-recoveryTape a (Ready root) = []
+unfoldable pub recoveryTape : Way → List ℕ → PageZero → List Op
+recoveryTape way a Wrong = []
+recoveryTape way a (Waiting k root) = replayTape way (logged k a) (rootIs a root) root
+recoveryTape way a (Ready root) = []
 
 -- whether page 0, the mark and the logged page numbers are as they should be
 unfoldable pub replayable : List ℕ → PageZero → Bool

@@ -17,9 +17,10 @@ use Rattle.image.specs.Image.{reached, among, distinct, sound}
 use Rattle.image.specs.Live.{live}
 use Rattle.image.specs.declared.PageZero.the-variants.{Waiting}
 use Rattle.journal.specs.Changes.{wordSize}
-use Rattle.journal.specs.Way.{Way, lineBy}
+use Rattle.journal.specs.Way.{lineBy}
 use Rattle.journal.specs.Log.{ownPage, endStores}
 use Rattle.journal.specs.Recovery.{logged, rootIs}
+use Rattle.journal.specs.declared.Way.{Way}
 
 -- ---- what follows a mark, in a transaction and in a recovery
 

@@ -11,7 +11,9 @@ use Rattle.device.specs.Tape.{Op, store, flush, tapeBytes, flushCount}
 use Rattle.page.specs.Layout.{pageSize, lineSize}
 use Rattle.image.specs.PageZero.{rootOf, logMost, markBytes}
 use Rattle.journal.specs.Changes.{stageA, headerLine, changedPages, sameRoot}
-use Rattle.journal.specs.Log.{pageLines, logStores, logTape, replayTape}
+use Rattle.journal.specs.Log.{pageLines, logTape, replayTape}
+use Rattle.journal.specs.declared.Way.{Way}
+use Rattle.journal.specs.declared.Way.the-variants.{ByLine, ByWords}
 use Rattle.journal.specs.declared.CommitPlace.{CommitPlace}
 use Rattle.journal.specs.declared.CommitPlace.the-variants.{Header, Root, Log}
 use Rattle.journal.specs.declared.Commit.{Commit}
@@ -47,29 +49,34 @@ byRoot A w = record { tape = A ++ (store 8 (bytesOf 8 (rootOf w)) ∷ flush 0 �
 
 -- "More: log lines 1 to k take the new headers by rising page, then their flushes; the mark; flush of line 0; header stores, rising;
 -- their flushes; the root word if it differs; mark 0; flush of line 0."
-unfoldable pub byLog : List Op → List ℕ → Bool → List (List ℕ) → Taken
-byLog A w same hs =
+unfoldable pub byLog : Way → List Op → List ℕ → Bool → List (List ℕ) → Taken
+byLog way A w same hs =
     record {
-      tape = (A ++ logTape hs) ++ (store 0 (markBytes (length hs) (rootOf w)) ∷ flush 0 ∷ replayTape hs same (rootOf w));
-      commitAt = length (A ++ logTape hs);
+      tape = (A ++ logTape way hs) ++ (store 0 (markBytes (length hs) (rootOf w)) ∷ flush 0 ∷ replayTape way hs same (rootOf w));
+      commitAt = length (A ++ logTape way hs);
       place = Log;
       work = splice w lineSize (joinLines hs);
     }
 
+-- one changed header and no changed root word: its line store, or "a change of any header, even one, goes through the log"
+unfoldable pub oneHeader : Way → List Op → List ℕ → ℕ → Taken
+oneHeader ByLine A w p = byHeader A w p
+oneHeader ByWords A w p = byLog ByWords A w true (newHeaders w (p ∷ []))
+
 -- by the number of changed headers, and whether the root word is as it was
-unfoldable pub choose : List Op → List ℕ → Bool → List ℕ → Taken
-choose A w same [] = byRoot A w
-choose A w true (p ∷ []) = byHeader A w p
-choose A w false (p ∷ []) = byLog A w false (newHeaders w (p ∷ []))
-choose A w same (p ∷ q ∷ ps) = byLog A w same (newHeaders w (p ∷ q ∷ ps))
+unfoldable pub choose : Way → List Op → List ℕ → Bool → List ℕ → Taken
+choose way A w same [] = byRoot A w
+choose way A w true (p ∷ []) = oneHeader way A w p
+choose way A w false (p ∷ []) = byLog way A w false (newHeaders w (p ∷ []))
+choose way A w same (p ∷ q ∷ ps) = byLog way A w same (newHeaders w (p ∷ q ∷ ps))
 
 -- "12 more than 15 changed headers where the log is needed"
 unfoldable pub roomInLog : List ℕ → Bool
 roomInLog ps = leb (length ps) logMost
 
 -- the transaction from the image a to the edited image w
-unfoldable pub takenFor : List ℕ → List ℕ → Taken
-takenFor a w = choose (stageA a w) w (sameRoot a w) (changedPages a w)
+unfoldable pub takenFor : Way → List ℕ → List ℕ → Taken
+takenFor way a w = choose way (stageA a w) w (sameRoot a w) (changedPages a w)
 
 -- what it answers: "The answer names the commit place .. It also gives the tape bytes used, and the number of flushes in the answer is the
 -- number of flush commands on the tape."

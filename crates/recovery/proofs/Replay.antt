@@ -22,6 +22,7 @@ use Rattle.image.proofs.Zero.{size-true, facts-ready}
 use Rattle.journal.specs.Log.{headerStores}
 use Rattle.journal.specs.Recovery.{logged, withHeaders, replayed, replayFrom}
 use Rattle.journal.specs.Holds.{Waits}
+use Rattle.journal.specs.declared.Way.the-variants.{ByLine}
 use Rattle.journal.proofs.Headers.{headers-after}
 use Rattle.journal.proofs.Standing.{marked, waits-long, logged-lines, logged-pages, logged-outside, length-replay, length-noMark, line-other, page-small}
 use Rattle.tape_write.specs.Calls.{LogWaits}
@@ -34,11 +35,11 @@ module _ (a : List ℕ) (k root : ℕ) (size : isImageSize (length a) ≡ true) 
   abbrev inside : List ℕ
   inside = withHeaders (logged k a) a
 
-  stored : inside ≡ after a (headerStores (logged k a))
+  stored : inside ≡ after a (headerStores ByLine (logged k a))
   stored = headers-after (logged k a) a (logged-lines a k root w) (logged-pages a k root w)
 
   same-length : length inside ≡ length a
-  same-length = ap length stored ∙ length-after a (headerStores (logged k a))
+  same-length = ap length stored ∙ length-after a (headerStores ByLine (logged k a))
 
   pub length-new : length new ≡ length a
   unfolding replayFrom
@@ -48,7 +49,7 @@ module _ (a : List ℕ) (k root : ℕ) (size : isImageSize (length a) ≡ true) 
   rest-inside : part inside 16 48 ≡ part a 16 48
   rest-inside =
       sym (part-agree inside a 16 48 same-length (λ i p q.
-      ap (λ (x : List ℕ). getD x i 0) stored ∙ run-other a (headerStores (logged k a)) i (logged-outside a k root w i (omega arith))))
+      ap (λ (x : List ℕ). getD x i 0) stored ∙ run-other a (headerStores ByLine (logged k a)) i (logged-outside a k root w i (omega arith))))
 
   -- the two words that are written after them
   abbrev rooted : List ℕ

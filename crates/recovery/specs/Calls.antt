@@ -1,4 +1,5 @@
--- What a recovery answers, and what it leaves in work and tape (document 01, 'Each call and when it says no').
+-- What a recovery answers, and what it leaves in work and tape (document 01, 'Each call and when it says no'), by the way in which the device
+-- writes a line.
 -- Assumes nothing.
 use Prim.Native.Nat.{ℕ}
 use mathlib.Core.Bool.{Bool, _&&_}
@@ -11,6 +12,7 @@ use Rattle.device.specs.Calls.{isImageSize, imageSize, workSize, unsound, tapeS
 use Rattle.image.specs.PageZero.{pageZero}
 use Rattle.image.specs.Image.{sound}
 use Rattle.journal.specs.Recovery.{replayFrom, recoveryTape, replayable}
+use Rattle.journal.specs.declared.Way.{Way}
 use Rattle.recovery.specs.declared.Redone.{Redone}
 use Rattle.recovery.specs.declared.Recovered.{Recovered}
 use Rattle.recovery.specs.declared.Recovered.the-variants.{Accepted, Refused}
@@ -32,11 +34,11 @@ acceptedWith cs work tape =
 
 -- "Recovery: 1; 2; 4 if page 0 or mark is wrong, logged page numbers repeat or leave 1 to N-1, or the replayed image is unsound;
 -- 13, work then holding the image. Accepted, work is the replayed image"
-unfoldable pub recoverCall : List ℕ → List ℕ → List ℕ → Result
-recoverCall a work tape =
+unfoldable pub recoverCall : Way → List ℕ → List ℕ → List ℕ → Result
+recoverCall way a work tape =
     let zero = pageZero a in
     let new = replayFrom a zero in
-    let cs = recoveryTape a zero in
+    let cs = recoveryTape way a zero in
     pick (isImageSize (length a))
     (pick (eqb (length work) (length a))
     (pick (replayable a zero && sound new)

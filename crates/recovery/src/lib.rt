@@ -5,6 +5,7 @@ use device::is_image_size;
 use image::PageZero;
 use image::page_zero::page_zero;
 use image::tree::tree_ok;
+use journal::Way;
 use tape_write::Replayed;
 use tape_write::redo::logged_ok;
 use tape_write::redo::redo;
@@ -20,6 +21,8 @@ ghost use Rattle.image.specs.Image.{treeOk};
 ghost use Rattle.image.specs.declared.PageZero.the-variants.{Waiting, Ready};
 ghost use Rattle.journal.specs.Recovery.{logged, replayed};
 ghost use Rattle.journal.specs.Holds.{Waits};
+ghost use Rattle.journal.specs.declared.Way.{Way};
+ghost use Rattle.journal.specs.declared.Way.the-variants.{ByLine, ByWords};
 ghost use Rattle.recovery.specs.Calls.{recoverCall};
 
 // An accepted recovery: the tape bytes used, and the number of flush commands on the tape.
@@ -67,6 +70,7 @@ fn replay_ok(image: &[u8], headers: usize, root: usize) -> bool
 
 // Recovers an image whose mark waits.
 fn redo_log(
+    way: Way,
     image: &[u8],
     work: &mut [u8],
     tape: &mut [u8],
@@ -74,9 +78,9 @@ fn redo_log(
     root: usize,
 ) -> Recovered
     requires { ⌜ (isImageSize (length (now image)) ≡ true) × (length (now work) ≡ length (now image)) × (pageZero (now image) ≡ Waiting headers root) ⌝ }
-    ensures { λ r. ⌜ r ≡ recoverCall (now (image .entry)) (now (work .entry)) (now (tape .entry)) .answer ⌝ }
-    ensures { λ _. ⌜ now (work .exit) ≡ recoverCall (now (image .entry)) (now (work .entry)) (now (tape .entry)) .work ⌝ }
-    ensures { λ _. ⌜ now (tape .exit) ≡ recoverCall (now (image .entry)) (now (work .entry)) (now (tape .entry)) .tape ⌝ }
+    ensures { λ r. ⌜ r ≡ recoverCall way (now (image .entry)) (now (work .entry)) (now (tape .entry)) .answer ⌝ }
+    ensures { λ _. ⌜ now (work .exit) ≡ recoverCall way (now (image .entry)) (now (work .entry)) (now (tape .entry)) .work ⌝ }
+    ensures { λ _. ⌜ now (tape .exit) ≡ recoverCall way (now (image .entry)) (now (work .entry)) (now (tape .entry)) .tape ⌝ }
 {
     if !logged_ok(image, headers) {
         return Recovered::Refused(Refusal::of(Refusal::UNSOUND));
@@ -84,7 +88,7 @@ fn redo_log(
     if !replay_ok(image, headers, root) {
         return Recovered::Refused(Refusal::of(Refusal::UNSOUND));
     }
-    match redo(image, work, tape, headers, root) {
+    match redo(way, image, work, tape, headers, root) {
         Replayed::Done { bytes, flushes } => Recovered::Accepted(Redone { bytes, flushes }),
         Replayed::TapeShort => Recovered::Refused(Refusal::of(Refusal::TAPE_SHORT)),
     }
@@ -93,9 +97,9 @@ fn redo_log(
 // Recovers an image whose mark is 0: "Recovery with mark 0 gives no commands."
 fn keep(image: &[u8], work: &mut [u8], root: usize) -> Recovered
     requires { ⌜ (isImageSize (length (now image)) ≡ true) × (length (now work) ≡ length (now image)) × (pageZero (now image) ≡ Ready root) ⌝ }
-    ensures { λ r. ⌜ ((tape : List ℕ) → r ≡ recoverCall (now (image .entry)) (now (work .entry)) tape .answer) ⌝ }
-    ensures { λ _. ⌜ ((tape : List ℕ) → now (work .exit) ≡ recoverCall (now (image .entry)) (now (work .entry)) tape .work) ⌝ }
-    ensures { λ _. ⌜ ((tape : List ℕ) → tape ≡ recoverCall (now (image .entry)) (now (work .entry)) tape .tape) ⌝ }
+    ensures { λ r. ⌜ ((way : Way) (tape : List ℕ) → r ≡ recoverCall way (now (image .entry)) (now (work .entry)) tape .answer) ⌝ }
+    ensures { λ _. ⌜ ((way : Way) (tape : List ℕ) → now (work .exit) ≡ recoverCall way (now (image .entry)) (now (work .entry)) tape .work) ⌝ }
+    ensures { λ _. ⌜ ((way : Way) (tape : List ℕ) → tape ≡ recoverCall way (now (image .entry)) (now (work .entry)) tape .tape) ⌝ }
 {
     if !tree_ok(image, root) {
         return Recovered::Refused(Refusal::of(Refusal::UNSOUND));
@@ -107,11 +111,11 @@ fn keep(image: &[u8], work: &mut [u8], root: usize) -> Recovered
     })
 }
 
-// Recovers an image: work takes the replayed image, tape the commands that make it so.
-pub fn recover(image: &[u8], work: &mut [u8], tape: &mut [u8]) -> Recovered
-    ensures { λ r. ⌜ r ≡ recoverCall (now (image .entry)) (now (work .entry)) (now (tape .entry)) .answer ⌝ }
-    ensures { λ _. ⌜ now (work .exit) ≡ recoverCall (now (image .entry)) (now (work .entry)) (now (tape .entry)) .work ⌝ }
-    ensures { λ _. ⌜ now (tape .exit) ≡ recoverCall (now (image .entry)) (now (work .entry)) (now (tape .entry)) .tape ⌝ }
+// Recovers an image: work takes the replayed image, tape the commands that make it so, in the device's way.
+fn recover_by(way: Way, image: &[u8], work: &mut [u8], tape: &mut [u8]) -> Recovered
+    ensures { λ r. ⌜ r ≡ recoverCall way (now (image .entry)) (now (work .entry)) (now (tape .entry)) .answer ⌝ }
+    ensures { λ _. ⌜ now (work .exit) ≡ recoverCall way (now (image .entry)) (now (work .entry)) (now (tape .entry)) .work ⌝ }
+    ensures { λ _. ⌜ now (tape .exit) ≡ recoverCall way (now (image .entry)) (now (work .entry)) (now (tape .entry)) .tape ⌝ }
 {
     let n = image.len();
     if !is_image_size(n) {
@@ -123,6 +127,24 @@ pub fn recover(image: &[u8], work: &mut [u8], tape: &mut [u8]) -> Recovered
     match page_zero(image) {
         PageZero::Wrong => Recovered::Refused(Refusal::of(Refusal::UNSOUND)),
         PageZero::Ready { root } => keep(image, work, root),
-        PageZero::Waiting { headers, root } => redo_log(image, work, tape, headers, root),
+        PageZero::Waiting { headers, root } => redo_log(way, image, work, tape, headers, root),
     }
+}
+
+// Recovery on modules with line stores.
+pub fn recover(image: &[u8], work: &mut [u8], tape: &mut [u8]) -> Recovered
+    ensures { λ r. ⌜ r ≡ recoverCall ByLine (now (image .entry)) (now (work .entry)) (now (tape .entry)) .answer ⌝ }
+    ensures { λ _. ⌜ now (work .exit) ≡ recoverCall ByLine (now (image .entry)) (now (work .entry)) (now (tape .entry)) .work ⌝ }
+    ensures { λ _. ⌜ now (tape .exit) ≡ recoverCall ByLine (now (image .entry)) (now (work .entry)) (now (tape .entry)) .tape ⌝ }
+{
+    recover_by(Way::ByLine, image, work, tape)
+}
+
+// The same on modules "atomic for 8 bytes only": its tape has no line store (document 02 (d)).
+pub fn recover_words(image: &[u8], work: &mut [u8], tape: &mut [u8]) -> Recovered
+    ensures { λ r. ⌜ r ≡ recoverCall ByWords (now (image .entry)) (now (work .entry)) (now (tape .entry)) .answer ⌝ }
+    ensures { λ _. ⌜ now (work .exit) ≡ recoverCall ByWords (now (image .entry)) (now (work .entry)) (now (tape .entry)) .work ⌝ }
+    ensures { λ _. ⌜ now (tape .exit) ≡ recoverCall ByWords (now (image .entry)) (now (work .entry)) (now (tape .entry)) .tape ⌝ }
+{
+    recover_by(Way::ByWords, image, work, tape)
 }

@@ -17,6 +17,7 @@ use Rattle.image.proofs.Fresh.{format-accepted, format-sound}
 use Rattle.edit.specs.EditList.{editsOf, editList}
 use Rattle.edit.specs.Ledger.{applyEdits}
 use Rattle.journal.specs.declared.Commit.{Commit}
+use Rattle.journal.specs.declared.Way.the-variants.{ByLine}
 use Rattle.transaction.specs.Calls.{isAccepted}
 use Rattle.transaction.specs.Demand2.{Makes}
 use Rattle.transaction.specs.declared.Transacted.{Transacted}
@@ -32,7 +33,7 @@ use Rattle.sheet.specs.Steps.{State, Outcome, opened, tried, commits, wa
 -- an accepted commit is an accepted transaction
 pub tried-makes : (a list : List ℕ) (x : Commit) → tried a list .answer ≡ answers.Accepted x → Makes a (replicate 16384 0) list x (tried a list)
 unfolding tried
-tried-makes a list x e = demand-2 a (replicate 8192 0) (replicate 16384 0) list x e
+tried-makes a list x e = demand-2 ByLine a (replicate 8192 0) (replicate 16384 0) list x e
 
 module _ (s : State) (h : sound (s .image) ≡ true) where
   pub commits-accepted-table : (x : Commit) → tried (s .image) (s .list) .answer ≡ answers.Accepted x →

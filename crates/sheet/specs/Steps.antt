@@ -6,6 +6,7 @@ use mathlib.Core.List.{List, [], _∷_, _++_}
 use lib.ListN.{length, take, drop, replicate}
 use lib.Dec.{ltb}
 use Rattle.codec.specs.Lists.{pick}
+use Rattle.journal.specs.declared.Way.the-variants.{ByLine}
 use Rattle.transaction.specs.Calls.{Result, isAccepted, transactionCall}
 use Rattle.lines.specs.Form.{lineIn, lineEdit}
 use Rattle.lines.specs.declared.Line.{Line}
@@ -27,7 +28,7 @@ opened image = record { image = image; list = []; edits = 0; accepted = 0; refus
 
 -- the transaction, with the buffers that it is lent: "lends 16,384 tape bytes"
 unfoldable pub tried : List ℕ → List ℕ → Result
-tried image list = transactionCall image (replicate 8192 0) (replicate 16384 0) list
+tried image list = transactionCall ByLine image (replicate 8192 0) (replicate 16384 0) list
 
 -- a commit: on acceptance the image after the tape, which work holds; nothing waits afterwards
 unfoldable pub commits : State → State

@@ -10,13 +10,16 @@ use preview::Preview;
 use preview::calls::preview;
 use recovery::Recovered;
 use recovery::recover;
+use recovery::recover_words;
 use transaction::Transacted;
 use transaction::transaction;
+use transaction::transaction_words;
 ghost use mathlib.Core.Path.{_≡_};
 ghost use Prim.Native.Nat.{_≤_};
 ghost use lib.ListN.{take};
 ghost use Rattle.device.specs.Calls.{numberOf, runCall, cutCall};
 ghost use Rattle.image.specs.Calls.{formatCall, checkCall, lookupCall, nextCall};
+ghost use Rattle.journal.specs.declared.Way.the-variants.{ByLine, ByWords};
 ghost use Rattle.preview.specs.Calls.{previewCall};
 ghost use Rattle.transaction.specs.Calls.{transactionCall};
 ghost use Rattle.recovery.specs.Calls.{recoverCall};
@@ -158,20 +161,12 @@ fn put_commit(answer: &mut [u64], commit: Commit)
     }
 }
 
-#[no_mangle]
-pub extern "C" fn quote_transaction(
-    image: &[u8],
-    work: &mut [u8],
-    tape: &mut [u8],
-    edits: &[u8],
-    answer: &mut [u64],
-) -> u8
-    ensures { λ r. ⌜ r ≡ transactedNumber (transactionCall (now (image .entry)) (now (work .entry)) (now (tape .entry)) (now (edits .entry)) .answer) ⌝ }
-    ensures { λ _. ⌜ now (work .exit) ≡ transactionCall (now (image .entry)) (now (work .entry)) (now (tape .entry)) (now (edits .entry)) .work ⌝ }
-    ensures { λ _. ⌜ now (tape .exit) ≡ transactionCall (now (image .entry)) (now (work .entry)) (now (tape .entry)) (now (edits .entry)) .tape ⌝ }
-    ensures { λ _. ⌜ now (answer .exit) ≡ lent (now (answer .entry)) (transactedNumbers (transactionCall (now (image .entry)) (now (work .entry)) (now (tape .entry)) (now (edits .entry)) .answer)) ⌝ }
+// Writes what a transaction answers besides its number, which is the answer.
+fn put_transacted(answer: &mut [u64], transacted: Transacted) -> u8
+    ensures { λ r. ⌜ r ≡ transactedNumber transacted ⌝ }
+    ensures { λ _. ⌜ now (answer .exit) ≡ lent (now (answer .entry)) (transactedNumbers transacted) ⌝ }
 {
-    match transaction(image, work, tape, edits) {
+    match transacted {
         Transacted::Accepted(commit) => {
             put_commit(answer, commit);
             0
@@ -183,6 +178,54 @@ pub extern "C" fn quote_transaction(
     }
 }
 
+// The same of a recovery.
+fn put_recovered(answer: &mut [u64], recovered: Recovered) -> u8
+    ensures { λ r. ⌜ r ≡ recoveredNumber recovered ⌝ }
+    ensures { λ _. ⌜ now (answer .exit) ≡ lent (now (answer .entry)) (recoveredNumbers recovered) ⌝ }
+{
+    match recovered {
+        Recovered::Accepted(done) => {
+            put_numbers(answer, [done.bytes as u64, done.flushes as u64, 0, 0, 0], 2);
+            0
+        }
+        Recovered::Refused(refusal) => refusal.number,
+    }
+}
+
+#[no_mangle]
+pub extern "C" fn quote_transaction(
+    image: &[u8],
+    work: &mut [u8],
+    tape: &mut [u8],
+    edits: &[u8],
+    answer: &mut [u64],
+) -> u8
+    ensures { λ r. ⌜ r ≡ transactedNumber (transactionCall ByLine (now (image .entry)) (now (work .entry)) (now (tape .entry)) (now (edits .entry)) .answer) ⌝ }
+    ensures { λ _. ⌜ now (work .exit) ≡ transactionCall ByLine (now (image .entry)) (now (work .entry)) (now (tape .entry)) (now (edits .entry)) .work ⌝ }
+    ensures { λ _. ⌜ now (tape .exit) ≡ transactionCall ByLine (now (image .entry)) (now (work .entry)) (now (tape .entry)) (now (edits .entry)) .tape ⌝ }
+    ensures { λ _. ⌜ now (answer .exit) ≡ lent (now (answer .entry)) (transactedNumbers (transactionCall ByLine (now (image .entry)) (now (work .entry)) (now (tape .entry)) (now (edits .entry)) .answer)) ⌝ }
+{
+    let done = transaction(image, work, tape, edits);
+    put_transacted(answer, done)
+}
+
+#[no_mangle]
+pub extern "C" fn quote_transaction_words(
+    image: &[u8],
+    work: &mut [u8],
+    tape: &mut [u8],
+    edits: &[u8],
+    answer: &mut [u64],
+) -> u8
+    ensures { λ r. ⌜ r ≡ transactedNumber (transactionCall ByWords (now (image .entry)) (now (work .entry)) (now (tape .entry)) (now (edits .entry)) .answer) ⌝ }
+    ensures { λ _. ⌜ now (work .exit) ≡ transactionCall ByWords (now (image .entry)) (now (work .entry)) (now (tape .entry)) (now (edits .entry)) .work ⌝ }
+    ensures { λ _. ⌜ now (tape .exit) ≡ transactionCall ByWords (now (image .entry)) (now (work .entry)) (now (tape .entry)) (now (edits .entry)) .tape ⌝ }
+    ensures { λ _. ⌜ now (answer .exit) ≡ lent (now (answer .entry)) (transactedNumbers (transactionCall ByWords (now (image .entry)) (now (work .entry)) (now (tape .entry)) (now (edits .entry)) .answer)) ⌝ }
+{
+    let done = transaction_words(image, work, tape, edits);
+    put_transacted(answer, done)
+}
+
 #[no_mangle]
 pub extern "C" fn quote_recover(
     image: &[u8],
@@ -190,16 +233,27 @@ pub extern "C" fn quote_recover(
     tape: &mut [u8],
     answer: &mut [u64],
 ) -> u8
-    ensures { λ r. ⌜ r ≡ recoveredNumber (recoverCall (now (image .entry)) (now (work .entry)) (now (tape .entry)) .answer) ⌝ }
-    ensures { λ _. ⌜ now (work .exit) ≡ recoverCall (now (image .entry)) (now (work .entry)) (now (tape .entry)) .work ⌝ }
-    ensures { λ _. ⌜ now (tape .exit) ≡ recoverCall (now (image .entry)) (now (work .entry)) (now (tape .entry)) .tape ⌝ }
-    ensures { λ _. ⌜ now (answer .exit) ≡ lent (now (answer .entry)) (recoveredNumbers (recoverCall (now (image .entry)) (now (work .entry)) (now (tape .entry)) .answer)) ⌝ }
+    ensures { λ r. ⌜ r ≡ recoveredNumber (recoverCall ByLine (now (image .entry)) (now (work .entry)) (now (tape .entry)) .answer) ⌝ }
+    ensures { λ _. ⌜ now (work .exit) ≡ recoverCall ByLine (now (image .entry)) (now (work .entry)) (now (tape .entry)) .work ⌝ }
+    ensures { λ _. ⌜ now (tape .exit) ≡ recoverCall ByLine (now (image .entry)) (now (work .entry)) (now (tape .entry)) .tape ⌝ }
+    ensures { λ _. ⌜ now (answer .exit) ≡ lent (now (answer .entry)) (recoveredNumbers (recoverCall ByLine (now (image .entry)) (now (work .entry)) (now (tape .entry)) .answer)) ⌝ }
 {
-    match recover(image, work, tape) {
-        Recovered::Accepted(done) => {
-            put_numbers(answer, [done.bytes as u64, done.flushes as u64, 0, 0, 0], 2);
-            0
-        }
-        Recovered::Refused(refusal) => refusal.number,
-    }
+    let done = recover(image, work, tape);
+    put_recovered(answer, done)
+}
+
+#[no_mangle]
+pub extern "C" fn quote_recover_words(
+    image: &[u8],
+    work: &mut [u8],
+    tape: &mut [u8],
+    answer: &mut [u64],
+) -> u8
+    ensures { λ r. ⌜ r ≡ recoveredNumber (recoverCall ByWords (now (image .entry)) (now (work .entry)) (now (tape .entry)) .answer) ⌝ }
+    ensures { λ _. ⌜ now (work .exit) ≡ recoverCall ByWords (now (image .entry)) (now (work .entry)) (now (tape .entry)) .work ⌝ }
+    ensures { λ _. ⌜ now (tape .exit) ≡ recoverCall ByWords (now (image .entry)) (now (work .entry)) (now (tape .entry)) .tape ⌝ }
+    ensures { λ _. ⌜ now (answer .exit) ≡ lent (now (answer .entry)) (recoveredNumbers (recoverCall ByWords (now (image .entry)) (now (work .entry)) (now (tape .entry)) .answer)) ⌝ }
+{
+    let done = recover_words(image, work, tape);
+    put_recovered(answer, done)
 }

@@ -1,67 +1,73 @@
 -- The commit by the changed places: which of the three it is, that stage A stands before it, and its bytes and flushes.
 -- Assumes nothing.
-use Prim.Native.Nat.{ℕ, zero, suc, _+_, _*_, _≤_, _<_}
+use Prim.Native.Nat.{ℕ, _+_, _*_, _≤_, _<_}
 use mathlib.Core.Path.{_≡_, refl, sym, ap, ap₂, _∙_}
-use mathlib.Core.Bool.{Bool, true, false}
+use mathlib.Core.Bool.{Bool, true, false, true≢false, false≢true}
 use mathlib.Core.List.{List, [], _∷_, _++_, append-assoc}
 use native.Mathlib.Omega.{arith}
 use lib.ListN.{length, getD, length-map}
 use lib.Seq.{sets}
-use Rattle.codec.specs.Lists.{part, splice, All}
+use lib.Dec.{eqb}
+use borrow.Author.Tests.{eq-eqb, ne-eqb, eqb-true, eqb-false}
+use Rattle.codec.specs.Lists.{pick, part, splice, All}
 use Rattle.codec.specs.Numbers.{number, bytesOf}
+use Rattle.codec.proofs.Tests.{first, second}
 use Rattle.device.specs.Tape.{Op, flushCount, tapeBytes, store, flush}
 use Rattle.page.specs.Layout.{pageSize, lineSize}
 use Rattle.image.specs.PageZero.{rootOf, markBytes}
 use Rattle.journal.specs.Changes.{headerLine}
 use Rattle.journal.specs.Log.{pageLines, logTape, replayTape}
-use Rattle.journal.specs.Tape.{Taken, newHeaders, joinLines, byHeader, byRoot, byLog, choose}
+use Rattle.journal.specs.Tape.{Taken, newHeaders, joinLines, byHeader, byRoot, byLog, oneHeader, choose}
 use Rattle.journal.specs.Recovery.{logged}
 use Rattle.journal.proofs.Log.{log-after, log-read}
+use Rattle.journal.specs.declared.Way.{Way}
+use Rattle.journal.specs.declared.Way.the-variants.{ByLine, ByWords}
 use Rattle.journal.specs.declared.CommitPlace.{CommitPlace}
 use Rattle.journal.specs.declared.CommitPlace.the-variants.{Header, Root, Log}
 use Rattle.tape_write.specs.Lines.{PageIn}
-use Rattle.tape_write.specs.Sizes.{replayBytes, endBytes, endFlushes}
+use Rattle.tape_write.specs.Sizes.{linesBytes, replayBytes, logBytes, commitsAlone, endBytes, endFlushes}
 use Rattle.tape_write.proofs.Encoding.{length-none, length-next}
+use Rattle.tape_write.proofs.StageTape.{all-at}
 use Rattle.tape_write.proofs.HeaderPages.{header-length, new-lines}
+use Rattle.tape_write.proofs.LineBytes.{lines-most}
 use Rattle.tape_write.proofs.Endings.{length-settled, log-size, log-count}
 
 -- ---- which it is
 
-module _ (w : List ℕ) (same : Bool) (ps : List ℕ) where
-  pub end-root : length ps ≡ 0 → choose [] w same ps ≡ byRoot [] w
+-- a header commits by itself only on the line-store device, alone
+pub alone-true : (way : Way) (k : ℕ) (same : Bool) → commitsAlone way k same ≡ true → (way ≡ ByLine) × ((k ≡ 1) × (same ≡ true))
+unfolding commitsAlone
+alone-true ByLine k same h = (refl, (eqb-true k 1 (first (eqb k 1) same h), second (eqb k 1) same h))
+alone-true ByWords k same h = absurd (false≢true h)
+
+module _ (way : Way) (w : List ℕ) (same : Bool) (ps : List ℕ) where
+  pub end-root : length ps ≡ 0 → choose way [] w same ps ≡ byRoot [] w
   unfolding choose
   end-root e = go ps e
     where
-      go : (qs : List ℕ) → length qs ≡ 0 → choose [] w same qs ≡ byRoot [] w
+      go : (qs : List ℕ) → length qs ≡ 0 → choose way [] w same qs ≡ byRoot [] w
       go [] q = refl
       go (p ∷ qs) q = absurd (omega arith)
 
-  pub end-header : length ps ≡ 1 → same ≡ true → choose [] w same ps ≡ byHeader [] w (getD ps 0 0)
-  unfolding choose
-  end-header e t = rw t (go ps e)
+  pub end-header : commitsAlone way (length ps) same ≡ true → choose way [] w same ps ≡ byHeader [] w (getD ps 0 0)
+  unfolding choose oneHeader
+  end-header e = let h = alone-true way (length ps) same e in rw (h .0, h .1 .1) (go ps (h .1 .0))
     where
-      go : (qs : List ℕ) → length qs ≡ 1 → choose [] w true qs ≡ byHeader [] w (getD qs 0 0)
+      go : (qs : List ℕ) → length qs ≡ 1 → choose ByLine [] w true qs ≡ byHeader [] w (getD qs 0 0)
       go [] q = absurd (omega arith)
       go (p ∷ []) q = refl
       go (p ∷ r ∷ qs) q = absurd (omega arith)
 
-  pub end-other : (length ps ≡ 0 → ⊥) → same ≡ false → choose [] w same ps ≡ byLog [] w same (newHeaders w ps)
-  unfolding choose
-  end-other e t = rw t (go ps e)
+  pub end-log : (length ps ≡ 0 → ⊥) → commitsAlone way (length ps) same ≡ false → choose way [] w same ps ≡ byLog way [] w same (newHeaders w ps)
+  unfolding choose oneHeader commitsAlone
+  end-log e f = go way same ps e f
     where
-      go : (qs : List ℕ) → (length qs ≡ 0 → ⊥) → choose [] w false qs ≡ byLog [] w false (newHeaders w qs)
-      go [] q = absurd (q refl)
-      go (p ∷ []) q = refl
-      go (p ∷ r ∷ qs) q = refl
-
-  pub end-log : (length ps ≡ 0 → ⊥) → (length ps ≡ 1 → ⊥) → choose [] w same ps ≡ byLog [] w same (newHeaders w ps)
-  unfolding choose
-  end-log e f = go ps e f
-    where
-      go : (qs : List ℕ) → (length qs ≡ 0 → ⊥) → (length qs ≡ 1 → ⊥) → choose [] w same qs ≡ byLog [] w same (newHeaders w qs)
-      go [] q r = absurd (q refl)
-      go (p ∷ []) q r = absurd (r refl)
-      go (p ∷ r ∷ qs) q s = refl
+      go : (v : Way) (t : Bool) (qs : List ℕ) → (length qs ≡ 0 → ⊥) → commitsAlone v (length qs) t ≡ false → choose v [] w t qs ≡ byLog v [] w t (newHeaders w qs)
+      go v t [] q r = absurd (q refl)
+      go ByLine true (p ∷ []) q r = absurd (true≢false r)
+      go ByWords true (p ∷ []) q r = refl
+      go v false (p ∷ []) q r = refl
+      go v t (p ∷ r ∷ qs) q s = refl
 
 -- ---- stage A stands before it
 
@@ -70,68 +76,69 @@ pub record Behind (A : List Op) (t u : Taken) : Type 0 where
   pub place : t .place ≡ u .place
   pub work : t .work ≡ u .work
 
-by-log : (A : List Op) (w : List ℕ) (same : Bool) (hs : List (List ℕ)) → Behind A (byLog A w same hs) (byLog [] w same hs)
-unfolding byLog
-by-log A w same hs = record { tape = append-assoc A (logTape hs) _; place = refl; work = refl }
+module _ (A : List Op) (w : List ℕ) where
+  by-log : (way : Way) (same : Bool) (hs : List (List ℕ)) → Behind A (byLog way A w same hs) (byLog way [] w same hs)
+  unfolding byLog
+  by-log way same hs = record { tape = append-assoc A (logTape way hs) _; place = refl; work = refl }
 
-pub choose-behind : (A : List Op) (w : List ℕ) (same : Bool) (ps : List ℕ) → Behind A (choose A w same ps) (choose [] w same ps)
-unfolding choose byRoot byHeader
-choose-behind A w same [] = record { tape = refl; place = refl; work = refl }
-choose-behind A w true (p ∷ []) = record { tape = refl; place = refl; work = refl }
-choose-behind A w false (p ∷ []) = by-log A w false (newHeaders w (p ∷ []))
-choose-behind A w same (p ∷ q ∷ ps) = by-log A w same (newHeaders w (p ∷ q ∷ ps))
+  one-behind : (way : Way) (p : ℕ) → Behind A (oneHeader way A w p) (oneHeader way [] w p)
+  unfolding oneHeader byHeader
+  one-behind ByLine p = record { tape = refl; place = refl; work = refl }
+  one-behind ByWords p = by-log ByWords true (newHeaders w (p ∷ []))
+
+  pub choose-behind : (way : Way) (same : Bool) (ps : List ℕ) → Behind A (choose way A w same ps) (choose way [] w same ps)
+  unfolding choose byRoot
+  choose-behind way same [] = record { tape = refl; place = refl; work = refl }
+  choose-behind way true (p ∷ []) = one-behind way p
+  choose-behind way false (p ∷ []) = by-log way false (newHeaders w (p ∷ []))
+  choose-behind way same (p ∷ q ∷ ps) = by-log way same (newHeaders w (p ∷ q ∷ ps))
 
 -- ---- its bytes and flushes
 
-pub replay-same : (k : ℕ) (same : Bool) → same ≡ true → replayBytes k same ≡ 72 * k + 16
+pub replay-same : (way : Way) (k : ℕ) (same : Bool) → same ≡ true → replayBytes way k same ≡ linesBytes way k + 4 * k + 16
 unfolding replayBytes
-replay-same k same e = rw e (omega arith)
+replay-same way k same e = rw e (omega arith)
 
-pub replay-other : (k : ℕ) (same : Bool) → same ≡ false → replayBytes k same ≡ 72 * k + 28
+pub replay-other : (way : Way) (k : ℕ) (same : Bool) → same ≡ false → replayBytes way k same ≡ linesBytes way k + 4 * k + 28
 unfolding replayBytes
-replay-other k same e = rw e (omega arith)
+replay-other way k same e = rw e (omega arith)
 
-pub bytes-other : (k : ℕ) (same : Bool) → (k ≡ 0 → ⊥) → same ≡ false → endBytes k same ≡ 72 * k + 16 + replayBytes k same
-unfolding endBytes
-bytes-other zero same h e = absurd (h refl)
-bytes-other (suc zero) same h e = rw e
-bytes-other (suc (suc k)) same h e = refl
+module _ (way : Way) (k : ℕ) (same : Bool) where
+  pub bytes-none : k ≡ 0 → (endBytes way k same ≡ 16) × (endFlushes way k same ≡ 1)
+  unfolding endBytes endFlushes
+  bytes-none e = rw (eq-eqb k 0 e) (refl, refl)
 
-pub bytes-log : (k : ℕ) (same : Bool) → (k ≡ 0 → ⊥) → (k ≡ 1 → ⊥) → endBytes k same ≡ 72 * k + 16 + replayBytes k same
-unfolding endBytes
-bytes-log zero same h g = absurd (h refl)
-bytes-log (suc zero) same h g = absurd (g refl)
-bytes-log (suc (suc k)) same h g = refl
+  module _ (some : k ≡ 0 → ⊥) where
+    pub bytes-one : commitsAlone way k same ≡ true → (endBytes way k same ≡ 72) × (endFlushes way k same ≡ 1)
+    unfolding endBytes endFlushes
+    bytes-one t = rw (ne-eqb k 0 some, t) (refl, refl)
 
-pub bytes-one : (k : ℕ) (same : Bool) → k ≡ 1 → same ≡ true → (endBytes k same ≡ 72) × (endFlushes k same ≡ 1)
-unfolding endBytes endFlushes
-bytes-one k same e t = rw (e, t) (refl, refl)
+    pub bytes-log : commitsAlone way k same ≡ false → (endBytes way k same ≡ logBytes way k same) × (endFlushes way k same ≡ 2 * k + 2)
+    unfolding endBytes endFlushes
+    bytes-log t = rw (ne-eqb k 0 some, t) (refl, refl)
 
-pub bytes-none : (k : ℕ) (same : Bool) → k ≡ 0 → (endBytes k same ≡ 16) × (endFlushes k same ≡ 1)
-unfolding endBytes endFlushes
-bytes-none k same e = rw e (refl, refl)
+  pub replay-few : k ≤ 15 → replayBytes way k same ≤ 1528
+  unfolding replayBytes
+  replay-few h = omega (arith, lines-most way k, go same)
+    where
+      go : (t : Bool) → pick t 0 12 ≤ 12
+      go true = omega arith
+      go false = omega arith
 
-pub flushes-other : (k : ℕ) (same : Bool) → (k ≡ 0 → ⊥) → same ≡ false → endFlushes k same ≡ 2 * k + 2
-unfolding endFlushes
-flushes-other zero same h e = absurd (h refl)
-flushes-other (suc zero) same h e = rw e
-flushes-other (suc (suc k)) same h e = refl
+  log-few : k ≤ 15 → logBytes way k same ≤ 3044
+  unfolding logBytes
+  log-few h = omega (arith, lines-most way k, replay-few h)
 
-pub flushes-log : (k : ℕ) (same : Bool) → (k ≡ 0 → ⊥) → (k ≡ 1 → ⊥) → endFlushes k same ≡ 2 * k + 2
-unfolding endFlushes
-flushes-log zero same h g = absurd (h refl)
-flushes-log (suc zero) same h g = absurd (g refl)
-flushes-log (suc (suc k)) same h g = refl
+  pub end-few : k ≤ 15 → (endBytes way k same ≤ 3044) × (endFlushes way k same ≤ 32)
+  unfolding endBytes endFlushes
+  end-few h = go (eqb k 0) (commitsAlone way k same)
+    where
+      go : (s t : Bool) → (pick s 16 (pick t 72 (logBytes way k same)) ≤ 3044) × (pick s 1 (pick t 1 (2 * k + 2)) ≤ 32)
+      go true t = (omega arith, omega arith)
+      go false true = (omega arith, omega arith)
+      go false false = (log-few h, omega arith)
 
-pub end-few : (k : ℕ) (same : Bool) → k ≤ 15 → (endBytes k same ≤ 2204) × (endFlushes k same ≤ 32)
-unfolding endBytes endFlushes
-end-few zero same h = (omega arith, omega arith)
-end-few (suc zero) true h = (omega arith, omega arith)
-end-few (suc zero) false h = (omega (arith, replay-other 1 false refl), omega arith)
-end-few (suc (suc k)) true h = (omega (arith, replay-same (suc (suc k)) true refl), omega arith)
-end-few (suc (suc k)) false h = (omega (arith, replay-other (suc (suc k)) false refl), omega arith)
-
-module _ (w : List ℕ) where
+module _ (way : Way) (w : List ℕ) where
   -- the bytes and flushes of a tape
   abbrev Sized : List Op → ℕ → ℕ → Type 0
   Sized cs n m = (length (tapeBytes cs) ≡ n) × (flushCount cs ≡ m)
@@ -148,20 +155,32 @@ module _ (w : List ℕ) where
     refl,
   )
 
-  log-sized : (same : Bool) (ps : List ℕ) → All (PageIn w) ps → length ps < 256 →
-      Sized (byLog [] w same (newHeaders w ps) .tape) (72 * length ps + 16 + replayBytes (length ps) same) (2 * length ps + 2)
+  log-sized : (same : Bool) (ps : List ℕ) → All (PageIn w) ps → length ps < 256 → Sized (byLog way [] w same (newHeaders w ps) .tape) (logBytes way (length ps) same) (2 * length ps + 2)
   unfolding byLog
   log-sized same ps h small =
       let hs = newHeaders w ps in
       let n : length hs ≡ length ps = length-map ps (headerLine w) in
-      rw n (log-size hs (length ps) (new-lines w ps h) n same (rootOf w) small, log-count hs (length ps) (new-lines w ps h) n same (rootOf w) (markBytes (length ps) (rootOf w)))
+      rw n (log-size way hs (length ps) (new-lines w ps h) n same (rootOf w) small, log-count way hs (length ps) (new-lines w ps h) n same (rootOf w) (markBytes (length ps) (rootOf w)))
 
-  pub end-sized : (same : Bool) (ps : List ℕ) → All (PageIn w) ps → length ps < 256 → Sized (choose [] w same ps .tape) (endBytes (length ps) same) (endFlushes (length ps) same)
-  unfolding choose endBytes endFlushes
-  end-sized same [] h small = root-sized
-  end-sized true (p ∷ []) h small = header-sized p (h .0)
-  end-sized false (p ∷ []) h small = log-sized false (p ∷ []) h small
-  end-sized same (p ∷ q ∷ ps) h small = log-sized same (p ∷ q ∷ ps) h small
+  pub end-sized : (same : Bool) (ps : List ℕ) → All (PageIn w) ps → length ps < 256 → Sized (choose way [] w same ps .tape) (endBytes way (length ps) same) (endFlushes way (length ps) same)
+  end-sized same ps h small = go (eqb (length ps) 0) refl (commitsAlone way (length ps) same) refl
+    where
+      n : ℕ
+      n = length ps
+
+      sized : (t : Taken) (b f : ℕ) → choose way [] w same ps ≡ t → (endBytes way n same ≡ b) × (endFlushes way n same ≡ f) → Sized (t .tape) b f →
+          Sized (choose way [] w same ps .tape) (endBytes way n same) (endFlushes way n same)
+      sized t b f e s z = rw (e, s .0, s .1) z
+
+      go : (z : Bool) → eqb n 0 ≡ z → (t : Bool) → commitsAlone way n same ≡ t → Sized (choose way [] w same ps .tape) (endBytes way n same) (endFlushes way n same)
+      go true z t e = let q = eqb-true n 0 z in sized (byRoot [] w) 16 1 (end-root way w same ps q) (bytes-none way n same q) root-sized
+      go false z true e =
+          let q = eqb-false n 0 z in
+          let one = alone-true way n same e .1 .0 in
+          sized (byHeader [] w (getD ps 0 0)) 72 1 (end-header way w same ps e) (bytes-one way n same q e) (header-sized (getD ps 0 0) (all-at (PageIn w) ps 0 h (omega arith)))
+      go false z false e =
+          let q = eqb-false n 0 z in
+          sized (byLog way [] w same (newHeaders w ps)) (logBytes way n same) (2 * n + 2) (end-log way w same ps q e) (bytes-log way n same q e) (log-sized same ps h small)
 
 -- ---- the log read back from work's lines
 
@@ -172,8 +191,8 @@ log-back w ps h few long =
     let n : length hs ≡ length ps = length-map ps (headerLine w) in
     let fits : lineSize * (1 + length hs) ≤ length w = omega arith in
     ap (λ (k : ℕ). logged k (splice w lineSize (joinLines hs))) (sym n)
-    ∙ ap (logged (length hs)) (sym (log-after hs (new-lines w ps h) w fits))
-    ∙ log-read hs (new-lines w ps h) w fits
+    ∙ ap (logged (length hs)) (sym (log-after ByLine hs (new-lines w ps h) w fits))
+    ∙ log-read ByLine hs (new-lines w ps h) w fits
 
 -- ---- what a writer leaves
 
@@ -194,19 +213,19 @@ module _ (w : List ℕ) (t t′ : List ℕ) (at : ℕ) where
   leaves-header p h = (refl, (refl, h))
 
   -- by the log, the headers stand in the log's lines of the new work image
-  pub log-tape : (k root : ℕ) (w′ ps : List ℕ) (same : Bool) → w′ ≡ splice w lineSize (joinLines (newHeaders w ps)) → length ps ≡ k → root ≡ number (part w 8 8) →
+  pub log-tape : (way : Way) (k root : ℕ) (w′ ps : List ℕ) (same : Bool) → w′ ≡ splice w lineSize (joinLines (newHeaders w ps)) → length ps ≡ k → root ≡ number (part w 8 8) →
       All (PageIn w) ps → k ≤ 15 → pageSize ≤ length w →
-      t′ ≡ sets t at (tapeBytes (logTape (logged k w′) ++ (store 0 (markBytes k root) ∷ flush 0 ∷ replayTape (logged k w′) same root))) →
-      t′ ≡ sets t at (tapeBytes (byLog [] w same (newHeaders w ps) .tape))
+      t′ ≡ sets t at (tapeBytes (logTape way (logged k w′) ++ (store 0 (markBytes k root) ∷ flush 0 ∷ replayTape way (logged k w′) same root))) →
+      t′ ≡ sets t at (tapeBytes (byLog way [] w same (newHeaders w ps) .tape))
   unfolding byLog rootOf
-  log-tape k root w′ ps same e n r inn few long h =
+  log-tape way k root w′ ps same e n r inn few long h =
       let m : length (newHeaders w ps) ≡ length ps = length-map ps (headerLine w) in
       let hs : logged k w′ ≡ newHeaders w ps = ap (λ (j : ℕ). logged j w′) (sym n) ∙ ap (logged (length ps)) e ∙ log-back w ps inn (omega arith) long in
       h
-      ∙ ap₂ (λ (x : List (List ℕ)) (q : ℕ). sets t at (tapeBytes (logTape x ++ (store 0 (markBytes k q) ∷ flush 0 ∷ replayTape x same q)))) hs r
-      ∙ ap (λ (j : ℕ). sets t at (tapeBytes (logTape (newHeaders w ps) ++ (store 0 (markBytes j (number (part w 8 8))) ∷ flush 0 ∷ replayTape (newHeaders w ps) same (number (part w 8 8)))))) (sym n ∙ sym m)
+      ∙ ap₂ (λ (x : List (List ℕ)) (q : ℕ). sets t at (tapeBytes (logTape way x ++ (store 0 (markBytes k q) ∷ flush 0 ∷ replayTape way x same q)))) hs r
+      ∙ ap (λ (j : ℕ). sets t at (tapeBytes (logTape way (newHeaders w ps) ++ (store 0 (markBytes j (number (part w 8 8))) ∷ flush 0 ∷ replayTape way (newHeaders w ps) same (number (part w 8 8)))))) (sym n ∙ sym m)
 
-  pub leaves-log : (same : Bool) (ps w′ : List ℕ) → w′ ≡ byLog [] w same (newHeaders w ps) .work → t′ ≡ sets t at (tapeBytes (byLog [] w same (newHeaders w ps) .tape)) →
-      Leaves (byLog [] w same (newHeaders w ps)) t at Log w′ t′
+  pub leaves-log : (way : Way) (same : Bool) (ps w′ : List ℕ) → w′ ≡ byLog way [] w same (newHeaders w ps) .work → t′ ≡ sets t at (tapeBytes (byLog way [] w same (newHeaders w ps) .tape)) →
+      Leaves (byLog way [] w same (newHeaders w ps)) t at Log w′ t′
   unfolding byLog
-  leaves-log same ps w′ e h = (refl, (e, h))
+  leaves-log way same ps w′ e h = (refl, (e, h))

@@ -17,6 +17,7 @@ use Rattle.image.proofs.Zero.{isPage-true}
 use Rattle.journal.specs.Changes.{pageWords, changedPages, sameRoot}
 use Rattle.journal.specs.Tape.{choose, roomInLog, takenFor, commitOf}
 use Rattle.journal.proofs.Changed.{InBoth, changed-both}
+use Rattle.journal.specs.declared.Way.{Way}
 use Rattle.journal.specs.declared.CommitPlace.{CommitPlace}
 use Rattle.tape_write.specs.Words.{stageWords, WordIn, linesPast, stageTape}
 use Rattle.tape_write.specs.Lines.{PageIn}
@@ -32,7 +33,7 @@ use Rattle.tape_write.specs.declared.Written.the-variants as writes
 
 -- ---- the transaction's tape by what differs
 
-module _ (a w : List ℕ) (is : Images a w) where
+module _ (way : Way) (a w : List ℕ) (is : Images a w) where
   abbrev ks : List ℕ
   ks = stageWords a w
 
@@ -47,26 +48,26 @@ module _ (a w : List ℕ) (is : Images a w) where
       All-map (InBoth a w) (PageIn w) (λ p h. let q = isPage-true (pageCount a) p (h .page) in (q .0, omega (arith, q .1, is .same)))
       ps (changed-both a w (omega (arith, is .low)))
 
-  behind : Behind (stageTape w ks) (takenFor a w) (choose [] w (sameRoot a w) ps)
+  behind : Behind (stageTape w ks) (takenFor way a w) (choose way [] w (sameRoot a w) ps)
   unfolding takenFor
-  behind = subst (λ (A : List Op). Behind (stageTape w ks) (choose A w (sameRoot a w) ps) (choose [] w (sameRoot a w) ps)) (sym (stage-tape a w is)) (choose-behind (stageTape w ks) w (sameRoot a w) ps)
+  behind = subst (λ (A : List Op). Behind (stageTape w ks) (choose way A w (sameRoot a w) ps) (choose way [] w (sameRoot a w) ps)) (sym (stage-tape a w is)) (choose-behind (stageTape w ks) w way (sameRoot a w) ps)
 
   module _ (few : length ps ≤ 15) where
-    pub taken-size : length (tapeBytes (takenFor a w .tape)) ≡ 12 * length ks + 4 * length (linesPast 0 ks) + endBytes (length ps) (sameRoot a w)
+    pub taken-size : length (tapeBytes (takenFor way a w .tape)) ≡ 12 * length ks + 4 * length (linesPast 0 ks) + endBytes way (length ps) (sameRoot a w)
     taken-size =
         ap (λ (cs : List Op). length (tapeBytes cs)) (behind .tape)
-        ∙ length-tapes (stageTape w ks) (choose [] w (sameRoot a w) ps .tape)
-        ∙ omega (arith, stage-size w ks words-there, end-sized w (sameRoot a w) ps pages-there (omega arith) .0)
+        ∙ length-tapes (stageTape w ks) (choose way [] w (sameRoot a w) ps .tape)
+        ∙ omega (arith, stage-size w ks words-there, end-sized way w (sameRoot a w) ps pages-there (omega arith) .0)
 
-    taken-flushes : flushCount (takenFor a w .tape) ≡ length (linesPast 0 ks) + endFlushes (length ps) (sameRoot a w)
+    taken-flushes : flushCount (takenFor way a w .tape) ≡ length (linesPast 0 ks) + endFlushes way (length ps) (sameRoot a w)
     taken-flushes =
         ap flushCount (behind .tape)
-        ∙ flushCount-append (stageTape w ks) (choose [] w (sameRoot a w) ps .tape)
-        ∙ omega (arith, stage-flushes w ks, end-sized w (sameRoot a w) ps pages-there (omega arith) .1)
+        ∙ flushCount-append (stageTape w ks) (choose way [] w (sameRoot a w) ps .tape)
+        ∙ omega (arith, stage-flushes w ks, end-sized way w (sameRoot a w) ps pages-there (omega arith) .1)
 
 -- ---- by the code's counts
 
-module _ (a w : List ℕ) (is : Images a w) (r : Changes) (c : Counted a w r) where
+module _ (way : Way) (a w : List ℕ) (is : Images a w) (r : Changes) (c : Counted a w r) where
   pub counts-few : (r .words ≤ 8192) × (r .lines ≤ 8192)
   counts-few =
       let few = words-few a w is in
@@ -83,41 +84,41 @@ module _ (a w : List ℕ) (is : Images a w) (r : Changes) (c : Counted a w r) wh
     pub pages-are : (z pages : List ℕ) → length z ≡ 64 → pages ≡ sets z 0 (changedPages a w) → take (r .headers) pages ≡ changedPages a w
     pages-are z pages n e = ap (λ (m : ℕ). take m pages) (c .headers) ∙ collected z pages (changedPages a w) e (omega (arith, pages-few))
 
-    pub bytes-are : (n : ℕ) → n ≡ endBytes (r .headers) (r .same) → 12 * r .words + 4 * r .lines + n ≡ length (tapeBytes (takenFor a w .tape))
+    pub bytes-are : (n : ℕ) → n ≡ endBytes way (r .headers) (r .same) → 12 * r .words + 4 * r .lines + n ≡ length (tapeBytes (takenFor way a w .tape))
     bytes-are n e =
-        let s : n ≡ endBytes (length (changedPages a w)) (sameRoot a w) = e ∙ ap₂ endBytes (c .headers) (c .root) in
-        omega (arith, c .words, c .lines, taken-size a w is pages-few)
+        let s : n ≡ endBytes way (length (changedPages a w)) (sameRoot a w) = e ∙ ap₂ (endBytes way) (c .headers) (c .root) in
+        omega (arith, c .words, c .lines, taken-size way a w is pages-few)
 
 -- ---- the ways out of the call
 
-module _ (a w tape : List ℕ) where
+module _ (way : Way) (a w tape : List ℕ) where
   -- the answer and the buffers that the call leaves
   abbrev pub Says : Written → List ℕ → List ℕ → Type 0
-  Says r work t = (r ≡ commitCall a w tape .answer) × ((work ≡ commitCall a w tape .work) × (t ≡ commitCall a w tape .tape))
+  Says r work t = (r ≡ commitCall way a w tape .answer) × ((work ≡ commitCall way a w tape .work) × (t ≡ commitCall way a w tape .tape))
 
   pub says-full : 15 < length (changedPages a w) → Says writes.LogFull w tape
   unfolding commitCall roomInLog
   says-full h = rw (lt-leb (length (changedPages a w)) 15 h) (refl, (refl, refl))
 
-  module _ (is : Images a w) (few : length (changedPages a w) ≤ 15) (bytes : ℕ) (sized : bytes ≡ length (tapeBytes (takenFor a w .tape))) where
+  module _ (is : Images a w) (few : length (changedPages a w) ≤ 15) (bytes : ℕ) (sized : bytes ≡ length (tapeBytes (takenFor way a w .tape))) where
     pub says-short : length tape < bytes → Says writes.TapeShort w tape
     unfolding commitCall roomInLog
-    says-short h = rw (le-leb (length (changedPages a w)) 15 few, lt-leb (length (tapeBytes (takenFor a w .tape))) (length tape) (omega arith)) (refl, (refl, refl))
+    says-short h = rw (le-leb (length (changedPages a w)) 15 few, lt-leb (length (tapeBytes (takenFor way a w .tape))) (length tape) (omega arith)) (refl, (refl, refl))
 
     -- stage A is written, and then the end behind it
     pub says-done : bytes ≤ length tape → (lines flushes stage : ℕ) (place : CommitPlace) (t work t′ : List ℕ) →
         t ≡ sets tape 0 (tapeBytes (stageTape w (stageWords a w))) → stage ≡ 12 * length (stageWords a w) + 4 * length (linesPast 0 (stageWords a w)) →
-        Leaves (choose [] w (sameRoot a w) (changedPages a w)) t stage place work t′ →
-        lines ≡ length (linesPast 0 (stageWords a w)) → flushes ≡ endFlushes (length (changedPages a w)) (sameRoot a w) →
+        Leaves (choose way [] w (sameRoot a w) (changedPages a w)) t stage place work t′ →
+        lines ≡ length (linesPast 0 (stageWords a w)) → flushes ≡ endFlushes way (length (changedPages a w)) (sameRoot a w) →
         Says (writes.Done (record { place = place; bytes = bytes; flushes = lines + flushes })) work t′
     unfolding commitCall roomInLog commitOf
     says-done room lines flushes stage place t work t′ e s left n m =
-        let x = takenFor a w in
-        let b = behind a w is in
-        let u = choose [] w (sameRoot a w) (changedPages a w) in
-        let size = stage-size w (stageWords a w) (words-there a w is) in
+        let x = takenFor way a w in
+        let b = behind way a w is in
+        let u = choose way [] w (sameRoot a w) (changedPages a w) in
+        let size = stage-size w (stageWords a w) (words-there way a w is) in
         let p : place ≡ x .place = left .0 ∙ sym (b .place) in
-        let f : lines + flushes ≡ flushCount (x .tape) = omega (arith, taken-flushes a w is few) in
+        let f : lines + flushes ≡ flushCount (x .tape) = omega (arith, taken-flushes way a w is few) in
         let whole : t′ ≡ splice tape 0 (tapeBytes (x .tape)) =
         tape-then tape t t′ 0 stage (stageTape w (stageWords a w)) (u .tape) e (omega arith) (left .1 .1)
         ∙ ap (λ (cs : List Op). sets tape 0 (tapeBytes cs)) (sym (b .tape))

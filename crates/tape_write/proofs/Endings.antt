@@ -14,9 +14,10 @@ use Rattle.device.specs.Tape.{Op, flushCount, tapeBytes, store, flush}
 use Rattle.device.proofs.Cuts.{flushCount-append}
 use Rattle.image.specs.PageZero.{markBytes, noMark}
 use Rattle.journal.specs.Log.{logTape, ending, replayTape}
+use Rattle.journal.specs.declared.Way.{Way}
 use Rattle.journal.proofs.Headers.{Lines}
 use Rattle.tape_write.specs.Lines.{lineStores, lineFlushes}
-use Rattle.tape_write.specs.Sizes.{replayBytes}
+use Rattle.tape_write.specs.Sizes.{linesBytes, replayBytes, logBytes}
 use Rattle.tape_write.proofs.Encoding.{length-none, length-next, length-tapes, tape-then}
 use Rattle.tape_write.proofs.LogLines.{stores-log, flushes-logged, stores-own, flushes-own, stores-size, flushes-size, stores-count, flushes-count}
 
@@ -55,41 +56,47 @@ ending-other root = refl
 
 -- ---- the replay and the log
 
-module _ (hs : List (List ℕ)) (k : ℕ) (lines : Lines hs) (count : length hs ≡ k) (same : Bool) (root : ℕ) where
-  size-68 : (own : Bool) → length (tapeBytes (lineStores own 1 hs)) ≡ 68 * k
-  size-68 own = stores-size own 1 hs lines ∙ ap (λ (n : ℕ). 68 * n) count
+module _ (way : Way) (hs : List (List ℕ)) (k : ℕ) (lines : Lines hs) (count : length hs ≡ k) (same : Bool) (root : ℕ) where
+  abbrev S : Bool → List Op
+  S own = lineStores way own 1 hs
 
-  size-72 : (own : Bool) → length (tapeBytes (lineStores own 1 hs ++ lineFlushes own 1 hs)) ≡ 72 * k
-  size-72 own = length-tapes (lineStores own 1 hs) (lineFlushes own 1 hs) ∙ omega (arith, size-68 own, flushes-size own 1 hs)
+  abbrev F : Bool → List Op
+  F own = lineFlushes own 1 hs
 
-  replay-is : (lineStores true 1 hs ++ lineFlushes true 1 hs) ++ ending same root ≡ replayTape hs same root
+  stores-bytes : (own : Bool) → length (tapeBytes (S own)) ≡ linesBytes way k
+  stores-bytes own = stores-size way own 1 hs lines ∙ ap (linesBytes way) count
+
+  lines-bytes : (own : Bool) → length (tapeBytes (S own ++ F own)) ≡ linesBytes way k + 4 * k
+  lines-bytes own = length-tapes (S own) (F own) ∙ omega (arith, stores-bytes own, flushes-size own 1 hs)
+
+  replay-is : (S true ++ F true) ++ ending same root ≡ replayTape way hs same root
   unfolding replayTape
-  replay-is = append-assoc (lineStores true 1 hs) (lineFlushes true 1 hs) (ending same root) ∙ ap₂ (λ (x y : List Op). x ++ (y ++ ending same root)) (stores-own 1 hs) (flushes-own 1 hs)
+  replay-is = append-assoc (S true) (F true) (ending same root) ∙ ap₂ (λ (x y : List Op). x ++ (y ++ ending same root)) (stores-own way 1 hs) (flushes-own 1 hs)
 
-  log-is : lineStores false 1 hs ++ lineFlushes false 1 hs ≡ logTape hs
+  log-is : S false ++ F false ≡ logTape way hs
   unfolding logTape
-  log-is = ap₂ (λ (x y : List Op). x ++ y) (stores-log 1 hs) (flushes-logged 1 hs)
+  log-is = ap₂ (λ (x y : List Op). x ++ y) (stores-log way 1 hs) (flushes-logged 1 hs)
 
   -- header stores, their flushes, the ending
-  pub replay-chain : (t t₁ t₂ t₃ : List ℕ) (at : ℕ) → t₁ ≡ sets t at (tapeBytes (lineStores true 1 hs)) → t₂ ≡ sets t₁ (at + 68 * k) (tapeBytes (lineFlushes true 1 hs)) →
-      t₃ ≡ sets t₂ (at + 72 * k) (tapeBytes (ending same root)) → t₃ ≡ sets t at (tapeBytes (replayTape hs same root))
-  replay-chain t t₁ t₂ t₃ at e f g =
-      tape-then t t₂ t₃ at (at + 72 * k) (lineStores true 1 hs ++ lineFlushes true 1 hs) (ending same root)
-      (tape-then t t₁ t₂ at (at + 68 * k) (lineStores true 1 hs) (lineFlushes true 1 hs) e (omega (arith, size-68 true)) f) (omega (arith, size-72 true)) g
+  pub replay-chain : (t t₁ t₂ t₃ : List ℕ) (at n : ℕ) → n ≡ linesBytes way k → t₁ ≡ sets t at (tapeBytes (S true)) → t₂ ≡ sets t₁ (at + n) (tapeBytes (F true)) →
+      t₃ ≡ sets t₂ (at + n + 4 * k) (tapeBytes (ending same root)) → t₃ ≡ sets t at (tapeBytes (replayTape way hs same root))
+  replay-chain t t₁ t₂ t₃ at n m e f g =
+      tape-then t t₂ t₃ at (at + n + 4 * k) (S true ++ F true) (ending same root) (tape-then t t₁ t₂ at (at + n) (S true) (F true) e (omega (arith, stores-bytes true)) f) (omega (arith, lines-bytes true)) g
       ∙ ap (λ (cs : List Op). sets t at (tapeBytes cs)) replay-is
 
   -- the log's stores and flushes, the mark and its flush, the replay
-  pub log-chain : k < 256 → (t t₁ t₂ t₃ t₄ : List ℕ) (at : ℕ) → t₁ ≡ sets t at (tapeBytes (lineStores false 1 hs)) → t₂ ≡ sets t₁ (at + 68 * k) (tapeBytes (lineFlushes false 1 hs)) →
-      t₃ ≡ sets t₂ (at + 72 * k) (tapeBytes (store (8 * 0) (bytesOf 8 (1 + 256 * k + 65536 * (root % 65536))) ∷ flush 0 ∷ [])) →
-      t₄ ≡ sets t₃ (at + 72 * k + 16) (tapeBytes (replayTape hs same root)) →
-      t₄ ≡ sets t at (tapeBytes (logTape hs ++ (store 0 (markBytes k root) ∷ flush 0 ∷ replayTape hs same root)))
-  log-chain small t t₁ t₂ t₃ t₄ at e f g h =
+  pub log-chain : k < 256 → (t t₁ t₂ t₃ t₄ : List ℕ) (at n : ℕ) → n ≡ linesBytes way k → t₁ ≡ sets t at (tapeBytes (S false)) → t₂ ≡ sets t₁ (at + n) (tapeBytes (F false)) →
+      t₃ ≡ sets t₂ (at + n + 4 * k) (tapeBytes (store (8 * 0) (bytesOf 8 (1 + 256 * k + 65536 * (root % 65536))) ∷ flush 0 ∷ [])) →
+      t₄ ≡ sets t₃ (at + n + 4 * k + 16) (tapeBytes (replayTape way hs same root)) →
+      t₄ ≡ sets t at (tapeBytes (logTape way hs ++ (store 0 (markBytes k root) ∷ flush 0 ∷ replayTape way hs same root)))
+  log-chain small t t₁ t₂ t₃ t₄ at n m e f g h =
       let v = 1 + 256 * k + 65536 * (root % 65536) in
-      let log = tape-then t t₁ t₂ at (at + 68 * k) (lineStores false 1 hs) (lineFlushes false 1 hs) e (omega (arith, size-68 false)) f in
-      let end : t₄ ≡ sets t₂ (at + 72 * k) (tapeBytes (store (8 * 0) (bytesOf 8 v) ∷ flush 0 ∷ replayTape hs same root)) =
-      tape-then t₂ t₃ t₄ (at + 72 * k) (at + 72 * k + 16) (store (8 * 0) (bytesOf 8 v) ∷ flush 0 ∷ []) (replayTape hs same root) g (omega (arith, length-settled 0 v)) h in
-      tape-then t t₂ t₄ at (at + 72 * k) (lineStores false 1 hs ++ lineFlushes false 1 hs) _ log (omega (arith, size-72 false)) end
-      ∙ ap₂ (λ (cs : List Op) (m : List ℕ). sets t at (tapeBytes (cs ++ (store 0 m ∷ flush 0 ∷ replayTape hs same root)))) log-is (mark-number k root small)
+      let mark = at + n + 4 * k in
+      let log = tape-then t t₁ t₂ at (at + n) (S false) (F false) e (omega (arith, stores-bytes false)) f in
+      let end : t₄ ≡ sets t₂ mark (tapeBytes (store (8 * 0) (bytesOf 8 v) ∷ flush 0 ∷ replayTape way hs same root)) =
+      tape-then t₂ t₃ t₄ mark (mark + 16) (store (8 * 0) (bytesOf 8 v) ∷ flush 0 ∷ []) (replayTape way hs same root) g (omega (arith, length-settled 0 v)) h in
+      tape-then t t₂ t₄ at mark (S false ++ F false) _ log (omega (arith, lines-bytes false)) end
+      ∙ ap₂ (λ (cs : List Op) (m : List ℕ). sets t at (tapeBytes (cs ++ (store 0 m ∷ flush 0 ∷ replayTape way hs same root)))) log-is (mark-number k root small)
 
   -- ---- their sizes
 
@@ -100,21 +107,22 @@ module _ (hs : List (List ℕ)) (k : ℕ) (lines : Lines hs) (count : length hs 
       ∙ length-tapes (store (8 * 1) (bytesOf 8 root) ∷ []) (store (8 * 0) (bytesOf 8 0) ∷ flush 0 ∷ [])
       ∙ omega (arith, length-number 1 root, length-settled 0 0)
 
-  pub replay-size : length (tapeBytes (replayTape hs same root)) ≡ replayBytes k same
+  pub replay-size : length (tapeBytes (replayTape way hs same root)) ≡ replayBytes way k same
   unfolding replayBytes
   replay-size =
       ap (λ (cs : List Op). length (tapeBytes cs)) (sym replay-is)
-      ∙ length-tapes (lineStores true 1 hs ++ lineFlushes true 1 hs) (ending same root)
-      ∙ omega (arith, size-72 true, ending-size same)
+      ∙ length-tapes (S true ++ F true) (ending same root)
+      ∙ omega (arith, lines-bytes true, ending-size same)
 
-  pub log-size : k < 256 → length (tapeBytes (logTape hs ++ (store 0 (markBytes k root) ∷ flush 0 ∷ replayTape hs same root))) ≡ 72 * k + 16 + replayBytes k same
+  pub log-size : k < 256 → length (tapeBytes (logTape way hs ++ (store 0 (markBytes k root) ∷ flush 0 ∷ replayTape way hs same root))) ≡ logBytes way k same
+  unfolding logBytes
   log-size small =
-      ap₂ (λ (cs : List Op) (m : List ℕ). length (tapeBytes (cs ++ (store 0 m ∷ flush 0 ∷ replayTape hs same root)))) (sym log-is) (sym (mark-number k root small))
-      ∙ length-tapes (lineStores false 1 hs ++ lineFlushes false 1 hs) _
+      ap₂ (λ (cs : List Op) (m : List ℕ). length (tapeBytes (cs ++ (store 0 m ∷ flush 0 ∷ replayTape way hs same root)))) (sym log-is) (sym (mark-number k root small))
+      ∙ length-tapes (S false ++ F false) _
       ∙ omega (
         arith,
-        size-72 false,
-        length-tapes (store (8 * 0) (bytesOf 8 (1 + 256 * k + 65536 * (root % 65536))) ∷ flush 0 ∷ []) (replayTape hs same root),
+        lines-bytes false,
+        length-tapes (store (8 * 0) (bytesOf 8 (1 + 256 * k + 65536 * (root % 65536))) ∷ flush 0 ∷ []) (replayTape way hs same root),
         length-settled 0 (1 + 256 * k + 65536 * (root % 65536)),
         replay-size,
       )
@@ -124,16 +132,15 @@ module _ (hs : List (List ℕ)) (k : ℕ) (lines : Lines hs) (count : length hs 
   ending-count true = refl
   ending-count false = refl
 
-  count-lines : (own : Bool) → flushCount (lineStores own 1 hs ++ lineFlushes own 1 hs) ≡ k
-  count-lines own = flushCount-append (lineStores own 1 hs) (lineFlushes own 1 hs) ∙ omega (arith, stores-count own 1 hs, flushes-count own 1 hs)
+  count-lines : (own : Bool) → flushCount (S own ++ F own) ≡ k
+  count-lines own = flushCount-append (S own) (F own) ∙ omega (arith, stores-count way own 1 hs, flushes-count own 1 hs)
 
-  pub replay-count : flushCount (replayTape hs same root) ≡ k + 1
-  replay-count =
-      ap flushCount (sym replay-is) ∙ flushCount-append (lineStores true 1 hs ++ lineFlushes true 1 hs) (ending same root) ∙ omega (arith, count-lines true, ending-count same)
+  pub replay-count : flushCount (replayTape way hs same root) ≡ k + 1
+  replay-count = ap flushCount (sym replay-is) ∙ flushCount-append (S true ++ F true) (ending same root) ∙ omega (arith, count-lines true, ending-count same)
 
-  pub log-count : (m : List ℕ) → flushCount (logTape hs ++ (store 0 m ∷ flush 0 ∷ replayTape hs same root)) ≡ 2 * k + 2
+  pub log-count : (m : List ℕ) → flushCount (logTape way hs ++ (store 0 m ∷ flush 0 ∷ replayTape way hs same root)) ≡ 2 * k + 2
   unfolding flushCount
   log-count m =
-      ap (λ (cs : List Op). flushCount (cs ++ (store 0 m ∷ flush 0 ∷ replayTape hs same root))) (sym log-is)
-      ∙ flushCount-append (lineStores false 1 hs ++ lineFlushes false 1 hs) (store 0 m ∷ flush 0 ∷ replayTape hs same root)
+      ap (λ (cs : List Op). flushCount (cs ++ (store 0 m ∷ flush 0 ∷ replayTape way hs same root))) (sym log-is)
+      ∙ flushCount-append (S false ++ F false) (store 0 m ∷ flush 0 ∷ replayTape way hs same root)
       ∙ omega (arith, count-lines false, replay-count)

@@ -4,6 +4,7 @@ pub mod StageWords
 pub mod StageTape
 pub mod HeaderPages
 pub mod Skipped
+pub mod LineBytes
 pub mod LogLines
 pub mod Endings
 pub mod Choosing

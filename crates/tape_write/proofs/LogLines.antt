@@ -1,9 +1,9 @@
--- The headers in the log's lines on the tape: one store or flush more, which commands of the definitions they are, and their size.
+-- The headers in the log's lines on the tape: one header or flush more, which commands of the definitions they are, and their size.
 -- Assumes nothing.
 use Prim.Native.Nat.{ℕ, zero, suc, _+_, _-_, _*_, _≤_, _<_}
-use mathlib.Core.Path.{_≡_, refl, sym, ap, _∙_}
+use mathlib.Core.Path.{_≡_, refl, sym, ap, ap₂, _∙_}
 use mathlib.Core.Bool.{Bool, true, false}
-use mathlib.Core.List.{List, [], _∷_}
+use mathlib.Core.List.{List, [], _∷_, _++_}
 use native.Mathlib.Omega.{arith}
 use native.Mathlib.Numerals.{add-one}
 use lib.ListN.{length}
@@ -11,14 +11,20 @@ use lib.Seq.{sets}
 use Rattle.codec.specs.Lists.{part, splice}
 use Rattle.codec.specs.Numbers.{number}
 use Rattle.codec.proofs.Lists.{length-part}
-use Rattle.device.specs.Tape.{Op, flushCount, lineBytes, flushBytes, tapeBytes, store, flush}
+use Rattle.device.specs.Tape.{Op, flushCount, flushBytes, tapeBytes, flush}
+use Rattle.device.proofs.Clauses.{flushCount-nil}
+use Rattle.device.proofs.Cuts.{flushCount-append}
 use Rattle.page.specs.Layout.{pageSize, lineSize}
 use Rattle.image.proofs.General.{part-part}
+use Rattle.journal.specs.Way.{lineBy}
 use Rattle.journal.specs.Log.{pageLines, ownPage, logStores, logFlushes, headerStores, headerFlushes}
 use Rattle.journal.specs.Recovery.{linesFrom, logged}
+use Rattle.journal.specs.declared.Way.{Way}
 use Rattle.journal.proofs.Headers.{Lines, lines-from}
 use Rattle.tape_write.specs.Lines.{lineFor, lineStores, lineFlushes}
-use Rattle.tape_write.proofs.Encoding.{line-next, flush-next, tape-none, length-none, length-next}
+use Rattle.tape_write.specs.Sizes.{linesBytes}
+use Rattle.tape_write.proofs.Encoding.{flush-next, tape-append, tape-none, length-none, length-next, length-tapes}
+use Rattle.tape_write.proofs.LineBytes.{lines-zero, lines-more, line-size, line-count}
 
 -- ---- the lines, one by one
 
@@ -47,19 +53,31 @@ module _ (src : List ℕ) (k i : ℕ) where
   unfolding linesFrom
   lines-none h = let e : k - i ≡ 0 = omega arith in rw e
 
-  module _ (own : Bool) (t t′ : List ℕ) (at : ℕ) where
-    -- the store of the i-th header, written at its place
-    pub line-step : (line : ℕ) → i < k → 64 * k + 64 ≤ length src → at + 68 * k ≤ length t → line ≡ lineFor own (i + 1) (part src (64 * (i + 1)) 64) →
-        t′ ≡ splice t (at + 68 * i) (lineBytes line (part src (64 * (i + 1)) 64)) →
-        sets t′ (at + 68 * (i + 1)) (tapeBytes (lineStores own (i + 1 + 1) (linesPassed (i + 1)))) ≡ sets t (at + 68 * i) (tapeBytes (lineStores own (i + 1) (linesPassed i)))
+  module _ (way : Way) (own : Bool) (t t′ : List ℕ) (at : ℕ) where
+    -- the stores of the i-th header, written at their place
+    pub line-step : (line n : ℕ) → i < k → 64 * k + 64 ≤ length src → line ≡ lineFor own (i + 1) (part src (64 * (i + 1)) 64) →
+        n ≡ linesBytes way i → t′ ≡ sets t (at + n) (tapeBytes (lineBy way (lineSize * line) (part src (64 * (i + 1)) 64))) →
+        sets t′ (at + linesBytes way (i + 1)) (tapeBytes (lineStores way own (i + 1 + 1) (linesPassed (i + 1)))) ≡ sets t (at + linesBytes way i) (tapeBytes (lineStores way own (i + 1) (linesPassed i)))
     unfolding lineStores
-    line-step line more fits room e h =
-        line-next t t′ (at + 68 * i) (at + 68 * (i + 1)) (lineStores own (i + 1 + 1) (linesPassed (i + 1))) line (part src (64 * (i + 1)) 64) h (length-part src (64 * (i + 1)) 64 (omega arith)) (omega arith) (omega arith)
+    line-step line n more fits e m h =
+        let line-of = part src (64 * (i + 1)) 64 in
+        let size = line-size way (lineSize * line) line-of (length-part src (64 * (i + 1)) 64 (omega arith)) in
+        tape-append t t′ (at + linesBytes way i) (at + linesBytes way (i + 1)) (lineBy way (lineSize * line) line-of) (lineStores way own (i + 1 + 1) (linesPassed (i + 1)))
+        (h ∙ ap (λ (o : ℕ). sets t (at + o) (tapeBytes (lineBy way (lineSize * line) line-of))) m) (omega (arith, lines-more way i))
         ∙ rw (lines-next more, e, add-one (i + 1))
 
-    pub line-end : k ≤ i → sets t at (tapeBytes (lineStores own (i + 1) (linesPassed i))) ≡ t
+  module _ (own : Bool) (t t′ : List ℕ) (at : ℕ) where
+    -- before the first of them
+    pub line-start : (way : Way) → sets t (at + linesBytes way 0) (tapeBytes (lineStores way own (0 + 1) (linesFrom (k - 0) (0 + 1) src))) ≡ sets t at (tapeBytes (lineStores way own 1 (logged k src)))
+    unfolding logged
+    line-start way =
+        let e : at + linesBytes way 0 ≡ at = omega (arith, lines-zero way) in
+        let f : k - 0 ≡ k = omega arith in
+        ap₂ (λ (o n : ℕ). sets t o (tapeBytes (lineStores way own 1 (linesFrom n 1 src)))) e f
+
+    pub line-end : (way : Way) → k ≤ i → sets t at (tapeBytes (lineStores way own (i + 1) (linesPassed i))) ≡ t
     unfolding lineStores
-    line-end h = rw (lines-none h) (tape-none t at)
+    line-end way h = rw (lines-none h) (tape-none t at)
 
     -- its flush
     pub flush-step : (line : ℕ) → i < k → at + 4 * k ≤ length t → line ≡ lineFor own (i + 1) (part src (64 * (i + 1)) 64) → t′ ≡ splice t (at + 4 * i) (flushBytes line) →
@@ -87,22 +105,22 @@ logged-length k src = go k 1
 
 -- ---- the commands of the definitions
 
-pub stores-log : (l : ℕ) (hs : List (List ℕ)) → lineStores false l hs ≡ logStores l hs
+pub stores-log : (way : Way) (l : ℕ) (hs : List (List ℕ)) → lineStores way false l hs ≡ logStores way l hs
 unfolding lineStores lineFor logStores
-stores-log l [] = refl
-stores-log l (h ∷ hs) = ap (λ (cs : List Op). store (lineSize * l) h ∷ cs) (stores-log (suc l) hs)
+stores-log way l [] = refl
+stores-log way l (h ∷ hs) = ap (λ (cs : List Op). lineBy way (lineSize * l) h ++ cs) (stores-log way (suc l) hs)
 
 pub flushes-logged : (l : ℕ) (hs : List (List ℕ)) → lineFlushes false l hs ≡ logFlushes l hs
 unfolding lineFlushes lineFor logFlushes
 flushes-logged l [] = refl
 flushes-logged l (h ∷ hs) = ap (λ (cs : List Op). flush l ∷ cs) (flushes-logged (suc l) hs)
 
-pub stores-own : (l : ℕ) (hs : List (List ℕ)) → lineStores true l hs ≡ headerStores hs
+pub stores-own : (way : Way) (l : ℕ) (hs : List (List ℕ)) → lineStores way true l hs ≡ headerStores way hs
 unfolding lineStores lineFor headerStores
-stores-own l [] = refl
-stores-own l (h ∷ hs) =
+stores-own way l [] = refl
+stores-own way l (h ∷ hs) =
     let e : lineSize * (pageLines * ownPage h) ≡ pageSize * ownPage h = omega arith in
-    rw e (ap (λ (cs : List Op). store (pageSize * ownPage h) h ∷ cs) (stores-own (suc l) hs))
+    rw e (ap (λ (cs : List Op). lineBy way (pageSize * ownPage h) h ++ cs) (stores-own way (suc l) hs))
 
 pub flushes-own : (l : ℕ) (hs : List (List ℕ)) → lineFlushes true l hs ≡ headerFlushes hs
 unfolding lineFlushes lineFor headerFlushes
@@ -111,20 +129,24 @@ flushes-own l (h ∷ hs) = ap (λ (cs : List Op). flush (pageLines * ownPage h) 
 
 -- ---- their size
 
-pub stores-size : (own : Bool) (l : ℕ) (hs : List (List ℕ)) → Lines hs → length (tapeBytes (lineStores own l hs)) ≡ 68 * length hs
+pub stores-size : (way : Way) (own : Bool) (l : ℕ) (hs : List (List ℕ)) → Lines hs → length (tapeBytes (lineStores way own l hs)) ≡ linesBytes way (length hs)
 unfolding lineStores
-stores-size own l [] h = length-none
-stores-size own l (g ∷ hs) h = length-next (store (lineSize * lineFor own l g) g) (lineStores own (suc l) hs) ∙ omega (arith, h .0, stores-size own (suc l) hs (h .1))
+stores-size way own l [] h = length-none ∙ sym (lines-zero way)
+stores-size way own l (g ∷ hs) h =
+    length-tapes (lineBy way (lineSize * lineFor own l g) g) (lineStores way own (suc l) hs)
+    ∙ omega (arith, line-size way (lineSize * lineFor own l g) g (h .0), stores-size way own (suc l) hs (h .1), sym (ap (linesBytes way) (add-one (length hs))) ∙ lines-more way (length hs))
 
 pub flushes-size : (own : Bool) (l : ℕ) (hs : List (List ℕ)) → length (tapeBytes (lineFlushes own l hs)) ≡ 4 * length hs
 unfolding lineFlushes
 flushes-size own l [] = length-none
 flushes-size own l (g ∷ hs) = length-next (flush (lineFor own l g)) (lineFlushes own (suc l) hs) ∙ omega (arith, flushes-size own (suc l) hs)
 
-pub stores-count : (own : Bool) (l : ℕ) (hs : List (List ℕ)) → flushCount (lineStores own l hs) ≡ 0
-unfolding flushCount lineStores
-stores-count own l [] = refl
-stores-count own l (g ∷ hs) = stores-count own (suc l) hs
+pub stores-count : (way : Way) (own : Bool) (l : ℕ) (hs : List (List ℕ)) → flushCount (lineStores way own l hs) ≡ 0
+unfolding lineStores
+stores-count way own l [] = flushCount-nil
+stores-count way own l (g ∷ hs) =
+    let p = lineSize * lineFor own l g in
+    flushCount-append (lineBy way p g) (lineStores way own (suc l) hs) ∙ omega (arith, line-count way p g, stores-count way own (suc l) hs)
 
 pub flushes-count : (own : Bool) (l : ℕ) (hs : List (List ℕ)) → flushCount (lineFlushes own l hs) ≡ length hs
 unfolding flushCount lineFlushes

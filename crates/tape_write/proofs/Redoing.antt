@@ -26,6 +26,7 @@ use Rattle.image.proofs.CodeMarks.{claims, claims-on, claims-past, claims-twice
 use Rattle.image.specs.declared.PageZero.the-variants.{Waiting}
 use Rattle.journal.specs.Log.{ownPage, replayTape}
 use Rattle.journal.specs.Recovery.{logged, withHeaders, replayed, replayFrom, recoveryTape}
+use Rattle.journal.specs.declared.Way.{Way}
 use Rattle.journal.proofs.Headers.{Inside}
 use Rattle.tape_write.specs.Sizes.{replayBytes}
 use Rattle.tape_write.specs.Calls.{redoCall}
@@ -147,29 +148,29 @@ root-same a bytes long v root e small = same-test (eqb v root) (eqs (part a 8 8)
 
 -- ---- the ways out of the call
 
-module _ (a tape : List ℕ) (k root : ℕ) (same : Bool) (log : 64 * k + 64 ≤ length a) (is : same ≡ eqs (part a 8 8) (bytesOf 8 root)) where
+module _ (way : Way) (a tape : List ℕ) (k root : ℕ) (same : Bool) (log : 64 * k + 64 ≤ length a) (is : same ≡ eqs (part a 8 8) (bytesOf 8 root)) where
   abbrev pub Redoes : Replayed → List ℕ → List ℕ → Type 0
-  Redoes r work t = (r ≡ redoCall a k root tape .answer) × ((work ≡ redoCall a k root tape .work) × (t ≡ redoCall a k root tape .tape))
+  Redoes r work t = (r ≡ redoCall way a k root tape .answer) × ((work ≡ redoCall way a k root tape .work) × (t ≡ redoCall way a k root tape .tape))
 
-  tape-is : recoveryTape a (Waiting k root) ≡ replayTape (logged k a) same root
+  tape-is : recoveryTape way a (Waiting k root) ≡ replayTape way (logged k a) same root
   unfolding recoveryTape
-  tape-is = ap (λ (t : Bool). replayTape (logged k a) t root) (sym is)
+  tape-is = ap (λ (t : Bool). replayTape way (logged k a) t root) (sym is)
 
-  size-is : length (tapeBytes (recoveryTape a (Waiting k root))) ≡ replayBytes k same
-  size-is = ap (λ (cs : List Op). length (tapeBytes cs)) tape-is ∙ replay-size (logged k a) k (logged-lines k a log) (logged-length k a) same root
+  size-is : length (tapeBytes (recoveryTape way a (Waiting k root))) ≡ replayBytes way k same
+  size-is = ap (λ (cs : List Op). length (tapeBytes cs)) tape-is ∙ replay-size way (logged k a) k (logged-lines k a log) (logged-length k a) same root
 
-  flushes-are : flushCount (recoveryTape a (Waiting k root)) ≡ k + 1
-  flushes-are = ap flushCount tape-is ∙ replay-count (logged k a) k (logged-lines k a log) (logged-length k a) same root
+  flushes-are : flushCount (recoveryTape way a (Waiting k root)) ≡ k + 1
+  flushes-are = ap flushCount tape-is ∙ replay-count way (logged k a) k (logged-lines k a log) (logged-length k a) same root
 
-  pub redo-short : length tape < replayBytes k same → Redoes replays.TapeShort a tape
+  pub redo-short : length tape < replayBytes way k same → Redoes replays.TapeShort a tape
   unfolding redoCall
-  redo-short h = rw (lt-leb (length (tapeBytes (recoveryTape a (Waiting k root)))) (length tape) (omega (arith, size-is))) (refl, (refl, refl))
+  redo-short h = rw (lt-leb (length (tapeBytes (recoveryTape way a (Waiting k root)))) (length tape) (omega (arith, size-is))) (refl, (refl, refl))
 
-  pub redo-done : replayBytes k same ≤ length tape → (bytes : ℕ) (work t : List ℕ) → bytes ≡ replayBytes k same → work ≡ replayed (logged k a) root a →
-      t ≡ sets tape 0 (tapeBytes (replayTape (logged k a) same root)) → Redoes (replays.Done bytes (k + 1)) work t
+  pub redo-done : replayBytes way k same ≤ length tape → (bytes : ℕ) (work t : List ℕ) → bytes ≡ replayBytes way k same → work ≡ replayed (logged k a) root a →
+      t ≡ sets tape 0 (tapeBytes (replayTape way (logged k a) same root)) → Redoes (replays.Done bytes (k + 1)) work t
   unfolding redoCall replayFrom
   redo-done room bytes work t b e h =
-      let cs = recoveryTape a (Waiting k root) in
+      let cs = recoveryTape way a (Waiting k root) in
       let n : bytes ≡ length (tapeBytes cs) = b ∙ sym size-is in
       let f = flushes-are in
       let whole : t ≡ splice tape 0 (tapeBytes cs) = h ∙ ap (λ (x : List Op). sets tape 0 (tapeBytes x)) (sym tape-is) ∙ sym (splice-sets tape 0 (tapeBytes cs) (omega (arith, size-is))) in

@@ -15,6 +15,7 @@ use Rattle.image.specs.declared.PageZero.the-variants.{Waiting}
 use Rattle.journal.specs.Changes.{changedPages, sameRoot}
 use Rattle.journal.specs.Tape.{roomInLog, takenFor, commitOf}
 use Rattle.journal.specs.Recovery.{logged, loggedOk, replayFrom, recoveryTape}
+use Rattle.journal.specs.declared.Way.{Way}
 use Rattle.tape_write.specs.Words.{stageWords, linesPast}
 use Rattle.tape_write.specs.declared.Written.{Written}
 use Rattle.tape_write.specs.declared.Replayed.{Replayed}
@@ -59,9 +60,9 @@ pub record Result (A : Type 0) : Type 0 where
   pub tape : List ℕ
 
 -- "Then 12 more than 15 changed headers where the log is needed; 13 tape too short." "Tape bytes past those used stay."
-unfoldable pub commitCall : List ℕ → List ℕ → List ℕ → Result Written
-commitCall a w tape =
-    let t = takenFor a w in
+unfoldable pub commitCall : Way → List ℕ → List ℕ → List ℕ → Result Written
+commitCall way a w tape =
+    let t = takenFor way a w in
     let bytes = tapeBytes (t .tape) in
     pick (roomInLog (changedPages a w))
     (pick (leb (length bytes) (length tape))
@@ -77,9 +78,9 @@ pub record LogWaits (a w : List ℕ) (k : ℕ) : Type 0 where
   pub pages : loggedOk (pageCount a) (logged k a) ≡ true
 
 -- "13, work then holding the image. Accepted, work is the replayed image"
-unfoldable pub redoCall : List ℕ → ℕ → ℕ → List ℕ → Result Replayed
-redoCall a k root tape =
-    let cs = recoveryTape a (Waiting k root) in
+unfoldable pub redoCall : Way → List ℕ → ℕ → ℕ → List ℕ → Result Replayed
+redoCall way a k root tape =
+    let cs = recoveryTape way a (Waiting k root) in
     let bytes = tapeBytes cs in
     pick (leb (length bytes) (length tape))
     (record { answer = replays.Done (length bytes) (flushCount cs); work = replayFrom a (Waiting k root); tape = splice tape 0 bytes })

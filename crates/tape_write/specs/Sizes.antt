@@ -1,22 +1,33 @@
 -- The sizes of tapes, by what differs: a word store takes 12 bytes, a line store 68, a flush 4.
 -- Assumes nothing.
-use Prim.Native.Nat.{ℕ, zero, suc, _+_, _*_}
-use mathlib.Core.Bool.{Bool, true, false}
+use Prim.Native.Nat.{ℕ, _+_, _*_}
+use mathlib.Core.Bool.{Bool, true, false, _&&_}
+use lib.Dec.{eqb}
 use Rattle.codec.specs.Lists.{pick}
+use Rattle.journal.specs.declared.Way.{Way}
+use Rattle.journal.specs.declared.Way.the-variants.{ByLine, ByWords}
+
+-- the stores of k lines
+unfoldable pub linesBytes : Way → ℕ → ℕ
+linesBytes ByLine k = 68 * k
+linesBytes ByWords k = 96 * k
 
 -- a recovery of k headers, where the root word is as it was or differs
-unfoldable pub replayBytes : ℕ → Bool → ℕ
-replayBytes k same = 72 * k + 16 + pick same 0 12
+unfoldable pub replayBytes : Way → ℕ → Bool → ℕ
+replayBytes way k same = linesBytes way k + 4 * k + 16 + pick same 0 12
 
--- what follows stage A, with k changed headers: one changed place, or the log, the mark and the replay
-unfoldable pub endBytes : ℕ → Bool → ℕ
-endBytes zero same = 16
-endBytes (suc zero) true = 72
-endBytes (suc zero) false = 72 + 16 + replayBytes 1 false
-endBytes (suc (suc k)) same = 72 * suc (suc k) + 16 + replayBytes (suc (suc k)) same
+-- a commit by the log: the log, the mark and its flush, the replay
+unfoldable pub logBytes : Way → ℕ → Bool → ℕ
+logBytes way k same = linesBytes way k + 4 * k + 16 + replayBytes way k same
 
-unfoldable pub endFlushes : ℕ → Bool → ℕ
-endFlushes zero same = 1
-endFlushes (suc zero) true = 1
-endFlushes (suc zero) false = 4
-endFlushes (suc (suc k)) same = 2 * suc (suc k) + 2
+-- whether one header is all that changed, and a line store commits it
+unfoldable pub commitsAlone : Way → ℕ → Bool → Bool
+commitsAlone ByLine k same = eqb k 1 && same
+commitsAlone ByWords k same = false
+
+-- what follows stage A, with k changed headers: one changed place, or the log
+unfoldable pub endBytes : Way → ℕ → Bool → ℕ
+endBytes way k same = pick (eqb k 0) 16 (pick (commitsAlone way k same) 72 (logBytes way k same))
+
+unfoldable pub endFlushes : Way → ℕ → Bool → ℕ
+endFlushes way k same = pick (eqb k 0) 1 (pick (commitsAlone way k same) 1 (2 * k + 2))

@@ -2,7 +2,10 @@
 use crate::headers::emit_headers;
 use crate::headers::flush_headers;
 use crate::headers::log_headers;
+use crate::sizes::commits_alone;
+use crate::sizes::lines_bytes;
 use journal::CommitPlace;
+use journal::Way;
 ghost use mathlib.Core.Path.{_≡_};
 ghost use mathlib.Core.List.{[], _∷_, _++_};
 ghost use Prim.Native.Nat.{ℕ, _+_, _*_, _≤_};
@@ -18,7 +21,7 @@ ghost use Rattle.journal.specs.Log.{pageLines, ending, replayTape, logTape};
 ghost use Rattle.journal.specs.Tape.{newHeaders, byLog, choose};
 ghost use Rattle.journal.specs.Recovery.{logged};
 ghost use Rattle.tape_write.specs.Lines.{PageIn};
-ghost use Rattle.tape_write.specs.Sizes.{replayBytes, endBytes, endFlushes};
+ghost use Rattle.tape_write.specs.Sizes.{replayBytes, logBytes, endBytes};
 
 // Writes the store of a number to a word.
 pub fn emit_number(tape: &mut [u8], at: usize, word: usize, v: u64)
@@ -53,59 +56,35 @@ pub fn emit_ending(tape: &mut [u8], at: usize, same: bool, root: u64)
 }
 
 // Writes what follows the mark's flush, of the headers in log lines 1 to k: their stores, their flushes, the end.
-pub fn emit_replay(tape: &mut [u8], at: usize, src: &[u8], k: usize, same: bool, root: u64)
-    requires { ⌜ (at + replayBytes k same ≤ length (now tape)) × (64 * k + 64 ≤ length (now src)) ⌝ }
-    ensures { λ _. ⌜ now (tape .exit) ≡ sets (now (tape .entry)) at (tapeBytes (replayTape (logged k (now (src .entry))) same root)) ⌝ }
+pub fn emit_replay(
+    way: Way,
+    tape: &mut [u8],
+    at: usize,
+    src: &[u8],
+    k: usize,
+    same: bool,
+    root: u64,
+)
+    requires { ⌜ (at + replayBytes way k same ≤ length (now tape)) × (64 * k + 64 ≤ length (now src)) × (k ≤ 65536) ⌝ }
+    ensures { λ _. ⌜ now (tape .exit) ≡ sets (now (tape .entry)) at (tapeBytes (replayTape way (logged k (now (src .entry))) same root)) ⌝ }
 {
-    emit_headers(tape, at, src, k, true);
-    flush_headers(tape, at + 68 * k, src, k, true);
-    emit_ending(tape, at + 72 * k, same, root);
+    let stores = lines_bytes(way, k);
+    emit_headers(way, tape, at, src, k, true);
+    flush_headers(tape, at + stores, src, k, true);
+    emit_ending(tape, at + stores + 4 * k, same, root);
 }
 
 // Writes a commit by the log, of the headers in log lines 1 to k: the log, the mark, its flush, and the replay.
-pub fn emit_log(tape: &mut [u8], at: usize, src: &[u8], k: usize, same: bool, root: u64)
-    requires { ⌜ (at + (72 * k + 16) + replayBytes k same ≤ length (now tape)) × (64 * k + 64 ≤ length (now src)) × (k ≤ 15) ⌝ }
-    ensures { λ _. ⌜ now (tape .exit) ≡ sets (now (tape .entry)) at (tapeBytes (logTape (logged k (now (src .entry))) ++ (store 0 (markBytes k root) ∷ flush 0 ∷ replayTape (logged k (now (src .entry))) same root))) ⌝ }
+pub fn emit_log(way: Way, tape: &mut [u8], at: usize, src: &[u8], k: usize, same: bool, root: u64)
+    requires { ⌜ (at + logBytes way k same ≤ length (now tape)) × (64 * k + 64 ≤ length (now src)) × (k ≤ 15) ⌝ }
+    ensures { λ _. ⌜ now (tape .exit) ≡ sets (now (tape .entry)) at (tapeBytes (logTape way (logged k (now (src .entry))) ++ (store 0 (markBytes k root) ∷ flush 0 ∷ replayTape way (logged k (now (src .entry))) same root))) ⌝ }
 {
-    emit_headers(tape, at, src, k, false);
-    flush_headers(tape, at + 68 * k, src, k, false);
+    let stores = lines_bytes(way, k);
+    emit_headers(way, tape, at, src, k, false);
+    flush_headers(tape, at + stores, src, k, false);
     let mark = 1 + 256 * (k as u64) + 65536 * (root % 65536);
-    emit_settled(tape, at + 72 * k, 0, mark);
-    emit_replay(tape, at + 72 * k + 16, src, k, same, root);
-}
-
-// The bytes of what follows stage A.
-pub fn end_bytes(k: usize, same: bool) -> usize
-    requires { ⌜ k ≤ 15 ⌝ }
-    ensures { λ r. ⌜ r ≡ endBytes k same ⌝ }
-{
-    if k == 0 {
-        return 16;
-    }
-    if !same {
-        return 144 * k + 44;
-    }
-    if k == 1 {
-        return 72;
-    }
-    144 * k + 32
-}
-
-// Its flushes.
-pub fn end_flushes(k: usize, same: bool) -> usize
-    requires { ⌜ k ≤ 15 ⌝ }
-    ensures { λ r. ⌜ r ≡ endFlushes k same ⌝ }
-{
-    if k == 0 {
-        return 1;
-    }
-    if !same {
-        return 2 * k + 2;
-    }
-    if k == 1 {
-        return 1;
-    }
-    2 * k + 2
+    emit_settled(tape, at + stores + 4 * k, 0, mark);
+    emit_replay(way, tape, at + stores + 4 * k + 16, src, k, same, root);
 }
 
 // Writes the commit of one changed header: its line store and the flush.
@@ -118,18 +97,27 @@ pub fn emit_header(tape: &mut [u8], at: usize, work: &[u8], page: usize)
 }
 
 // Writes a commit by the log, of the headers of the first k pages: work takes them in its log lines, and the tape goes by these.
-pub fn emit_by_log(work: &mut [u8], tape: &mut [u8], at: usize, pages: &[u8], k: usize, same: bool)
-    requires { ⌜ (at + (72 * k + 16) + replayBytes k same ≤ length (now tape)) × (k ≤ 15) × (k ≤ length (now pages)) × (pageSize ≤ length (now work)) × All (PageIn (now work)) (take k (now pages)) ⌝ }
-    ensures { λ _. ⌜ now (work .exit) ≡ (byLog [] (now (work .entry)) same (newHeaders (now (work .entry)) (take k (now (pages .entry))))) .work ⌝ }
-    ensures { λ _. ⌜ now (tape .exit) ≡ sets (now (tape .entry)) at (tapeBytes ((byLog [] (now (work .entry)) same (newHeaders (now (work .entry)) (take k (now (pages .entry))))) .tape)) ⌝ }
+pub fn emit_by_log(
+    way: Way,
+    work: &mut [u8],
+    tape: &mut [u8],
+    at: usize,
+    pages: &[u8],
+    k: usize,
+    same: bool,
+)
+    requires { ⌜ (at + logBytes way k same ≤ length (now tape)) × (k ≤ 15) × (k ≤ length (now pages)) × (pageSize ≤ length (now work)) × All (PageIn (now work)) (take k (now pages)) ⌝ }
+    ensures { λ _. ⌜ now (work .exit) ≡ (byLog way [] (now (work .entry)) same (newHeaders (now (work .entry)) (take k (now (pages .entry))))) .work ⌝ }
+    ensures { λ _. ⌜ now (tape .exit) ≡ sets (now (tape .entry)) at (tapeBytes ((byLog way [] (now (work .entry)) same (newHeaders (now (work .entry)) (take k (now (pages .entry))))) .tape)) ⌝ }
 {
     let root = codec::long_at(work, 8);
     log_headers(work, pages, k);
-    emit_log(tape, at, work, k, same, root);
+    emit_log(way, tape, at, work, k, same, root);
 }
 
 // Writes what follows stage A, with the headers of the first k pages changed.
 pub fn emit_end(
+    way: Way,
     work: &mut [u8],
     tape: &mut [u8],
     at: usize,
@@ -137,24 +125,20 @@ pub fn emit_end(
     k: usize,
     same: bool,
 ) -> CommitPlace
-    requires { ⌜ (at + endBytes k same ≤ length (now tape)) × (k ≤ 15) × (k ≤ length (now pages)) × (pageSize ≤ length (now work)) × All (PageIn (now work)) (take k (now pages)) ⌝ }
-    ensures { λ r. ⌜ r ≡ (choose [] (now (work .entry)) same (take k (now (pages .entry)))) .place ⌝ }
-    ensures { λ _. ⌜ now (work .exit) ≡ (choose [] (now (work .entry)) same (take k (now (pages .entry)))) .work ⌝ }
-    ensures { λ _. ⌜ now (tape .exit) ≡ sets (now (tape .entry)) at (tapeBytes ((choose [] (now (work .entry)) same (take k (now (pages .entry)))) .tape)) ⌝ }
+    requires { ⌜ (at + endBytes way k same ≤ length (now tape)) × (k ≤ 15) × (k ≤ length (now pages)) × (pageSize ≤ length (now work)) × All (PageIn (now work)) (take k (now pages)) ⌝ }
+    ensures { λ r. ⌜ r ≡ (choose way [] (now (work .entry)) same (take k (now (pages .entry)))) .place ⌝ }
+    ensures { λ _. ⌜ now (work .exit) ≡ (choose way [] (now (work .entry)) same (take k (now (pages .entry)))) .work ⌝ }
+    ensures { λ _. ⌜ now (tape .exit) ≡ sets (now (tape .entry)) at (tapeBytes ((choose way [] (now (work .entry)) same (take k (now (pages .entry)))) .tape)) ⌝ }
 {
     if k == 0 {
         emit_settled(tape, at, 1, codec::long_at(work, 8));
         return CommitPlace::Root;
     }
-    if !same {
-        emit_by_log(work, tape, at, pages, k, same);
-        return CommitPlace::Log;
-    }
-    if k == 1 {
+    if commits_alone(way, k, same) {
         let page = codec::wide(pages[0]);
         emit_header(tape, at, work, page);
         return CommitPlace::Header(page);
     }
-    emit_by_log(work, tape, at, pages, k, same);
+    emit_by_log(way, work, tape, at, pages, k, same);
     CommitPlace::Log
 }

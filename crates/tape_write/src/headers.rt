@@ -1,4 +1,7 @@
 // Changed headers: found, written to the log's lines of work, and the stores and flushes of log lines and of header lines.
+use crate::lines::emit_line;
+use crate::sizes::lines_bytes;
+use journal::Way;
 ghost use mathlib.Core.Path.{_≡_};
 ghost use Prim.Native.Nat.{ℕ, _+_, _*_, _≤_, _<_};
 ghost use lib.ListN.{length, take};
@@ -9,7 +12,8 @@ ghost use Rattle.page.specs.Layout.{pageSize, lineSize};
 ghost use Rattle.journal.specs.Changes.{changedPages};
 ghost use Rattle.journal.specs.Tape.{newHeaders, joinLines};
 ghost use Rattle.journal.specs.Recovery.{logged};
-ghost use Rattle.tape_write.specs.Lines.{PageIn, lineFor, lineStores, lineFlushes};
+ghost use Rattle.tape_write.specs.Lines.{PageIn, lineMost, lineFor, lineStores, lineFlushes};
+ghost use Rattle.tape_write.specs.Sizes.{linesBytes};
 ghost use Rattle.tape_write.specs.Calls.{Lent};
 
 // Whether n words from `at` on are the same in both. What differs is joined and tested once at the end: without a way out the loop takes
@@ -82,8 +86,8 @@ pub fn log_headers(work: &mut [u8], pages: &[u8], k: usize)
 
 // The line that the header in log line l is stored to: the first of its own page, or the log line itself.
 pub fn line_for(src: &[u8], l: usize, own: bool) -> usize
-    requires { ⌜ 64 * l + 64 ≤ length (now src) ⌝ }
-    ensures { λ r. ⌜ r ≡ lineFor own l (part (now (src .entry)) (64 * l) 64) ⌝ }
+    requires { ⌜ (64 * l + 64 ≤ length (now src)) × (l ≤ lineMost) ⌝ }
+    ensures { λ r. ⌜ (r ≡ lineFor own l (part (now (src .entry)) (64 * l) 64)) × (r ≤ lineMost) ⌝ }
 {
     if own {
         return 16 * codec::number_at(src, 64 * l + 6);
@@ -92,21 +96,28 @@ pub fn line_for(src: &[u8], l: usize, own: bool) -> usize
 }
 
 // Writes the stores of the headers in log lines 1 to k.
-pub fn emit_headers(tape: &mut [u8], at: usize, src: &[u8], k: usize, own: bool)
-    requires { ⌜ (at + 68 * k ≤ length (now tape)) × (64 * k + 64 ≤ length (now src)) ⌝ }
-    ensures { λ _. ⌜ now (tape .exit) ≡ sets (now (tape .entry)) at (tapeBytes (lineStores own 1 (logged k (now (src .entry))))) ⌝ }
+pub fn emit_headers(way: Way, tape: &mut [u8], at: usize, src: &[u8], k: usize, own: bool)
+    requires { ⌜ (at + linesBytes way k ≤ length (now tape)) × (64 * k + 64 ≤ length (now src)) × (k ≤ 65536) ⌝ }
+    ensures { λ _. ⌜ now (tape .exit) ≡ sets (now (tape .entry)) at (tapeBytes (lineStores way own 1 (logged k (now (src .entry))))) ⌝ }
 {
     let mut i = 0;
     while i < k {
         let l = i + 1;
-        device::emit_line(tape, at + 68 * i, line_for(src, l, own), src, 64 * l);
+        emit_line(
+            way,
+            tape,
+            at + lines_bytes(way, i),
+            line_for(src, l, own),
+            src,
+            64 * l,
+        );
         i += 1;
     }
 }
 
 // Writes their flushes.
 pub fn flush_headers(tape: &mut [u8], at: usize, src: &[u8], k: usize, own: bool)
-    requires { ⌜ (at + 4 * k ≤ length (now tape)) × (64 * k + 64 ≤ length (now src)) ⌝ }
+    requires { ⌜ (at + 4 * k ≤ length (now tape)) × (64 * k + 64 ≤ length (now src)) × (k ≤ 65536) ⌝ }
     ensures { λ _. ⌜ now (tape .exit) ≡ sets (now (tape .entry)) at (tapeBytes (lineFlushes own 1 (logged k (now (src .entry))))) ⌝ }
 {
     let mut i = 0;

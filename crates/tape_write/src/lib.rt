@@ -1,14 +1,15 @@
 // The tape of a transaction and of a recovery: what differs is found once, the size is known before the first byte is written.
 use crate::ends::emit_end;
-use crate::ends::end_bytes;
-use crate::ends::end_flushes;
 use crate::headers::changed_headers;
 use crate::headers::same_words;
+use crate::sizes::end_bytes;
+use crate::sizes::end_flushes;
 use crate::words::changed_words;
 use crate::words::count_lines;
 use crate::words::emit_flushes;
 use crate::words::emit_words;
 use journal::Commit;
+use journal::Way;
 ghost use mathlib.Core.Path.{_≡_};
 ghost use Prim.Native.Nat.{ℕ, _+_, _*_, _≤_};
 ghost use lib.ListN.{length, take};
@@ -21,7 +22,9 @@ ghost use Rattle.tape_write.specs.Calls.{Lent, commitCall, Counted};
 
 mod ends;
 mod headers;
+mod lines;
 pub mod redo;
+mod sizes;
 mod words;
 
 // What writing a transaction's tape came to.
@@ -82,6 +85,7 @@ fn emit_stage(tape: &mut [u8], work: &[u8], words: &[u16], n: usize)
 
 // Writes the tape that commits the edited image in work, with room for the words that differ.
 fn commit_with(
+    way: Way,
     image: &[u8],
     work: &mut [u8],
     tape: &mut [u8],
@@ -90,9 +94,9 @@ fn commit_with(
     words: &mut [u16],
 ) -> Written
     requires { ⌜ Lent (now image) (now work) (now before) (now after) × (length (now image) ≤ 8 * length (now words)) ⌝ }
-    ensures { λ r. ⌜ r ≡ (commitCall (now (image .entry)) (now (work .entry)) (now (tape .entry))) .answer ⌝ }
-    ensures { λ _. ⌜ now (work .exit) ≡ (commitCall (now (image .entry)) (now (work .entry)) (now (tape .entry))) .work ⌝ }
-    ensures { λ _. ⌜ now (tape .exit) ≡ (commitCall (now (image .entry)) (now (work .entry)) (now (tape .entry))) .tape ⌝ }
+    ensures { λ r. ⌜ r ≡ (commitCall way (now (image .entry)) (now (work .entry)) (now (tape .entry))) .answer ⌝ }
+    ensures { λ _. ⌜ now (work .exit) ≡ (commitCall way (now (image .entry)) (now (work .entry)) (now (tape .entry))) .work ⌝ }
+    ensures { λ _. ⌜ now (tape .exit) ≡ (commitCall way (now (image .entry)) (now (work .entry)) (now (tape .entry))) .tape ⌝ }
 {
     let mut pages = [0u8; 64];
     let found = find_changes(image, work, before, after, words, &mut pages);
@@ -102,22 +106,23 @@ fn commit_with(
         return Written::LogFull;
     }
     let stage = 12 * found.words + 4 * found.lines;
-    let bytes = stage + end_bytes(k, same);
+    let bytes = stage + end_bytes(way, k, same);
     if tape.len() < bytes {
         return Written::TapeShort;
     }
     emit_stage(tape, work, words, found.words);
-    let place = emit_end(work, tape, stage, &pages, k, same);
+    let place = emit_end(way, work, tape, stage, &pages, k, same);
     Written::Done(Commit {
         place,
         bytes,
-        flushes: found.lines + end_flushes(k, same),
+        flushes: found.lines + end_flushes(way, k, same),
     })
 }
 
 // Writes the tape that commits the edited image in work. `before` and `after` mark the pages reached in image and in work. An array of
 // words for the smallest image takes less time to clear.
 pub fn commit(
+    way: Way,
     image: &[u8],
     work: &mut [u8],
     tape: &mut [u8],
@@ -125,14 +130,14 @@ pub fn commit(
     after: &[u8],
 ) -> Written
     requires { ⌜ Lent (now image) (now work) (now before) (now after) ⌝ }
-    ensures { λ r. ⌜ r ≡ (commitCall (now (image .entry)) (now (work .entry)) (now (tape .entry))) .answer ⌝ }
-    ensures { λ _. ⌜ now (work .exit) ≡ (commitCall (now (image .entry)) (now (work .entry)) (now (tape .entry))) .work ⌝ }
-    ensures { λ _. ⌜ now (tape .exit) ≡ (commitCall (now (image .entry)) (now (work .entry)) (now (tape .entry))) .tape ⌝ }
+    ensures { λ r. ⌜ r ≡ (commitCall way (now (image .entry)) (now (work .entry)) (now (tape .entry))) .answer ⌝ }
+    ensures { λ _. ⌜ now (work .exit) ≡ (commitCall way (now (image .entry)) (now (work .entry)) (now (tape .entry))) .work ⌝ }
+    ensures { λ _. ⌜ now (tape .exit) ≡ (commitCall way (now (image .entry)) (now (work .entry)) (now (tape .entry))) .tape ⌝ }
 {
     if image.len() == 8192 {
         let mut few = [0u16; 1024];
-        return commit_with(image, work, tape, before, after, &mut few);
+        return commit_with(way, image, work, tape, before, after, &mut few);
     }
     let mut words = [0u16; 8192];
-    commit_with(image, work, tape, before, after, &mut words)
+    commit_with(way, image, work, tape, before, after, &mut words)
 }

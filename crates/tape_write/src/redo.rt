@@ -1,13 +1,14 @@
 // Recovery of a waiting mark: the logged headers judged, the replayed image, and the tape.
 use crate::Replayed;
 use crate::ends::emit_replay;
+use crate::sizes::replay_bytes;
+use journal::Way;
 ghost use mathlib.Core.Path.{_≡_};
 ghost use mathlib.Core.Bool.{true};
 ghost use Prim.Native.Nat.{ℕ, _+_, _*_, _≤_};
 ghost use lib.ListN.{length};
 ghost use Rattle.image.specs.PageZero.{pageCount};
 ghost use Rattle.journal.specs.Recovery.{logged, loggedOk, withHeaders, replayed};
-ghost use Rattle.tape_write.specs.Sizes.{replayBytes};
 ghost use Rattle.tape_write.specs.Calls.{LogWaits, redoCall};
 
 // Whether the pages of the logged headers are distinct, in 1 to N-1: page 0 is marked, and then each page as it is named.
@@ -58,32 +59,28 @@ pub fn replay(image: &[u8], work: &mut [u8], headers: usize, root: usize)
     codec::put_long(work, 0, 0);
 }
 
-// The bytes of a recovery's tape.
-pub fn replay_bytes(headers: usize, same: bool) -> usize
-    requires { ⌜ headers ≤ 65536 ⌝ }
-    ensures { λ r. ⌜ r ≡ replayBytes headers same ⌝ }
-{
-    if same {
-        return 72 * headers + 16;
-    }
-    72 * headers + 28
-}
-
 // Writes the tape of a recovery, and the replayed image in work; if the tape is too short, work holds the image.
-pub fn redo(image: &[u8], work: &mut [u8], tape: &mut [u8], headers: usize, root: usize) -> Replayed
+pub fn redo(
+    way: Way,
+    image: &[u8],
+    work: &mut [u8],
+    tape: &mut [u8],
+    headers: usize,
+    root: usize,
+) -> Replayed
     requires { ⌜ LogWaits (now image) (now work) headers ⌝ }
-    ensures { λ r. ⌜ r ≡ (redoCall (now (image .entry)) headers root (now (tape .entry))) .answer ⌝ }
-    ensures { λ _. ⌜ now (work .exit) ≡ (redoCall (now (image .entry)) headers root (now (tape .entry))) .work ⌝ }
-    ensures { λ _. ⌜ now (tape .exit) ≡ (redoCall (now (image .entry)) headers root (now (tape .entry))) .tape ⌝ }
+    ensures { λ r. ⌜ r ≡ (redoCall way (now (image .entry)) headers root (now (tape .entry))) .answer ⌝ }
+    ensures { λ _. ⌜ now (work .exit) ≡ (redoCall way (now (image .entry)) headers root (now (tape .entry))) .work ⌝ }
+    ensures { λ _. ⌜ now (tape .exit) ≡ (redoCall way (now (image .entry)) headers root (now (tape .entry))) .tape ⌝ }
 {
     let same = codec::long_at(image, 8) as usize == root;
-    let bytes = replay_bytes(headers, same);
+    let bytes = replay_bytes(way, headers, same);
     if tape.len() < bytes {
         codec::copy_all(work, image);
         return Replayed::TapeShort;
     }
     replay(image, work, headers, root);
-    emit_replay(tape, 0, image, headers, same, root as u64);
+    emit_replay(way, tape, 0, image, headers, same, root as u64);
     Replayed::Done {
         bytes,
         flushes: headers + 1,

@@ -21,6 +21,7 @@ use Rattle.edit.proofs.General.{by-test}
 use Rattle.edit.proofs.Parsing.{list-proper, list-fault, fault-list}
 use Rattle.journal.specs.Changes.{changedPages}
 use Rattle.journal.specs.Tape.{roomInLog, takenFor}
+use Rattle.journal.specs.declared.Way.{Way}
 use Rattle.journal.specs.declared.Commit.{Commit}
 use Rattle.tree.specs.State.{State}
 use Rattle.tree.specs.Whole.{Outcome, finished, stopped, editsOn, editedImage}
@@ -32,47 +33,47 @@ use Rattle.transaction.specs.Answers.{Begun, Done, Answers, bad-size, ba
 
 -- ---- the cases, in the order of document 01
 
-module _ (a work tape bytes : List ℕ) where
-  pub call-answers : Answers a work tape bytes (transactionCall a work tape bytes)
+module _ (way : Way) (a work tape bytes : List ℕ) where
+  pub call-answers : Answers way a work tape bytes (transactionCall way a work tape bytes)
   unfolding transactionCall checkedOf listOf outcomeOf committed roomInLog
   call-answers =
-      by-test (Answers a work tape bytes) (isImageSize (length a))
-      (λ size. by-test (Answers a work tape bytes) (eqb (length work) (length a)) (λ same. check size (eqb-true (length work) (length a) same) (checkCall a) refl)
+      by-test (Answers way a work tape bytes) (isImageSize (length a))
+      (λ size. by-test (Answers way a work tape bytes) (eqb (length work) (length a)) (λ same. check size (eqb-true (length work) (length a) same) (checkCall a) refl)
       (λ other. bad-work size (eqb-false (length work) (length a) other)))
       (λ size. bad-size size)
     where
-      ends : Begun a work → (es : List Edit) (st : State) → Done a bytes es st → Answers a work tape bytes (committed a (editedImage a st) tape)
+      ends : Begun a work → (es : List Edit) (st : State) → Done a bytes es st → Answers way a work tape bytes (committed way a (editedImage a st) tape)
       ends B es st D =
           let w = editedImage a st in
-          let used = length (tapeBytes (takenFor a w .tape)) in
-          by-test (Answers a work tape bytes) (leb (length (changedPages a w)) logMost)
-          (λ few. by-test (Answers a work tape bytes) (leb used (length tape))
+          let used = length (tapeBytes (takenFor way a w .tape)) in
+          by-test (Answers way a work tape bytes) (leb (length (changedPages a w)) logMost)
+          (λ few. by-test (Answers way a work tape bytes) (leb used (length tape))
           (λ fits. accepted B es st D (leb-true (length (changedPages a w)) logMost few) (leb-true used (length tape) fits))
           (λ long. no-tape B es st D (leb-true (length (changedPages a w)) logMost few) (leb-false used (length tape) long)))
           (λ many. no-log B es st D (leb-false (length (changedPages a w)) logMost many))
 
-      edits : Begun a work → (es : List Edit) → editList bytes ≡ listed es → (o : Outcome) → editsOn a es ≡ o → Answers a work tape bytes (outcomeOf a tape o)
+      edits : Begun a work → (es : List Edit) → editList bytes ≡ listed es → (o : Outcome) → editsOn a es ≡ o → Answers way a work tape bytes (outcomeOf way a tape o)
       edits B es reads (stopped k i) e = bad-edit B es reads k i (edits-numbered a es k i e .0) (edits-refused a (check-sound a (B .checked)) es (list-proper bytes es reads) k i e)
       edits B es reads (finished st) e = ends B es st (record { reads = reads; makes = e })
 
-      list : Begun a work → (l : Listed) → editList bytes ≡ l → Answers a work tape bytes (listOf a work tape l)
+      list : Begun a work → (l : Listed) → editList bytes ≡ l → Answers way a work tape bytes (listOf way a work tape l)
       list B (faulty k i) e = bad-list B k i (list-fault bytes k i e)
       list B (listed es) e = edits B es e (editsOn a es) refl
 
-      check : isImageSize (length a) ≡ true → length work ≡ length a → (c : Answer) → checkCall a ≡ c → Answers a work tape bytes (checkedOf a work tape bytes c)
+      check : isImageSize (length a) ≡ true → length work ≡ length a → (c : Answer) → checkCall a ≡ c → Answers way a work tape bytes (checkedOf way a work tape bytes c)
       check size same (answers.Refused r) e = bad-image size same r e
       check size same answers.Accepted e = list (record { size = size; same = same; checked = e }) (editList bytes) refl
 
   -- the cases exclude each other: each is the call's answer where it holds
-  pub begun-call : Begun a work → transactionCall a work tape bytes ≡ listOf a work tape (editList bytes)
+  pub begun-call : Begun a work → transactionCall way a work tape bytes ≡ listOf way a work tape (editList bytes)
   unfolding transactionCall checkedOf
   begun-call B = rw (B .size, eq-eqb (length work) (length a) (B .same), B .checked)
 
-  done-call : Begun a work → (es : List Edit) (st : State) → Done a bytes es st → transactionCall a work tape bytes ≡ committed a (editedImage a st) tape
+  done-call : Begun a work → (es : List Edit) (st : State) → Done a bytes es st → transactionCall way a work tape bytes ≡ committed way a (editedImage a st) tape
   unfolding listOf outcomeOf
   done-call B es st D = begun-call B ∙ rw (D .reads, D .makes)
 
-  pub answers-call : (r : Result) → Answers a work tape bytes r → transactionCall a work tape bytes ≡ r
+  pub answers-call : (r : Result) → Answers way a work tape bytes r → transactionCall way a work tape bytes ≡ r
   unfolding transactionCall checkedOf listOf outcomeOf committed roomInLog
   answers-call _ (bad-size e) = rw e
   answers-call _ (bad-work e other) = rw (e, ne-eqb (length work) (length a) other)
@@ -84,10 +85,10 @@ module _ (a work tape bytes : List ℕ) where
   answers-call _ (no-log B es st D many) = done-call B es st D ∙ rw (lt-leb (length (changedPages a (editedImage a st))) logMost many)
   answers-call _ (no-tape B es st D few long) =
       done-call B es st D
-      ∙ rw (le-leb (length (changedPages a (editedImage a st))) logMost few, lt-leb (length (tapeBytes (takenFor a (editedImage a st) .tape))) (length tape) long)
+      ∙ rw (le-leb (length (changedPages a (editedImage a st))) logMost few, lt-leb (length (tapeBytes (takenFor way a (editedImage a st) .tape))) (length tape) long)
   answers-call _ (accepted B es st D few fits) =
       done-call B es st D
-      ∙ rw (le-leb (length (changedPages a (editedImage a st))) logMost few, le-leb (length (tapeBytes (takenFor a (editedImage a st) .tape))) (length tape) fits)
+      ∙ rw (le-leb (length (changedPages a (editedImage a st))) logMost few, le-leb (length (tapeBytes (takenFor way a (editedImage a st) .tape))) (length tape) fits)
 
   -- what an accepted transaction has done
   pub record Acceptance : Type 0 where
@@ -96,14 +97,14 @@ module _ (a work tape bytes : List ℕ) where
     pub state : State
     pub done : Done a bytes list state
     pub few : length (changedPages a (editedImage a state)) ≤ logMost
-    pub fits : length (tapeBytes (takenFor a (editedImage a state) .tape)) ≤ length tape
-    pub result : transactionCall a work tape bytes ≡ acceptedWith (takenFor a (editedImage a state)) tape
+    pub fits : length (tapeBytes (takenFor way a (editedImage a state) .tape)) ≤ length tape
+    pub result : transactionCall way a work tape bytes ≡ acceptedWith (takenFor way a (editedImage a state)) tape
 
-  pub call-accepted : (c : Commit) → transactionCall a work tape bytes .answer ≡ Accepted c → Acceptance
+  pub call-accepted : (c : Commit) → transactionCall way a work tape bytes .answer ≡ Accepted c → Acceptance
   unfolding refusedWith
-  call-accepted c e = go (transactionCall a work tape bytes) call-answers refl e
+  call-accepted c e = go (transactionCall way a work tape bytes) call-answers refl e
     where
-      go : (r : Result) → Answers a work tape bytes r → transactionCall a work tape bytes ≡ r → r .answer ≡ Accepted c → Acceptance
+      go : (r : Result) → Answers way a work tape bytes r → transactionCall way a work tape bytes ≡ r → r .answer ≡ Accepted c → Acceptance
       go _ (bad-size _) q e = let z : _≡_ {A = ℕ} 0 1 = cc in absurd (omega arith)
       go _ (bad-work _ _) q e = let z : _≡_ {A = ℕ} 0 1 = cc in absurd (omega arith)
       go _ (bad-image _ _ _ _) q e = let z : _≡_ {A = ℕ} 0 1 = cc in absurd (omega arith)

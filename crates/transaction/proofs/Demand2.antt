@@ -27,6 +27,7 @@ use Rattle.edit.proofs.Parsing.{list-whole, list-proper}
 use Rattle.journal.specs.Changes.{changedPages, sameRoot}
 use Rattle.journal.specs.Tape.{Taken, commitOf, roomInLog, takenFor}
 use Rattle.journal.specs.Edited.{Edited}
+use Rattle.journal.specs.declared.Way.{Way}
 use Rattle.journal.specs.declared.Commit.{Commit}
 use Rattle.journal.proofs.Taken.{taken-run, taken-sound}
 use Rattle.journal.proofs.Fitting.{taken-fits}
@@ -39,9 +40,9 @@ use Rattle.transaction.specs.Demand2.{Makes, Demand2}
 use Rattle.transaction.specs.declared.Transacted.the-variants.{Accepted}
 use Rattle.transaction.proofs.Answers.{Acceptance, call-accepted}
 
-module _ (a work tape bytes : List ℕ) (c : Commit) (e : transactionCall a work tape bytes .answer ≡ Accepted c) where
-  pub acceptance : Acceptance a work tape bytes
-  acceptance = call-accepted a work tape bytes c e
+module _ (way : Way) (a work tape bytes : List ℕ) (c : Commit) (e : transactionCall way a work tape bytes .answer ≡ Accepted c) where
+  pub acceptance : Acceptance way a work tape bytes
+  acceptance = call-accepted way a work tape bytes c e
 
   pub was-sound : sound a ≡ true
   was-sound = check-sound a (acceptance .begun .checked)
@@ -54,7 +55,7 @@ module _ (a work tape bytes : List ℕ) (c : Commit) (e : transactionCall a work
   target = editedImage a (acceptance .state)
 
   abbrev taken : Taken
-  taken = takenFor a target
+  taken = takenFor way a target
 
   pub target-edited : Edited a target
   target-edited = edits-accepted a was-sound (acceptance .list) proper (acceptance .state) (acceptance .done .makes)
@@ -86,11 +87,11 @@ module _ (a work tape bytes : List ℕ) (c : Commit) (e : transactionCall a work
       let r : Accepted c ≡ acceptedWith taken tape .answer = sym e ∙ ap (λ (x : Result). x .answer) (acceptance .result) in
       cc
 
-  work-is : transactionCall a work tape bytes .work ≡ taken .work
+  work-is : transactionCall way a work tape bytes .work ≡ taken .work
   unfolding acceptedWith
   work-is = ap (λ (x : Result). x .work) (acceptance .result)
 
-  tape-is : transactionCall a work tape bytes .tape ≡ splice tape 0 (tapeBytes (taken .tape))
+  tape-is : transactionCall way a work tape bytes .tape ≡ splice tape 0 (tapeBytes (taken .tape))
   unfolding acceptedWith
   tape-is = ap (λ (x : Result). x .tape) (acceptance .result)
 
@@ -99,32 +100,32 @@ module _ (a work tape bytes : List ℕ) (c : Commit) (e : transactionCall a work
   bytes-are = ap (λ (x : Commit). x .bytes) answer-is
 
   -- the bytes used say the commands
-  pub commands-are : commandsOn a (c .bytes) (transactionCall a work tape bytes .tape) ≡ taken .tape
+  pub commands-are : commandsOn a (c .bytes) (transactionCall way a work tape bytes .tape) ≡ taken .tape
   commands-are =
       ap (commandsOn a (c .bytes)) tape-is
       ∙ ap (λ (x : Commit). commandsOn a (x .bytes) (splice tape 0 (tapeBytes (taken .tape)))) answer-is
-      ∙ commit-reads a target was-sound target-edited room tape (acceptance .fits) .0
+      ∙ commit-reads way a target was-sound target-edited room tape (acceptance .fits) .0
 
-  leaves : after a (commandsOn a (c .bytes) (transactionCall a work tape bytes .tape)) ≡ transactionCall a work tape bytes .work
-  leaves = ap (after a) commands-are ∙ taken-run a target was-sound target-edited room ∙ sym work-is
+  leaves : after a (commandsOn a (c .bytes) (transactionCall way a work tape bytes .tape)) ≡ transactionCall way a work tape bytes .work
+  leaves = ap (after a) commands-are ∙ taken-run way a target was-sound target-edited room ∙ sym work-is
 
-  pub formed : wellFormed (commandsOn a (c .bytes) (transactionCall a work tape bytes .tape)) ≡ true
-  formed = ap wellFormed commands-are ∙ writable-formed (length a) (taken .tape) (taken-fits a target was-sound target-edited room)
+  pub formed : wellFormed (commandsOn a (c .bytes) (transactionCall way a work tape bytes .tape)) ≡ true
+  formed = ap wellFormed commands-are ∙ writable-formed (length a) (taken .tape) (taken-fits way a target was-sound target-edited room)
 
-  runs : (buffer : List ℕ) → length buffer ≡ length a → runCall a buffer (take (c .bytes) (transactionCall a work tape bytes .tape)) ≡ accepted (transactionCall a work tape bytes .work)
+  runs : (buffer : List ℕ) → length buffer ≡ length a → runCall a buffer (take (c .bytes) (transactionCall way a work tape bytes .tape)) ≡ accepted (transactionCall way a work tape bytes .work)
   runs buffer same =
-      run-accepts a buffer (take (c .bytes) (transactionCall a work tape bytes .tape)) (acceptance .begun .size) same formed ∙ ap accepted leaves
+      run-accepts a buffer (take (c .bytes) (transactionCall way a work tape bytes .tape)) (acceptance .begun .size) same formed ∙ ap accepted leaves
 
-  flushes : c .flushes ≡ flushCount (commandsOn a (c .bytes) (transactionCall a work tape bytes .tape))
+  flushes : c .flushes ≡ flushCount (commandsOn a (c .bytes) (transactionCall way a work tape bytes .tape))
   unfolding commitOf
   flushes = ap (λ (x : Commit). x .flushes) answer-is ∙ ap flushCount (sym commands-are)
 
-  past : drop (c .bytes) (transactionCall a work tape bytes .tape) ≡ drop (c .bytes) tape
+  past : drop (c .bytes) (transactionCall way a work tape bytes .tape) ≡ drop (c .bytes) tape
   past = ap (drop (c .bytes)) tape-is ∙ drop-splice tape 0 (tapeBytes (taken .tape)) (omega (arith, acceptance .fits)) (c .bytes) (omega (arith, bytes-are))
 
-  makes : Makes a tape bytes c (transactionCall a work tape bytes)
+  makes : Makes a tape bytes c (transactionCall way a work tape bytes)
   makes =
-      let s = taken-sound a target was-sound target-edited room in
+      let s = taken-sound way a target was-sound target-edited room in
       record {
         wasSound = was-sound;
         reads = acceptance .done .reads ∙ ap listed list-is;

@@ -17,6 +17,7 @@ use Rattle.edit.specs.declared.Judged.the-variants as judges
 use Rattle.edit.proofs.Judging.{faulty-listed}
 use Rattle.journal.specs.Changes.{changedPages}
 use Rattle.journal.specs.Tape.{roomInLog, takenFor}
+use Rattle.journal.specs.declared.Way.{Way}
 use Rattle.tree.specs.State.{State}
 use Rattle.tree.specs.Whole.{finished, stopped, editsOn, editedImage}
 use Rattle.tape_write.specs.Calls.{commitCall}
@@ -42,22 +43,22 @@ Shows x y = (x .answer ≡ y .answer) × ((x .work ≡ y .work) × (x .tape ≡ 
 pub shows : (x y : Result) → x ≡ y → Shows x y
 shows x y e = (ap (λ (r : Result). r .answer) e, (ap (λ (r : Result). r .work) e, ap (λ (r : Result). r .tape) e))
 
-module _ (a w tape : List ℕ) where
-  commit-meets : answered a (commitCall a w tape .answer) (commitCall a w tape .work) (commitCall a w tape .tape) ≡ committed a w tape
+module _ (way : Way) (a w tape : List ℕ) where
+  commit-meets : answered a (commitCall way a w tape .answer) (commitCall way a w tape .work) (commitCall way a w tape .tape) ≡ committed way a w tape
   unfolding commitCall committed acceptedWith refusedWith
-  commit-meets = go (roomInLog (changedPages a w)) refl (leb (length (tapeBytes (takenFor a w .tape))) (length tape)) refl
+  commit-meets = go (roomInLog (changedPages a w)) refl (leb (length (tapeBytes (takenFor way a w .tape))) (length tape)) refl
     where
-      go : (b : Bool) → roomInLog (changedPages a w) ≡ b → (c : Bool) → leb (length (tapeBytes (takenFor a w .tape))) (length tape) ≡ c →
-          answered a (commitCall a w tape .answer) (commitCall a w tape .work) (commitCall a w tape .tape) ≡ committed a w tape
+      go : (b : Bool) → roomInLog (changedPages a w) ≡ b → (c : Bool) → leb (length (tapeBytes (takenFor way a w .tape))) (length tape) ≡ c →
+          answered a (commitCall way a w tape .answer) (commitCall way a w tape .work) (commitCall way a w tape .tape) ≡ committed way a w tape
       go true e true f = rw (e, f)
       go true e false f = rw (e, f)
       go false e c f = rw e
 
   pub commit-shows : (r s : Written) → r ≡ s → (work t : List ℕ) →
-      (r ≡ commitCall a w tape .answer) × ((work ≡ commitCall a w tape .work) × (t ≡ commitCall a w tape .tape)) →
-      Shows (answered a s work t) (committed a w tape)
+      (r ≡ commitCall way a w tape .answer) × ((work ≡ commitCall way a w tape .work) × (t ≡ commitCall way a w tape .tape)) →
+      Shows (answered a s work t) (committed way a w tape)
   commit-shows r s q work t (e, (f, g)) =
-      shows (answered a s work t) (committed a w tape)
+      shows (answered a s work t) (committed way a w tape)
       ((λ d. answered a ((sym q ∙ e) d) (f d) (g d)) ∙ commit-meets)
 
 -- ---- each way out
@@ -67,45 +68,45 @@ pub refused-shows : (k : ℕ) (a t : List ℕ) (y : Result) → Shows (record { 
     (r : Refusal) → r ≡ refusal k → (work : List ℕ) → work ≡ a → Shows (record { answer = Refused r; work = work; tape = t }) y
 refused-shows k a t y (e, (f, g)) r q work z = (ap Refused q ∙ e, (z ∙ f, g))
 
-module _ (a tape : List ℕ) (es : List Edit) where
+module _ (way : Way) (a tape : List ℕ) (es : List Edit) where
   pub stopped-shows : (k i : ℕ) → editsOn a es ≡ stopped k i → (work : List ℕ) → work ≡ a →
-      Shows (record { answer = Refused (record { number = k; edit = i }); work = work; tape = tape }) (outcomeOf a tape (editsOn a es))
+      Shows (record { answer = Refused (record { number = k; edit = i }); work = work; tape = tape }) (outcomeOf way a tape (editsOn a es))
   unfolding outcomeOf refusedWith
   stopped-shows k i e work z = rw e (refl, (z, refl))
 
-  pub finished-shows : (st : State) → editsOn a es ≡ finished st → (w : List ℕ) → w ≡ editedImage a st → (x : Result) → Shows x (committed a w tape) →
-      Shows x (outcomeOf a tape (editsOn a es))
+  pub finished-shows : (st : State) → editsOn a es ≡ finished st → (w : List ℕ) → w ≡ editedImage a st → (x : Result) → Shows x (committed way a w tape) →
+      Shows x (outcomeOf way a tape (editsOn a es))
   unfolding outcomeOf
-  finished-shows st e w z x h = subst (Shows x) (ap (λ (v : List ℕ). committed a v tape) z ∙ ap (outcomeOf a tape) (sym e)) h
+  finished-shows st e w z x h = subst (Shows x) (ap (λ (v : List ℕ). committed way a v tape) z ∙ ap (outcomeOf way a tape) (sym e)) h
 
-module _ (a work tape : List ℕ) where
-  pub faulty-shows : (l : Listed) (r : Refusal) → judgedOf l ≡ judges.Faulty r → Shows (record { answer = Refused r; work = work; tape = tape }) (listOf a work tape l)
+module _ (way : Way) (a work tape : List ℕ) where
+  pub faulty-shows : (l : Listed) (r : Refusal) → judgedOf l ≡ judges.Faulty r → Shows (record { answer = Refused r; work = work; tape = tape }) (listOf way a work tape l)
   unfolding listOf refusedWith
   faulty-shows l r e = rw (faulty-listed l r e) (refl, (refl, refl))
 
-  pub listed-shows : (l : Listed) → l ≡ listed (editsOf l) → (x : Result) → Shows x (outcomeOf a tape (editsOn a (editsOf l))) → Shows x (listOf a work tape l)
+  pub listed-shows : (l : Listed) → l ≡ listed (editsOf l) → (x : Result) → Shows x (outcomeOf way a tape (editsOn a (editsOf l))) → Shows x (listOf way a work tape l)
   unfolding listOf
-  listed-shows l e x h = subst (λ (v : Listed). Shows x (listOf a work tape v)) (sym e) h
+  listed-shows l e x h = subst (λ (v : Listed). Shows x (listOf way a work tape v)) (sym e) h
 
   module _ (bytes : List ℕ) where
     -- a refusal of the call that leaves work and tape
-    call-refused : (k : ℕ) → Answers a work tape bytes (refusedWith k 0 work tape) → (r : Refusal) → r ≡ refusal k →
-        Shows (record { answer = Refused r; work = work; tape = tape }) (transactionCall a work tape bytes)
+    call-refused : (k : ℕ) → Answers way a work tape bytes (refusedWith k 0 work tape) → (r : Refusal) → r ≡ refusal k →
+        Shows (record { answer = Refused r; work = work; tape = tape }) (transactionCall way a work tape bytes)
     unfolding refusedWith
     call-refused k h r q =
-        let y = transactionCall a work tape bytes in
-        refused-shows k work tape y (shows (refusedWith k 0 work tape) y (sym (answers-call a work tape bytes (refusedWith k 0 work tape) h))) r q work refl
+        let y = transactionCall way a work tape bytes in
+        refused-shows k work tape y (shows (refusedWith k 0 work tape) y (sym (answers-call way a work tape bytes (refusedWith k 0 work tape) h))) r q work refl
 
-    pub size-shows : isImageSize (length a) ≡ false → (r : Refusal) → r ≡ refusal imageSize → Shows (record { answer = Refused r; work = work; tape = tape }) (transactionCall a work tape bytes)
+    pub size-shows : isImageSize (length a) ≡ false → (r : Refusal) → r ≡ refusal imageSize → Shows (record { answer = Refused r; work = work; tape = tape }) (transactionCall way a work tape bytes)
     size-shows e = call-refused imageSize (bad-size e)
 
     pub work-shows : isImageSize (length a) ≡ true → (length work ≡ length a → ⊥) → (r : Refusal) → r ≡ refusal workSize →
-        Shows (record { answer = Refused r; work = work; tape = tape }) (transactionCall a work tape bytes)
+        Shows (record { answer = Refused r; work = work; tape = tape }) (transactionCall way a work tape bytes)
     work-shows e ne = call-refused workSize (bad-work e ne)
 
     module _ (size : isImageSize (length a) ≡ true) (same : length work ≡ length a) where
-      pub unsound-shows : (r : Refusal) → checkCall a ≡ answers.Refused r → Shows (record { answer = Refused r; work = work; tape = tape }) (transactionCall a work tape bytes)
-      unsound-shows r e = shows _ _ (sym (answers-call a work tape bytes _ (bad-image size same r e)))
+      pub unsound-shows : (r : Refusal) → checkCall a ≡ answers.Refused r → Shows (record { answer = Refused r; work = work; tape = tape }) (transactionCall way a work tape bytes)
+      unsound-shows r e = shows _ _ (sym (answers-call way a work tape bytes _ (bad-image size same r e)))
 
-      pub checked-shows : checkCall a ≡ answers.Accepted → (x : Result) → Shows x (listOf a work tape (editList bytes)) → Shows x (transactionCall a work tape bytes)
-      checked-shows e x h = subst (Shows x) (sym (begun-call a work tape bytes (record { size = size; same = same; checked = e }))) h
+      pub checked-shows : checkCall a ≡ answers.Accepted → (x : Result) → Shows x (listOf way a work tape (editList bytes)) → Shows x (transactionCall way a work tape bytes)
+      checked-shows e x h = subst (Shows x) (sym (begun-call way a work tape bytes (record { size = size; same = same; checked = e }))) h

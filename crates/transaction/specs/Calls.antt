@@ -1,4 +1,5 @@
--- What a transaction answers, and what it leaves in work and tape (document 01, 'Each call and when it says no').
+-- What a transaction answers, and what it leaves in work and tape (document 01, 'Each call and when it says no'), by the way in which the
+-- device writes a line (document 02 (d), "Refused: as in the present calls.").
 -- Assumes nothing.
 use Prim.Native.Nat.{ℕ}
 use mathlib.Core.Bool.{Bool, true, false}
@@ -14,6 +15,7 @@ use Rattle.image.specs.Calls.{checkCall}
 use Rattle.edit.specs.EditList.{Listed, listed, faulty, editList}
 use Rattle.journal.specs.Changes.{changedPages}
 use Rattle.journal.specs.Tape.{Taken, commitOf, roomInLog, takenFor}
+use Rattle.journal.specs.declared.Way.{Way}
 use Rattle.tree.specs.Whole.{Outcome, finished, stopped, editsOn, editedImage}
 use Rattle.transaction.specs.declared.Transacted.{Transacted}
 use Rattle.transaction.specs.declared.Transacted.the-variants.{Accepted, Refused}
@@ -48,28 +50,28 @@ acceptedWith t tape =
     }
 
 -- "Then 12 more than 15 changed headers where the log is needed; 13 tape too short. From 8 on, work holds the image"
-unfoldable pub committed : List ℕ → List ℕ → List ℕ → Result
-committed a w tape =
-    let t = takenFor a w in
+unfoldable pub committed : Way → List ℕ → List ℕ → List ℕ → Result
+committed way a w tape =
+    let t = takenFor way a w in
     pick (roomInLog (changedPages a w))
     (pick (leb (length (tapeBytes (t .tape))) (length tape)) (acceptedWith t tape) (refusedWith tapeShort 0 a tape))
     (refusedWith logFull 0 a tape)
 
-unfoldable pub outcomeOf : List ℕ → List ℕ → Outcome → Result
-outcomeOf a tape (stopped k i) = refusedWith k i a tape
-outcomeOf a tape (finished st) = committed a (editedImage a st) tape
+unfoldable pub outcomeOf : Way → List ℕ → List ℕ → Outcome → Result
+outcomeOf way a tape (stopped k i) = refusedWith k i a tape
+outcomeOf way a tape (finished st) = committed way a (editedImage a st) tape
 
-unfoldable pub listOf : List ℕ → List ℕ → List ℕ → Listed → Result
-listOf a work tape (faulty k i) = refusedWith k i work tape
-listOf a work tape (listed es) = outcomeOf a tape (editsOn a es)
+unfoldable pub listOf : Way → List ℕ → List ℕ → List ℕ → Listed → Result
+listOf way a work tape (faulty k i) = refusedWith k i work tape
+listOf way a work tape (listed es) = outcomeOf way a tape (editsOn a es)
 
-unfoldable pub checkedOf : List ℕ → List ℕ → List ℕ → List ℕ → Answer → Result
-checkedOf a work tape bytes (answers.Refused r) = record { answer = Refused r; work = work; tape = tape }
-checkedOf a work tape bytes answers.Accepted = listOf a work tape (editList bytes)
+unfoldable pub checkedOf : Way → List ℕ → List ℕ → List ℕ → List ℕ → Answer → Result
+checkedOf way a work tape bytes (answers.Refused r) = record { answer = Refused r; work = work; tape = tape }
+checkedOf way a work tape bytes answers.Accepted = listOf way a work tape (editList bytes)
 
 -- "Transaction: 1; 2 if the work buffer's length isn't the image's; check's; then the list, ..."
-unfoldable pub transactionCall : List ℕ → List ℕ → List ℕ → List ℕ → Result
-transactionCall a work tape bytes =
+unfoldable pub transactionCall : Way → List ℕ → List ℕ → List ℕ → List ℕ → Result
+transactionCall way a work tape bytes =
     pick (isImageSize (length a))
-    (pick (eqb (length work) (length a)) (checkedOf a work tape bytes (checkCall a)) (refusedWith workSize 0 work tape))
+    (pick (eqb (length work) (length a)) (checkedOf way a work tape bytes (checkCall a)) (refusedWith workSize 0 work tape))
     (refusedWith imageSize 0 work tape)

@@ -1,4 +1,4 @@
--- Demand 2 of the call: what an accepted transaction leaves in its buffers, whatever they held (document 01, 'The plain ledger', and the desk's second demand).
+-- Demand 2 of the call on either device: what an accepted transaction leaves in its buffers, whatever they held (document 01, 'The plain ledger', and the desk's second demand).
 -- That a refusal comes exactly if its ground is the first that holds is said in Answers.
 -- Assumes nothing.
 use Prim.Native.Nat.{ℕ, _≤_}
@@ -13,6 +13,7 @@ use Rattle.image.specs.Image.{sound}
 use Rattle.image.specs.Table.{table}
 use Rattle.edit.specs.EditList.{listed, editsOf, editList}
 use Rattle.edit.specs.Ledger.{applyEdits}
+use Rattle.journal.specs.declared.Way.{Way}
 use Rattle.journal.specs.declared.Commit.{Commit}
 use Rattle.transaction.specs.Calls.{Result, commandsOn, transactionCall}
 use Rattle.transaction.specs.declared.Transacted.the-variants.{Accepted}
@@ -35,4 +36,4 @@ pub record Makes (a tape bytes : List ℕ) (c : Commit) (r : Result) : Type 0 wh
 
 abbrev pub Demand2 : Type 0
 Demand2 =
-    (a work tape bytes : List ℕ) (c : Commit) → transactionCall a work tape bytes .answer ≡ Accepted c → Makes a tape bytes c (transactionCall a work tape bytes)
+    (way : Way) (a work tape bytes : List ℕ) (c : Commit) → transactionCall way a work tape bytes .answer ≡ Accepted c → Makes a tape bytes c (transactionCall way a work tape bytes)

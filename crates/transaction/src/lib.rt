@@ -8,6 +8,7 @@ use edit::judge;
 use image::calls::check;
 use image::descent::root_of;
 use journal::Commit;
+use journal::Way;
 use tape_write::Written;
 use tape_write::commit;
 use tree_edit::Outcome;
@@ -21,6 +22,7 @@ ghost use lib.ListN.{length};
 ghost use Rattle.image.specs.Image.{sound};
 ghost use Rattle.edit.specs.EditList.{listed, editsOf, editList};
 ghost use Rattle.journal.specs.Edited.{Edited};
+ghost use Rattle.journal.specs.declared.Way.the-variants.{ByLine, ByWords};
 ghost use Rattle.tape_write.specs.Calls.{Marks, reachedIn};
 ghost use Rattle.tree.specs.Whole.{editsOn};
 ghost use Rattle.transaction.specs.Calls.{committed, outcomeOf, listOf, transactionCall};
@@ -32,14 +34,20 @@ pub enum Transacted {
 }
 
 // Commits the edited image that work holds, or puts the image back into work. The pages that image reaches are marked.
-fn commit_edits(image: &[u8], work: &mut [u8], tape: &mut [u8], before: &[u8; 64]) -> Transacted
+fn commit_edits(
+    way: Way,
+    image: &[u8],
+    work: &mut [u8],
+    tape: &mut [u8],
+    before: &[u8; 64],
+) -> Transacted
     requires { ⌜ (sound (now image) ≡ true) × Edited (now image) (now work) × Marks (now before) (reachedIn (now image)) ⌝ }
-    ensures { λ r. ⌜ r ≡ committed (now (image .entry)) (now (work .entry)) (now (tape .entry)) .answer ⌝ }
-    ensures { λ _. ⌜ now (work .exit) ≡ committed (now (image .entry)) (now (work .entry)) (now (tape .entry)) .work ⌝ }
-    ensures { λ _. ⌜ now (tape .exit) ≡ committed (now (image .entry)) (now (work .entry)) (now (tape .entry)) .tape ⌝ }
+    ensures { λ r. ⌜ r ≡ committed way (now (image .entry)) (now (work .entry)) (now (tape .entry)) .answer ⌝ }
+    ensures { λ _. ⌜ now (work .exit) ≡ committed way (now (image .entry)) (now (work .entry)) (now (tape .entry)) .work ⌝ }
+    ensures { λ _. ⌜ now (tape .exit) ≡ committed way (now (image .entry)) (now (work .entry)) (now (tape .entry)) .tape ⌝ }
 {
     let after = marks_of(work, root_of(work));
-    match commit(image, work, tape, before, &after) {
+    match commit(way, image, work, tape, before, &after) {
         Written::Done(done) => Transacted::Accepted(done),
         Written::LogFull => {
             codec::copy_all(work, image);
@@ -53,11 +61,11 @@ fn commit_edits(image: &[u8], work: &mut [u8], tape: &mut [u8], before: &[u8; 64
 }
 
 // Makes the edits of a well-formed list on a copy of a sound image, and commits them.
-fn make_edits(image: &[u8], work: &mut [u8], tape: &mut [u8], list: &[u8]) -> Transacted
+fn make_edits(way: Way, image: &[u8], work: &mut [u8], tape: &mut [u8], list: &[u8]) -> Transacted
     requires { ⌜ (sound (now image) ≡ true) × (length (now work) ≡ length (now image)) × (editList (now list) ≡ listed (editsOf (editList (now list)))) ⌝ }
-    ensures { λ r. ⌜ r ≡ outcomeOf (now (image .entry)) (now (tape .entry)) (editsOn (now (image .entry)) (editsOf (editList (now (list .entry))))) .answer ⌝ }
-    ensures { λ _. ⌜ now (work .exit) ≡ outcomeOf (now (image .entry)) (now (tape .entry)) (editsOn (now (image .entry)) (editsOf (editList (now (list .entry))))) .work ⌝ }
-    ensures { λ _. ⌜ now (tape .exit) ≡ outcomeOf (now (image .entry)) (now (tape .entry)) (editsOn (now (image .entry)) (editsOf (editList (now (list .entry))))) .tape ⌝ }
+    ensures { λ r. ⌜ r ≡ outcomeOf way (now (image .entry)) (now (tape .entry)) (editsOn (now (image .entry)) (editsOf (editList (now (list .entry))))) .answer ⌝ }
+    ensures { λ _. ⌜ now (work .exit) ≡ outcomeOf way (now (image .entry)) (now (tape .entry)) (editsOn (now (image .entry)) (editsOf (editList (now (list .entry))))) .work ⌝ }
+    ensures { λ _. ⌜ now (tape .exit) ≡ outcomeOf way (now (image .entry)) (now (tape .entry)) (editsOn (now (image .entry)) (editsOf (editList (now (list .entry))))) .tape ⌝ }
 {
     codec::copy_all(work, image);
     let root = root_of(image);
@@ -73,29 +81,29 @@ fn make_edits(image: &[u8], work: &mut [u8], tape: &mut [u8], list: &[u8]) -> Tr
         }
         Outcome::Finished(end) => {
             finish(work, image, &before, end);
-            commit_edits(image, work, tape, &before)
+            commit_edits(way, image, work, tape, &before)
         }
     }
 }
 
 // Judges the list, and makes its edits on a sound image.
-fn judge_list(image: &[u8], work: &mut [u8], tape: &mut [u8], list: &[u8]) -> Transacted
+fn judge_list(way: Way, image: &[u8], work: &mut [u8], tape: &mut [u8], list: &[u8]) -> Transacted
     requires { ⌜ (sound (now image) ≡ true) × (length (now work) ≡ length (now image)) ⌝ }
-    ensures { λ r. ⌜ r ≡ listOf (now (image .entry)) (now (work .entry)) (now (tape .entry)) (editList (now (list .entry))) .answer ⌝ }
-    ensures { λ _. ⌜ now (work .exit) ≡ listOf (now (image .entry)) (now (work .entry)) (now (tape .entry)) (editList (now (list .entry))) .work ⌝ }
-    ensures { λ _. ⌜ now (tape .exit) ≡ listOf (now (image .entry)) (now (work .entry)) (now (tape .entry)) (editList (now (list .entry))) .tape ⌝ }
+    ensures { λ r. ⌜ r ≡ listOf way (now (image .entry)) (now (work .entry)) (now (tape .entry)) (editList (now (list .entry))) .answer ⌝ }
+    ensures { λ _. ⌜ now (work .exit) ≡ listOf way (now (image .entry)) (now (work .entry)) (now (tape .entry)) (editList (now (list .entry))) .work ⌝ }
+    ensures { λ _. ⌜ now (tape .exit) ≡ listOf way (now (image .entry)) (now (work .entry)) (now (tape .entry)) (editList (now (list .entry))) .tape ⌝ }
 {
     match judge(list) {
         Judged::Faulty(refusal) => Transacted::Refused(refusal),
-        Judged::Good => make_edits(image, work, tape, list),
+        Judged::Good => make_edits(way, image, work, tape, list),
     }
 }
 
-// Makes a list of edits on an image: work takes the image after them, tape the commands that commit them.
-pub fn transaction(image: &[u8], work: &mut [u8], tape: &mut [u8], edits: &[u8]) -> Transacted
-    ensures { λ r. ⌜ r ≡ transactionCall (now (image .entry)) (now (work .entry)) (now (tape .entry)) (now (edits .entry)) .answer ⌝ }
-    ensures { λ _. ⌜ now (work .exit) ≡ transactionCall (now (image .entry)) (now (work .entry)) (now (tape .entry)) (now (edits .entry)) .work ⌝ }
-    ensures { λ _. ⌜ now (tape .exit) ≡ transactionCall (now (image .entry)) (now (work .entry)) (now (tape .entry)) (now (edits .entry)) .tape ⌝ }
+// Makes a list of edits on an image: work takes the image after them, tape the commands that commit them, in the device's way.
+fn transact(way: Way, image: &[u8], work: &mut [u8], tape: &mut [u8], edits: &[u8]) -> Transacted
+    ensures { λ r. ⌜ r ≡ transactionCall way (now (image .entry)) (now (work .entry)) (now (tape .entry)) (now (edits .entry)) .answer ⌝ }
+    ensures { λ _. ⌜ now (work .exit) ≡ transactionCall way (now (image .entry)) (now (work .entry)) (now (tape .entry)) (now (edits .entry)) .work ⌝ }
+    ensures { λ _. ⌜ now (tape .exit) ≡ transactionCall way (now (image .entry)) (now (work .entry)) (now (tape .entry)) (now (edits .entry)) .tape ⌝ }
 {
     let n = image.len();
     if !is_image_size(n) {
@@ -106,6 +114,24 @@ pub fn transaction(image: &[u8], work: &mut [u8], tape: &mut [u8], edits: &[u8])
     }
     match check(image) {
         Answer::Refused(refusal) => Transacted::Refused(refusal),
-        Answer::Accepted => judge_list(image, work, tape, edits),
+        Answer::Accepted => judge_list(way, image, work, tape, edits),
     }
+}
+
+// The transaction on modules with line stores.
+pub fn transaction(image: &[u8], work: &mut [u8], tape: &mut [u8], edits: &[u8]) -> Transacted
+    ensures { λ r. ⌜ r ≡ transactionCall ByLine (now (image .entry)) (now (work .entry)) (now (tape .entry)) (now (edits .entry)) .answer ⌝ }
+    ensures { λ _. ⌜ now (work .exit) ≡ transactionCall ByLine (now (image .entry)) (now (work .entry)) (now (tape .entry)) (now (edits .entry)) .work ⌝ }
+    ensures { λ _. ⌜ now (tape .exit) ≡ transactionCall ByLine (now (image .entry)) (now (work .entry)) (now (tape .entry)) (now (edits .entry)) .tape ⌝ }
+{
+    transact(Way::ByLine, image, work, tape, edits)
+}
+
+// The same on modules "atomic for 8 bytes only": its tape has no line store (document 02 (d)).
+pub fn transaction_words(image: &[u8], work: &mut [u8], tape: &mut [u8], edits: &[u8]) -> Transacted
+    ensures { λ r. ⌜ r ≡ transactionCall ByWords (now (image .entry)) (now (work .entry)) (now (tape .entry)) (now (edits .entry)) .answer ⌝ }
+    ensures { λ _. ⌜ now (work .exit) ≡ transactionCall ByWords (now (image .entry)) (now (work .entry)) (now (tape .entry)) (now (edits .entry)) .work ⌝ }
+    ensures { λ _. ⌜ now (tape .exit) ≡ transactionCall ByWords (now (image .entry)) (now (work .entry)) (now (tape .entry)) (now (edits .entry)) .tape ⌝ }
+{
+    transact(Way::ByWords, image, work, tape, edits)
 }

@@ -15,6 +15,7 @@ use Rattle.image.specs.Table.{table}
 use Rattle.image.specs.Fresh.{fresh}
 use Rattle.edit.specs.EditList.{Edit}
 use Rattle.edit.specs.Reads.{listBytes}
+use Rattle.journal.specs.declared.Way.the-variants.{ByLine}
 use Rattle.transaction.specs.Calls.{Result, transactionCall}
 use Rattle.transaction.specs.declared.Transacted.{Transacted}
 use Rattle.transaction.specs.declared.Transacted.the-variants.{Accepted, Refused}
@@ -25,7 +26,7 @@ lentTape = replicate 4096 0
 
 -- a transaction of these edits on the image a, which is lent for work too
 unfoldable pub transacted : List ℕ → List Edit → Result
-transacted a es = transactionCall a a lentTape (listBytes es)
+transacted a es = transactionCall ByLine a a lentTape (listBytes es)
 
 -- the image that accepted transactions leave, one after the other
 unfoldable pub after : List (List Edit) → List ℕ → List ℕ

@@ -26,7 +26,7 @@ of-requires c κs = search needs
 returns : tie.Need-returns
 returns c =
     let s = c .before .before .before .before .before .before in
-    log-refused (s .args .image .now) (s .args .work .now) (s .args .tape .now) (s .pre .0) (s .pre .1) (s .args .headers) (s .args .root) (s .pre .2) (sym (c .before .before .logged-ok .ensures) ∙ not-true _ (c .before .if1 .taken)) _ (c .of .ensures)
+    log-refused (s .args .way) (s .args .image .now) (s .args .work .now) (s .args .tape .now) (s .pre .0) (s .pre .1) (s .args .headers) (s .args .root) (s .pre .2) (sym (c .before .before .logged-ok .ensures) ∙ not-true _ (c .before .if1 .taken)) _ (c .of .ensures)
 
 replay-ok-requires : tie.Need-replay-ok-requires
 replay-ok-requires c κs =
@@ -39,7 +39,7 @@ of-requires-2 c κs = search needs
 returns-2 : tie.Need-returns-2
 returns-2 c =
     let s = c .before .before .before .before .before .before .before .before in
-    tree-refused (s .args .image .now) (s .args .work .now) (s .args .tape .now) (s .pre .0) (s .pre .1) (s .args .headers) (s .args .root) (s .pre .2) (sym (c .before .before .before .before .logged-ok .ensures) ∙ not-false _ (c .before .before .before .if1 .left)) (sym (c .before .before .replay-ok .ensures) ∙ not-true _ (c .before .if2 .taken)) _ (c .of2 .ensures)
+    tree-refused (s .args .way) (s .args .image .now) (s .args .work .now) (s .args .tape .now) (s .pre .0) (s .pre .1) (s .args .headers) (s .args .root) (s .pre .2) (sym (c .before .before .before .before .logged-ok .ensures) ∙ not-false _ (c .before .before .before .if1 .left)) (sym (c .before .before .replay-ok .ensures) ∙ not-true _ (c .before .if2 .taken)) _ (c .of2 .ensures)
 
 redo-requires : tie.Need-redo-requires
 redo-requires c κs =
@@ -64,7 +64,7 @@ same-length-2 c = search needs
 returns-3 : tie.Need-returns-3
 returns-3 c =
     let s = c .before .before .before .before .before .before .before .before .before .before .before .before .before .before .before .before .before in
-    redone (s .args .image .now) (s .args .work .now) (s .args .tape .now) (s .pre .0) (s .pre .1) (s .args .headers) (s .args .root) (s .pre .2) (sym (c .before .before .before .before .before .before .before .before .before .before .before .before .before .logged-ok .ensures) ∙ not-false _ (c .before .before .before .before .before .before .before .before .before .before .before .before .if1 .left)) (sym (c .before .before .before .before .before .before .before .before .before .before .before .replay-ok .ensures) ∙ not-false _ (c .before .before .before .before .before .before .before .before .before .before .if2 .left)) _ (replays.Done (c .before .bytes .given .0 .0) (c .before .bytes .given .0 .1 .0)) (c .before .bytes .given .1) _ _ (c .before .before .before .before .before .before .before .redo .ensures)
+    redone (s .args .way) (s .args .image .now) (s .args .work .now) (s .args .tape .now) (s .pre .0) (s .pre .1) (s .args .headers) (s .args .root) (s .pre .2) (sym (c .before .before .before .before .before .before .before .before .before .before .before .before .before .logged-ok .ensures) ∙ not-false _ (c .before .before .before .before .before .before .before .before .before .before .before .before .if1 .left)) (sym (c .before .before .before .before .before .before .before .before .before .before .before .replay-ok .ensures) ∙ not-false _ (c .before .before .before .before .before .before .before .before .before .before .if2 .left)) _ (replays.Done (c .before .bytes .given .0 .0) (c .before .bytes .given .0 .1 .0)) (c .before .bytes .given .1) _ _ (c .before .before .before .before .before .before .before .redo .ensures)
 
 same-length-3 : tie.Need-same-length-3
 same-length-3 c = search needs
@@ -75,7 +75,7 @@ same-length-4 c = search needs
 returns-4 : tie.Need-returns-4
 returns-4 c =
     let s = c .before .before .before .before .before .before .before .before .before .before .before .before .before .before .before .before .before in
-    let e = redone (s .args .image .now) (s .args .work .now) (s .args .tape .now) (s .pre .0) (s .pre .1) (s .args .headers) (s .args .root) (s .pre .2) (sym (c .before .before .before .before .before .before .before .before .before .before .before .before .before .logged-ok .ensures) ∙ not-false _ (c .before .before .before .before .before .before .before .before .before .before .before .before .if1 .left)) (sym (c .before .before .before .before .before .before .before .before .before .before .before .replay-ok .ensures) ∙ not-false _ (c .before .before .before .before .before .before .before .before .before .before .if2 .left)) _ replays.TapeShort (c .before .enum-told .given .1) _ _ (c .before .before .before .before .before .before .before .redo .ensures) in (ap Refused (c .of3 .ensures) ∙ e .0, (e .1 .0, e .1 .1))
+    let e = redone (s .args .way) (s .args .image .now) (s .args .work .now) (s .args .tape .now) (s .pre .0) (s .pre .1) (s .args .headers) (s .args .root) (s .pre .2) (sym (c .before .before .before .before .before .before .before .before .before .before .before .before .before .logged-ok .ensures) ∙ not-false _ (c .before .before .before .before .before .before .before .before .before .before .before .before .if1 .left)) (sym (c .before .before .before .before .before .before .before .before .before .before .before .replay-ok .ensures) ∙ not-false _ (c .before .before .before .before .before .before .before .before .before .before .if2 .left)) _ replays.TapeShort (c .before .enum-told .given .1) _ _ (c .before .before .before .before .before .before .before .redo .ensures) in (ap Refused (c .of3 .ensures) ∙ e .0, (e .1 .0, e .1 .1))
 
 pub redo-log-spec : {M : Type 1} → statement M
 redo-log-spec =

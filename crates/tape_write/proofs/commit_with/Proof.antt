@@ -36,25 +36,25 @@ same-length-2 c = search needs
 returns : tie.Need-returns
 returns c =
     let s = c .before .before .before .before .before .before .before .before .before .before .before .before .before .before in
-    says-full (s .args .image .now) (s .args .work .now) (s .args .tape .now) (omega (arith, c .if1 .taken, c .before .before .before .before .find-changes .ensures .0 .headers))
+    says-full (s .args .way) (s .args .image .now) (s .args .work .now) (s .args .tape .now) (omega (arith, c .if1 .taken, c .before .before .before .before .find-changes .ensures .0 .headers))
 
 mul-stage : tie.Need-mul-stage
 mul-stage c =
     let s = c .before .before .before .before .before .before .before .before .before .before .before .before .before .before .before in
     let find-changes = c .before .before .before .before .before .find-changes in
-    omega (arith, (counts-few (s .args .image .now) (s .args .work .now) (s .pre .0 .images) (find-changes .result) (find-changes .ensures .0)) .0)
+    omega (arith, (counts-few (s .args .way) (s .args .image .now) (s .args .work .now) (s .pre .0 .images) (find-changes .result) (find-changes .ensures .0)) .0)
 
 mul-stage-2 : tie.Need-mul-stage-2
 mul-stage-2 c =
     let s = c .before .before .before .before .before .before .before .before .before .before .before .before .before .before .before .before in
     let find-changes = c .before .before .before .before .before .before .find-changes in
-    omega (arith, (counts-few (s .args .image .now) (s .args .work .now) (s .pre .0 .images) (find-changes .result) (find-changes .ensures .0)) .1)
+    omega (arith, (counts-few (s .args .way) (s .args .image .now) (s .args .work .now) (s .pre .0 .images) (find-changes .result) (find-changes .ensures .0)) .1)
 
 add-stage : tie.Need-add-stage
 add-stage c =
     let s = c .before .before .before .before .before .before .before .before .before .before .before .before .before .before .before .before in
     let find-changes = c .before .before .before .before .before .before .find-changes in
-    omega (arith, (counts-few (s .args .image .now) (s .args .work .now) (s .pre .0 .images) (find-changes .result) (find-changes .ensures .0)) .0, (counts-few (s .args .image .now) (s .args .work .now) (s .pre .0 .images) (find-changes .result) (find-changes .ensures .0)) .1)
+    omega (arith, (counts-few (s .args .way) (s .args .image .now) (s .args .work .now) (s .pre .0 .images) (find-changes .result) (find-changes .ensures .0)) .0, (counts-few (s .args .way) (s .args .image .now) (s .args .work .now) (s .pre .0 .images) (find-changes .result) (find-changes .ensures .0)) .1)
 
 end-bytes-requires : tie.Need-end-bytes-requires
 end-bytes-requires c κs = search needs
@@ -63,7 +63,7 @@ add-bytes : tie.Need-add-bytes
 add-bytes c =
     let s = c .before .before .before .before .before .before .before .before .before .before .before .before .before .before .before .before .before in
     let find-changes = c .before .before .before .before .before .before .before .find-changes in
-    omega (arith, (counts-few (s .args .image .now) (s .args .work .now) (s .pre .0 .images) (find-changes .result) (find-changes .ensures .0)) .0, (counts-few (s .args .image .now) (s .args .work .now) (s .pre .0 .images) (find-changes .result) (find-changes .ensures .0)) .1, c .end-bytes .ensures, (end-few ((find-changes .result) .headers) ((find-changes .result) .same) (c .before .before .before .if1 .left)) .0)
+    omega (arith, (counts-few (s .args .way) (s .args .image .now) (s .args .work .now) (s .pre .0 .images) (find-changes .result) (find-changes .ensures .0)) .0, (counts-few (s .args .way) (s .args .image .now) (s .args .work .now) (s .pre .0 .images) (find-changes .result) (find-changes .ensures .0)) .1, c .end-bytes .ensures, (end-few (s .args .way) ((find-changes .result) .headers) ((find-changes .result) .same) (c .before .before .before .if1 .left)) .0)
 
 same-length-3 : tie.Need-same-length-3
 same-length-3 c = search needs
@@ -76,15 +76,15 @@ returns-2 c =
     let s = c .before .before .before .before .before .before .before .before .before .before .before .before .before .before .before .before .before .before in
     let if1 = c .before .before .before .before .if1 in
     let find-changes = c .before .before .before .before .before .before .before .before .find-changes in
-    says-short (s .args .image .now) (s .args .work .now) (s .args .tape .now) (s .pre .0 .images) (pages-few (s .args .image .now) (s .args .work .now) (s .pre .0 .images) (find-changes .result) (find-changes .ensures .0) (if1 .left)) _ (bytes-are (s .args .image .now) (s .args .work .now) (s .pre .0 .images) (find-changes .result) (find-changes .ensures .0) (if1 .left) _ (c .before .end-bytes .ensures)) (c .if2 .taken)
+    says-short (s .args .way) (s .args .image .now) (s .args .work .now) (s .args .tape .now) (s .pre .0 .images) (pages-few (s .args .way) (s .args .image .now) (s .args .work .now) (s .pre .0 .images) (find-changes .result) (find-changes .ensures .0) (if1 .left)) _ (bytes-are (s .args .way) (s .args .image .now) (s .args .work .now) (s .pre .0 .images) (find-changes .result) (find-changes .ensures .0) (if1 .left) _ (c .before .end-bytes .ensures)) (c .if2 .taken)
 
 emit-stage-requires : tie.Need-emit-stage-requires
 emit-stage-requires c κs =
     let s = c .before .before .before .before .before .before .before .before .before .before .before .before .before .before .before .before .before .before .before .before .before in
     let find-changes = c .before .before .before .before .before .before .before .before .before .before .before .find-changes in (
-      omega (arith, c .before .before .before .if2 .left, ap (λ (x : List ℕ). length (linesPast 0 x)) (words-are (s .args .image .now) (s .args .work .now) (s .pre .0 .images) (find-changes .result) (find-changes .ensures .0) (s .args .words .now) (find-changes .last .1 .1 .1 .1 .0) (s .pre .1) (find-changes .ensures .1 .0)), find-changes .ensures .0 .lines),
+      omega (arith, c .before .before .before .if2 .left, ap (λ (x : List ℕ). length (linesPast 0 x)) (words-are (s .args .way) (s .args .image .now) (s .args .work .now) (s .pre .0 .images) (find-changes .result) (find-changes .ensures .0) (s .args .words .now) (find-changes .last .1 .1 .1 .1 .0) (s .pre .1) (find-changes .ensures .1 .0)), find-changes .ensures .0 .lines),
       omega (arith, words-fit (s .args .image .now) (s .args .work .now) (s .pre .0 .images), find-changes .ensures .0 .words, find-changes .kept .1 .1 .1 .1 .0, (s .pre .1)),
-      subst (All (WordIn (s .args .work .now))) (sym (words-are (s .args .image .now) (s .args .work .now) (s .pre .0 .images) (find-changes .result) (find-changes .ensures .0) (s .args .words .now) (find-changes .last .1 .1 .1 .1 .0) (s .pre .1) (find-changes .ensures .1 .0))) (words-there (s .args .image .now) (s .args .work .now) (s .pre .0 .images)),
+      subst (All (WordIn (s .args .work .now))) (sym (words-are (s .args .way) (s .args .image .now) (s .args .work .now) (s .pre .0 .images) (find-changes .result) (find-changes .ensures .0) (s .args .words .now) (find-changes .last .1 .1 .1 .1 .0) (s .pre .1) (find-changes .ensures .1 .0))) (words-there (s .args .way) (s .args .image .now) (s .args .work .now) (s .pre .0 .images)),
     )
 
 slice-aggregate-emit-end : tie.Need-slice-aggregate-emit-end
@@ -99,17 +99,17 @@ emit-end-requires c κs =
       (if1 .left),
       omega (arith, (if1 .left), find-changes .kept .1 .1 .1 .1 .1 .0, (length-replicate {A = ℕ} 64 0)),
       omega (arith, s .pre .0 .images .low, s .pre .0 .images .same),
-      subst (All (PageIn (s .args .work .now))) (sym (pages-are (s .args .image .now) (s .args .work .now) (s .pre .0 .images) (find-changes .result) (find-changes .ensures .0) (if1 .left) (replicate 64 0) (find-changes .last .1 .1 .1 .1 .1 .0) (length-replicate {A = ℕ} 64 0) (find-changes .ensures .1 .1))) (pages-there (s .args .image .now) (s .args .work .now) (s .pre .0 .images)),
+      subst (All (PageIn (s .args .work .now))) (sym (pages-are (s .args .way) (s .args .image .now) (s .args .work .now) (s .pre .0 .images) (find-changes .result) (find-changes .ensures .0) (if1 .left) (replicate 64 0) (find-changes .last .1 .1 .1 .1 .1 .0) (length-replicate {A = ℕ} 64 0) (find-changes .ensures .1 .1))) (pages-there (s .args .way) (s .args .image .now) (s .args .work .now) (s .pre .0 .images)),
     )
 
 end-flushes-requires : tie.Need-end-flushes-requires
 end-flushes-requires c κs = search needs
 
-add-t22 : tie.Need-add-t22
-add-t22 c =
+add-t23 : tie.Need-add-t23
+add-t23 c =
     let s = c .before .before .before .before .before .before .before .before .before .before .before .before .before .before .before .before .before .before .before .before .before .before .before .before .before .before .before .before .before .before .before .before .before .before in
     let find-changes = c .before .before .before .before .before .before .before .before .before .before .before .before .before .before .before .before .before .before .before .before .before .before .before .before .find-changes in
-    omega (arith, (counts-few (s .args .image .now) (s .args .work .now) (s .pre .0 .images) (find-changes .result) (find-changes .ensures .0)) .1, c .before .end-flushes .ensures, (end-few ((find-changes .result) .headers) ((find-changes .result) .same) (c .before .before .before .before .before .before .before .before .before .before .before .before .before .before .before .before .before .before .before .before .if1 .left)) .1)
+    omega (arith, (counts-few (s .args .way) (s .args .image .now) (s .args .work .now) (s .pre .0 .images) (find-changes .result) (find-changes .ensures .0)) .1, c .before .end-flushes .ensures, (end-few (s .args .way) ((find-changes .result) .headers) ((find-changes .result) .same) (c .before .before .before .before .before .before .before .before .before .before .before .before .before .before .before .before .before .before .before .before .if1 .left)) .1)
 
 same-length-5 : tie.Need-same-length-5
 same-length-5 c = search needs
@@ -126,11 +126,11 @@ returns-3 c =
     let if1 = c .before .before .before .before .before .before .before .before .before .before .before .before .before .before .before .before .before .before .before .before .if1 in
     let find-changes = c .before .before .before .before .before .before .before .before .before .before .before .before .before .before .before .before .before .before .before .before .before .before .before .before .find-changes in
     let found = find-changes .ensures .0 in
-    says-done (s .args .image .now) (s .args .work .now) (s .args .tape .now) (s .pre .0 .images) (pages-few (s .args .image .now) (s .args .work .now) (s .pre .0 .images) (find-changes .result) (find-changes .ensures .0) (if1 .left)) _ (bytes-are (s .args .image .now) (s .args .work .now) (s .pre .0 .images) (find-changes .result) (find-changes .ensures .0) (if1 .left) _ (c .before .before .before .before .before .before .before .before .before .before .before .before .before .before .before .before .before .end-bytes .ensures)) (c .before .before .before .before .before .before .before .before .before .before .before .before .before .before .before .before .if2 .left) _ _ (12 * (find-changes .result) .words + 4 * (find-changes .result) .lines) _ _ _ _
-    (c .before .before .before .before .before .before .before .before .before .before .before .before .emit-stage .ensures ∙ ap (λ (x : List ℕ). sets (s .args .tape .now) 0 (tapeBytes (stageTape (s .args .work .now) x))) (words-are (s .args .image .now) (s .args .work .now) (s .pre .0 .images) (find-changes .result) (find-changes .ensures .0) (s .args .words .now) (find-changes .last .1 .1 .1 .1 .0) (s .pre .1) (find-changes .ensures .1 .0)))
+    says-done (s .args .way) (s .args .image .now) (s .args .work .now) (s .args .tape .now) (s .pre .0 .images) (pages-few (s .args .way) (s .args .image .now) (s .args .work .now) (s .pre .0 .images) (find-changes .result) (find-changes .ensures .0) (if1 .left)) _ (bytes-are (s .args .way) (s .args .image .now) (s .args .work .now) (s .pre .0 .images) (find-changes .result) (find-changes .ensures .0) (if1 .left) _ (c .before .before .before .before .before .before .before .before .before .before .before .before .before .before .before .before .before .end-bytes .ensures)) (c .before .before .before .before .before .before .before .before .before .before .before .before .before .before .before .before .if2 .left) _ _ (12 * (find-changes .result) .words + 4 * (find-changes .result) .lines) _ _ _ _
+    (c .before .before .before .before .before .before .before .before .before .before .before .before .emit-stage .ensures ∙ ap (λ (x : List ℕ). sets (s .args .tape .now) 0 (tapeBytes (stageTape (s .args .work .now) x))) (words-are (s .args .way) (s .args .image .now) (s .args .work .now) (s .pre .0 .images) (find-changes .result) (find-changes .ensures .0) (s .args .words .now) (find-changes .last .1 .1 .1 .1 .0) (s .pre .1) (find-changes .ensures .1 .0)))
     (omega (arith, found .words, found .lines))
-    (leaves-as _ _ _ _ _ _ _ (ap₂ (choose [] (s .args .work .now)) (sym (found .root)) (sym (pages-are (s .args .image .now) (s .args .work .now) (s .pre .0 .images) (find-changes .result) (find-changes .ensures .0) (if1 .left) (replicate 64 0) (find-changes .last .1 .1 .1 .1 .1 .0) (length-replicate {A = ℕ} 64 0) (find-changes .ensures .1 .1)))) (c .before .before .before .before .before .before .emit-end .ensures))
-    (found .lines) (c .before .end-flushes .ensures ∙ ap₂ endFlushes (found .headers) (found .root))
+    (leaves-as _ _ _ _ _ _ _ (ap₂ (choose (s .args .way) [] (s .args .work .now)) (sym (found .root)) (sym (pages-are (s .args .way) (s .args .image .now) (s .args .work .now) (s .pre .0 .images) (find-changes .result) (find-changes .ensures .0) (if1 .left) (replicate 64 0) (find-changes .last .1 .1 .1 .1 .1 .0) (length-replicate {A = ℕ} 64 0) (find-changes .ensures .1 .1)))) (c .before .before .before .before .before .before .emit-end .ensures))
+    (found .lines) (c .before .end-flushes .ensures ∙ ap₂ (endFlushes (s .args .way)) (found .headers) (found .root))
 
 pub commit-with-spec : {M : Type 1} → statement M
 commit-with-spec =
@@ -153,7 +153,7 @@ commit-with-spec =
     slice-aggregate-emit-end
     emit-end-requires
     end-flushes-requires
-    add-t22
+    add-t23
     same-length-5
     same-length-6
     same-length-7

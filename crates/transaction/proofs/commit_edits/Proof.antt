@@ -38,7 +38,7 @@ enum-told c = search needs
 copy-all-requires : tie.Need-copy-all-requires
 copy-all-requires c κs =
     let s = c .before .before .before .before .before .before .before .before .before .before .before .before .before .before .before .before .before .before in
-    (c .before .before .before .before .before .before .before .commit .kept .1 .0 ∙ s .pre .1 .sameLength, image-size (s .args .image .now) (s .pre .0) .high)
+    (c .before .before .before .before .before .before .before .commit .kept .1 .1 .0 ∙ s .pre .1 .sameLength, image-size (s .args .image .now) (s .pre .0) .high)
 
 of-requires : tie.Need-of-requires
 of-requires c κs = search needs
@@ -49,7 +49,7 @@ enum-told-2 c = search needs
 copy-all-requires-2 : tie.Need-copy-all-requires-2
 copy-all-requires-2 c κs =
     let s = c .before .before .before .before .before .before .before .before .before .before .before .before .before .before .before .before .before .before in
-    (c .before .before .before .before .before .before .before .commit .kept .1 .0 ∙ s .pre .1 .sameLength, image-size (s .args .image .now) (s .pre .0) .high)
+    (c .before .before .before .before .before .before .before .commit .kept .1 .1 .0 ∙ s .pre .1 .sameLength, image-size (s .args .image .now) (s .pre .0) .high)
 
 of-requires-2 : tie.Need-of-requires-2
 of-requires-2 c κs = search needs
@@ -63,7 +63,7 @@ same-length-2 c = search needs
 returns : tie.Need-returns
 returns c =
     let s = c .before .before .before .before .before .before .before .before .before .before .before .before .before .before .before .before .before .before in
-    commit-shows (s .args .image .now) (s .args .work .now) (s .args .tape .now) _ (writes.Done (c .before .done .given .0 .0)) (c .before .done .given .1) _ _ (c .before .before .before .before .before .before .before .commit .ensures)
+    commit-shows (s .args .way) (s .args .image .now) (s .args .work .now) (s .args .tape .now) _ (writes.Done (c .before .done .given .0 .0)) (c .before .done .given .1) _ _ (c .before .before .before .before .before .before .before .commit .ensures)
 
 same-length-3 : tie.Need-same-length-3
 same-length-3 c = search needs
@@ -74,7 +74,7 @@ same-length-4 c = search needs
 returns-2 : tie.Need-returns-2
 returns-2 c =
     let s = c .before .before .before .before .before .before .before .before .before .before .before .before .before .before .before .before .before .before .before .before .before .before in
-    refused-shows _ (s .args .image .now) _ _ (commit-shows (s .args .image .now) (s .args .work .now) (s .args .tape .now) _ writes.LogFull (c .before .before .before .before .before .enum-told .given .1) _ _ (c .before .before .before .before .before .before .before .before .before .before .before .commit .ensures)) _ (c .of .ensures) _ (c .before .before .before .copy-all .ensures)
+    refused-shows _ (s .args .image .now) _ _ (commit-shows (s .args .way) (s .args .image .now) (s .args .work .now) (s .args .tape .now) _ writes.LogFull (c .before .before .before .before .before .enum-told .given .1) _ _ (c .before .before .before .before .before .before .before .before .before .before .before .commit .ensures)) _ (c .of .ensures) _ (c .before .before .before .copy-all .ensures)
 
 same-length-5 : tie.Need-same-length-5
 same-length-5 c = search needs
@@ -85,7 +85,7 @@ same-length-6 c = search needs
 returns-3 : tie.Need-returns-3
 returns-3 c =
     let s = c .before .before .before .before .before .before .before .before .before .before .before .before .before .before .before .before .before .before .before .before .before .before in
-    refused-shows _ (s .args .image .now) _ _ (commit-shows (s .args .image .now) (s .args .work .now) (s .args .tape .now) _ writes.TapeShort (c .before .before .before .before .before .enum-told2 .given .1) _ _ (c .before .before .before .before .before .before .before .before .before .before .before .commit .ensures)) _ (c .of2 .ensures) _ (c .before .before .before .copy-all2 .ensures)
+    refused-shows _ (s .args .image .now) _ _ (commit-shows (s .args .way) (s .args .image .now) (s .args .work .now) (s .args .tape .now) _ writes.TapeShort (c .before .before .before .before .before .enum-told2 .given .1) _ _ (c .before .before .before .before .before .before .before .before .before .before .before .commit .ensures)) _ (c .of2 .ensures) _ (c .before .before .before .copy-all2 .ensures)
 
 pub commit-edits-spec : {M : Type 1} → statement M
 commit-edits-spec =

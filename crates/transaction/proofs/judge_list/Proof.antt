@@ -25,7 +25,7 @@ make-edits-requires c κs =
 returns : tie.Need-returns
 returns c =
     let s = c .before .before .before .before .before .before .before .before in
-    faulty-shows (s .args .image .now) (s .args .work .now) (s .args .tape .now) (editList (s .args .list .now)) (c .before .refusal .given .0 .0) (sym (c .before .before .before .judge .ensures) ∙ c .before .refusal .given .1)
+    faulty-shows (s .args .way) (s .args .image .now) (s .args .work .now) (s .args .tape .now) (editList (s .args .list .now)) (c .before .refusal .given .0 .0) (sym (c .before .before .before .judge .ensures) ∙ c .before .refusal .given .1)
 
 same-length : tie.Need-same-length
 same-length c = search needs
@@ -36,7 +36,7 @@ same-length-2 c = search needs
 returns-2 : tie.Need-returns-2
 returns-2 c =
     let s = c .before .before .before .before .before .before .before .before .before .before .before .before .before .before in
-    listed-shows (s .args .image .now) (s .args .work .now) (s .args .tape .now) (editList (s .args .list .now)) (good-listed (editList (s .args .list .now)) (sym (c .before .before .before .before .before .before .before .before .before .judge .ensures) ∙ c .before .before .before .before .before .before .before .enum-told .given .1)) _ (c .before .before .before .before .make-edits .ensures)
+    listed-shows (s .args .way) (s .args .image .now) (s .args .work .now) (s .args .tape .now) (editList (s .args .list .now)) (good-listed (editList (s .args .list .now)) (sym (c .before .before .before .before .before .before .before .before .before .judge .ensures) ∙ c .before .before .before .before .before .before .before .enum-told .given .1)) _ (c .before .before .before .before .make-edits .ensures)
 
 pub judge-list-spec : {M : Type 1} → statement M
 judge-list-spec =

@@ -68,7 +68,7 @@ same-length c = search needs
 returns : tie.Need-returns
 returns c =
     let s = c .before .before .before .before .before .before .before .before .before .before .before .before .before .before .before .before .before .before .before .before .before .before in
-    stopped-shows (s .args .image .now) (s .args .tape .now) _ _ _ (made-stopped (begun (c .before .before .before .before .before .before .before .before .before .before .before .before)) _ (list-proper (s .args .list .now) _ (s .pre .2)) _ _ (c .before .before .before .before .before .before .before .before .before .edit-list .ensures) _ _ (c .before .before .before .before .before .number .given .1)) _ (c .before .before .copy-all2 .ensures)
+    stopped-shows (s .args .way) (s .args .image .now) (s .args .tape .now) _ _ _ (made-stopped (begun (c .before .before .before .before .before .before .before .before .before .before .before .before)) _ (list-proper (s .args .list .now) _ (s .pre .2)) _ _ (c .before .before .before .before .before .before .before .before .before .edit-list .ensures) _ _ (c .before .before .before .before .before .number .given .1)) _ (c .before .before .copy-all2 .ensures)
 
 same-length-2 : tie.Need-same-length-2
 same-length-2 c = search needs
@@ -79,7 +79,7 @@ same-length-3 c = search needs
 returns-2 : tie.Need-returns-2
 returns-2 c =
     let s = c .before .before .before .before .before .before .before .before .before .before .before .before .before .before .before .before .before .before .before .before .before .before .before .before .before .before .before .before .before .before .before in
-    finished-shows (s .args .image .now) (s .args .tape .now) _ _ (ended (c .before .before .before .before .before .before .before .before .before .before .before .before .before .before) .finishes) _ (c .before .before .before .before .before .before .before .before .before .before .finish .ensures) _ (c .before .before .before .before .commit-edits .ensures)
+    finished-shows (s .args .way) (s .args .image .now) (s .args .tape .now) _ _ (ended (c .before .before .before .before .before .before .before .before .before .before .before .before .before .before) .finishes) _ (c .before .before .before .before .before .before .before .before .before .before .finish .ensures) _ (c .before .before .before .before .commit-edits .ensures)
 
 pub make-edits-spec : {M : Type 1} → statement M
 make-edits-spec =

@@ -30,7 +30,7 @@ returns c =
     let log-headers = c .before .before .before .before .before .before .before .log-headers in
     let long-at = c .before .before .before .before .before .before .before .before .before .long-at in
     let n = first-length (s .args .pages .now) (s .args .k) (s .pre .2) in
-    (log-headers .ensures, log-tape (s .args .work .now) (s .args .tape .now) _ (s .args .at) (s .args .k) (long-at .result) _ (take (s .args .k) (s .args .pages .now)) (s .args .same) (log-headers .ensures) n (long-at .ensures) (s .pre .4) (s .pre .1) (s .pre .3) (c .before .before .emit-log .ensures))
+    (log-headers .ensures, log-tape (s .args .work .now) (s .args .tape .now) _ (s .args .at) (s .args .way) (s .args .k) (long-at .result) _ (take (s .args .k) (s .args .pages .now)) (s .args .same) (log-headers .ensures) n (long-at .ensures) (s .pre .4) (s .pre .1) (s .pre .3) (c .before .before .emit-log .ensures))
 
 pub emit-by-log-spec : {M : Type 1} → statement M
 emit-by-log-spec =

@@ -53,7 +53,7 @@ loop-again c =
     let loop = c .before .before .before .before .before .before .loop in (
       omega arith,
       c .before .before .emit-flush .kept .0 ∙ loop .inv .1,
-      flush-step (s .args .src .now) (s .args .k) (loop .i) (s .args .own) (loop .tape) _ (s .args .at) (line-for .result) (c .before .before .before .before .before .loop-test .taken) (omega arith) (line-for .ensures) (c .before .before .emit-flush .ensures) ∙ loop .inv .2,
+      flush-step (s .args .src .now) (s .args .k) (loop .i) (s .args .own) (loop .tape) _ (s .args .at) (line-for .result) (c .before .before .before .before .before .loop-test .taken) (omega arith) (line-for .ensures .0) (c .before .before .emit-flush .ensures) ∙ loop .inv .2,
     )
 
 same-length : tie.Need-same-length Inv-loop μ-loop

@@ -23,7 +23,7 @@ returns : tie.Need-returns
 returns c =
     let s = c .before .before .before .before .before .before .before .before .before .before in
     let long-at = c .before .before .before .before .before .before .long-at in
-    let r = redo-short (s .args .image .now) (s .args .tape .now) (s .args .headers) (s .args .root) _ (s .pre .log) (root-same (s .args .image .now) (λ i. omega (arith, c .before .before .before .before .before .before .before .before .before .shared-slice-known .given i)) (omega (arith, s .pre .log)) (long-at .result) (s .args .root) (long-at .ensures) (omega (arith, c .before .before .before .before .before .before .before .before .before .before .fits .root))) (omega (arith, c .before .before .before .before .if1 .taken, c .before .before .before .before .before .replay-bytes .ensures)) in
+    let r = redo-short (s .args .way) (s .args .image .now) (s .args .tape .now) (s .args .headers) (s .args .root) _ (s .pre .log) (root-same (s .args .image .now) (λ i. omega (arith, c .before .before .before .before .before .before .before .before .before .shared-slice-known .given i)) (omega (arith, s .pre .log)) (long-at .result) (s .args .root) (long-at .ensures) (omega (arith, c .before .before .before .before .before .before .before .before .before .before .fits .root))) (omega (arith, c .before .before .before .before .if1 .taken, c .before .before .before .before .before .replay-bytes .ensures)) in
     (r .0, (c .before .before .copy-all .ensures ∙ r .1 .0, r .1 .1))
 
 replay-requires : tie.Need-replay-requires
@@ -32,8 +32,8 @@ replay-requires c κs = search needs
 emit-replay-requires : tie.Need-emit-replay-requires
 emit-replay-requires c κs = search needs
 
-add-t9 : tie.Need-add-t9
-add-t9 c = search needs
+add-t10 : tie.Need-add-t10
+add-t10 c = search needs
 
 same-length-2 : tie.Need-same-length-2
 same-length-2 c = search needs
@@ -46,7 +46,7 @@ returns-2 c =
     let s = c .before .before .before .before .before .before .before .before .before .before .before .before .before .before in
     let replay-bytes = c .before .before .before .before .before .before .before .before .before .replay-bytes in
     let long-at = c .before .before .before .before .before .before .before .before .before .before .long-at in
-    redo-done (s .args .image .now) (s .args .tape .now) (s .args .headers) (s .args .root) _ (s .pre .log) (root-same (s .args .image .now) (λ i. omega (arith, c .before .before .before .before .before .before .before .before .before .before .before .before .before .shared-slice-known .given i)) (omega (arith, s .pre .log)) (long-at .result) (s .args .root) (long-at .ensures) (omega (arith, c .before .before .before .before .before .before .before .before .before .before .before .before .before .before .fits .root))) (omega (arith, c .before .before .before .before .before .before .before .before .if1 .left, replay-bytes .ensures)) _ _ _ (replay-bytes .ensures) (c .before .before .before .before .before .before .replay .ensures) (c .before .before .emit-replay .ensures)
+    redo-done (s .args .way) (s .args .image .now) (s .args .tape .now) (s .args .headers) (s .args .root) _ (s .pre .log) (root-same (s .args .image .now) (λ i. omega (arith, c .before .before .before .before .before .before .before .before .before .before .before .before .before .shared-slice-known .given i)) (omega (arith, s .pre .log)) (long-at .result) (s .args .root) (long-at .ensures) (omega (arith, c .before .before .before .before .before .before .before .before .before .before .before .before .before .before .fits .root))) (omega (arith, c .before .before .before .before .before .before .before .before .if1 .left, replay-bytes .ensures)) _ _ _ (replay-bytes .ensures) (c .before .before .before .before .before .before .replay .ensures) (c .before .before .emit-replay .ensures)
 
 pub redo-spec : {M : Type 1} → statement M
 redo-spec =
@@ -59,7 +59,7 @@ redo-spec =
     returns
     replay-requires
     emit-replay-requires
-    add-t9
+    add-t10
     same-length-2
     same-length-3
     returns-2)

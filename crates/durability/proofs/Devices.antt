@@ -1,0 +1,221 @@
+-- The tapes without line stores are of words alone, and the two calls answer alike but for 13, and leave the same image but for log lines.
+-- Assumes nothing.
+use Prim.Native.Nat.{ℕ, _≤_, _<_}
+use mathlib.Core.Path.{_≡_, refl, sym, ap, _∙_, subst}
+use mathlib.Core.Logic.{_⊎_, inl, inr}
+use mathlib.Core.Bool.{Bool, true, false, _&&_, false≢true}
+use mathlib.Core.List.{List}
+use native.Mathlib.Omega.{arith}
+use lib.ListN.{length}
+use lib.Dec.{eqb, leb}
+use borrow.Author.Tests.{leb-true, leb-false, le-leb}
+use Rattle.codec.specs.Lists.{pick, All}
+use Rattle.codec.proofs.Tests.{first, second}
+use Rattle.device.specs.Tape.{tapeBytes, flushCount}
+use Rattle.device.specs.Calls.{isImageSize, imageSize, workSize, unsound, tapeShort, refusal}
+use Rattle.device.specs.declared.Refusal.{Refusal}
+use Rattle.image.specs.PageZero.{logMost, pageZero}
+use Rattle.image.specs.Image.{sound}
+use Rattle.image.specs.Table.{table}
+use Rattle.image.proofs.Answers.{check-sound}
+use Rattle.edit.specs.EditList.{Edit}
+use Rattle.edit.proofs.Parsing.{list-proper}
+use Rattle.journal.specs.Changes.{changedPages}
+use Rattle.journal.specs.Way.{IsWord}
+use Rattle.journal.specs.Log.{SameButLog}
+use Rattle.journal.specs.Tape.{commitOf, roomInLog, takenFor}
+use Rattle.journal.specs.Recovery.{replayFrom, recoveryTape, replayable}
+use Rattle.journal.specs.Holds.{replay, Holds}
+use Rattle.journal.specs.declared.Way.{Way}
+use Rattle.journal.specs.declared.Way.the-variants.{ByWords}
+use Rattle.journal.specs.declared.Commit.{Commit}
+use Rattle.journal.specs.declared.CommitPlace.{CommitPlace}
+use Rattle.journal.specs.declared.CommitPlace.the-variants.{Header, Root, Log}
+use Rattle.journal.proofs.Devices.{recovery-words, taken-words, words-place, same-back, taken-work}
+use Rattle.tree.specs.State.{State}
+use Rattle.tree.specs.Whole.{editedImage}
+use Rattle.tree.proofs.Accepted.{edits-accepted}
+use Rattle.transaction.specs.Calls as transaction
+use Rattle.transaction.specs.Calls.{commandsOn, transactionCall}
+use Rattle.transaction.specs.Answers.{Begun, Done, Answers, bad-size, bad-work, bad-image, bad-list, bad-edit, no-log, no-tape, accepted}
+use Rattle.transaction.specs.declared.Transacted.the-variants as transacted
+use Rattle.transaction.proofs.Answers.{call-answers, answers-call}
+use Rattle.transaction.proofs.Demand2.{was-sound, target, target-edited, answer-is, commands-are, demand-2}
+use Rattle.recovery.specs.Calls.{Result, refusedWith, acceptedWith, recoverCall}
+use Rattle.recovery.specs.declared.Redone.{Redone}
+use Rattle.recovery.specs.declared.Recovered.the-variants as recovered
+use Rattle.durability.specs.Devices.{WordTape, TransactionWords, RecoveryWords, AtTape, Alike, refused, at-tape, BothCalls, RecoveredAtTape, RecoverAlike, refused-both, at-tape-both, BothRecoveries}
+use Rattle.durability.proofs.Recovered.{refused-not}
+use Rattle.durability.proofs.Attempts as attempts
+
+-- ---- the transaction without line stores
+
+module _ (a work tape bytes : List ℕ) (c : Commit) (e : transactionCall ByWords a work tape bytes .answer ≡ transacted.Accepted c) where
+  abbrev w : List ℕ
+  w = target ByWords a work tape bytes c e
+
+  place-is : c .place ≡ takenFor ByWords a w .place
+  unfolding commitOf
+  place-is = ap (λ (x : Commit). x .place) (answer-is ByWords a work tape bytes c e)
+
+  by-place : (p : CommitPlace) → takenFor ByWords a w .place ≡ p → (p ≡ Root) ⊎ (p ≡ Log)
+  by-place (Header p) q = absurd (words-place a w p q)
+  by-place Root q = inl refl
+  by-place Log q = inr refl
+
+  transaction-word : WordTape (commandsOn a (c .bytes) (transactionCall ByWords a work tape bytes .tape)) (c .flushes) × ((c .place ≡ Root) ⊎ (c .place ≡ Log))
+  transaction-word = (
+    record {
+      words = subst (All IsWord) (sym (commands-are ByWords a work tape bytes c e)) (taken-words a w (was-sound ByWords a work tape bytes c e) (target-edited ByWords a work tape bytes c e));
+      counts = demand-2 ByWords a work tape bytes c e .flushes;
+    },
+    by-place (c .place) (sym place-is),
+  )
+
+pub transaction-words : TransactionWords
+transaction-words = transaction-word
+
+-- ---- both transactions
+
+module _ (v u : Way) (a work s t bytes : List ℕ) where
+  abbrev R : transaction.Result
+  R = transactionCall v a work s bytes
+
+  abbrev Q : transaction.Result
+  Q = transactionCall u a work t bytes
+
+  -- the same ground refuses both
+  both-refused : (x : Refusal) (m : List ℕ) → R ≡ record { answer = transacted.Refused x; work = m; tape = s } → Q ≡ record { answer = transacted.Refused x; work = m; tape = t } → Alike R Q
+  both-refused x m e f =
+      refused x (ap (λ (r : transaction.Result). r .answer) e) (ap (λ (r : transaction.Result). r .answer) f)
+      (ap (λ (r : transaction.Result). r .work) e ∙ sym (ap (λ (r : transaction.Result). r .work) f))
+
+  -- past 12
+  module _ (B : Begun a work) (es : List Edit) (st : State) (D : Done a bytes es st) (few : length (changedPages a (editedImage a st)) ≤ 15) where
+    abbrev new : List ℕ
+    new = editedImage a st
+
+    -- the call of either device is accepted, or refused with 13
+    abbrev Ends : Way → List ℕ → Type 0
+    Ends way tape =
+        (transactionCall way a work tape bytes ≡ transaction.acceptedWith (takenFor way a new) tape) ⊎ (transactionCall way a work tape bytes ≡ transaction.refusedWith tapeShort 0 a tape)
+
+    ends : (way : Way) (tape : List ℕ) → Ends way tape
+    ends way tape = go (leb used (length tape)) refl
+      where
+        used : ℕ
+        used = length (tapeBytes (takenFor way a new .tape))
+
+        go : (b : Bool) → leb used (length tape) ≡ b → Ends way tape
+        go true e = inl (answers-call way a work tape bytes _ (accepted B es st D few (leb-true used (length tape) e)))
+        go false e = inr (answers-call way a work tape bytes _ (no-tape B es st D few (leb-false used (length tape) e)))
+
+    end-at : (way : Way) (tape : List ℕ) → Ends way tape → AtTape (transactionCall way a work tape bytes .answer)
+    unfolding AtTape transaction.acceptedWith transaction.refusedWith
+    end-at way tape (inl e) = rw e tt
+    end-at way tape (inr e) = rw e refl
+
+    -- accepted, work is the edited image but for log lines
+    left : (way : Way) (tape : List ℕ) → Ends way tape → transaction.isAccepted (transactionCall way a work tape bytes .answer) ≡ true → SameButLog (transactionCall way a work tape bytes .work) new
+    unfolding transaction.isAccepted transaction.acceptedWith transaction.refusedWith roomInLog
+    left way tape (inr e) h = absurd (false≢true (sym (ap (λ (r : transaction.Result). transaction.isAccepted (r .answer)) e) ∙ h))
+    left way tape (inl e) h =
+        let sa = check-sound a (B .checked) in
+        let d = edits-accepted a sa es (list-proper bytes es (D .reads)) st (D .makes) in
+        subst (λ (x : List ℕ). SameButLog x new) (sym (ap (λ (r : transaction.Result). r .work) e)) (taken-work way a new sa d (le-leb (length (changedPages a new)) logMost few))
+
+    both-at-tape : Alike R Q
+    both-at-tape =
+        let e = ends v s in
+        let f = ends u t in
+        at-tape (end-at v s e) (end-at u t f) (λ h k. same-back (R .work) (Q .work) new (left v s e h) (left u t f k))
+
+  both-call : Alike R Q
+  unfolding transaction.refusedWith
+  both-call = go R (call-answers v a work s bytes) refl
+    where
+      go : (r : transaction.Result) → Answers v a work s bytes r → R ≡ r → Alike R Q
+      go _ (bad-size e) q = both-refused _ work q (answers-call u a work t bytes _ (bad-size e))
+      go _ (bad-work e other) q = both-refused _ work q (answers-call u a work t bytes _ (bad-work e other))
+      go _ (bad-image e same x c) q = both-refused x work q (answers-call u a work t bytes _ (bad-image e same x c))
+      go _ (bad-list B k i f) q = both-refused _ work q (answers-call u a work t bytes _ (bad-list B k i f))
+      go _ (bad-edit B es reads k i low g) q = both-refused _ a q (answers-call u a work t bytes _ (bad-edit B es reads k i low g))
+      go _ (no-log B es st D many) q = both-refused _ a q (answers-call u a work t bytes _ (no-log B es st D many))
+      go _ (no-tape B es st D few long) q = both-at-tape B es st D few
+      go _ (accepted B es st D few fits) q = both-at-tape B es st D few
+
+pub both-calls : BothCalls
+both-calls = both-call
+
+-- ---- recoveries
+
+module _ (a work : List ℕ) where
+  abbrev ok : Bool
+  ok = replayable a (pageZero a) && sound (replayFrom a (pageZero a))
+
+  -- what a recovery comes to once 1, 2 and 4 do not hold
+  abbrev ended : Way → List ℕ → Result
+  ended way tape =
+      pick (leb (length (tapeBytes (recoveryTape way a (pageZero a)))) (length tape)) (acceptedWith (recoveryTape way a (pageZero a)) (replayFrom a (pageZero a)) tape) (refusedWith tapeShort a tape)
+
+  -- by the three tests, which no device and no tape has a part in
+  abbrev decided : Way → List ℕ → Bool → Bool → Bool → Result
+  decided way tape b c d = pick b (pick c (pick d (ended way tape) (refusedWith unsound work tape)) (refusedWith workSize work tape)) (refusedWith imageSize work tape)
+
+  decides : (way : Way) (tape : List ℕ) → recoverCall way a work tape ≡ decided way tape (isImageSize (length a)) (eqb (length work) (length a)) ok
+  unfolding recoverCall
+  decides way tape = refl
+
+  -- accepted, the image can be replayed, and its replay is sound
+  accepted-holds : (way : Way) (tape : List ℕ) (e : Redone) → recoverCall way a work tape .answer ≡ recovered.Accepted e → Holds (table (replay a)) a
+  accepted-holds way tape e q = go (isImageSize (length a)) (eqb (length work) (length a)) ok refl (ap (λ (r : Result). r .answer) (sym (decides way tape)) ∙ q)
+    where
+      go : (b c d : Bool) → ok ≡ d → decided way tape b c d .answer ≡ recovered.Accepted e → Holds (table (replay a)) a
+      go false c d z h = absurd (refused-not imageSize work tape e h)
+      go true false d z h = absurd (refused-not workSize work tape e h)
+      go true true false z h = absurd (refused-not unsound work tape e h)
+      go true true true z h =
+          record {
+            isReplayable = first (replayable a (pageZero a)) (sound (replayFrom a (pageZero a))) z;
+            isSound = second (replayable a (pageZero a)) (sound (replayFrom a (pageZero a))) z;
+            isTable = refl;
+          }
+
+  ended-at : (way : Way) (tape : List ℕ) → RecoveredAtTape (ended way tape .answer)
+  unfolding RecoveredAtTape acceptedWith refusedWith
+  ended-at way tape = go (leb (length (tapeBytes (recoveryTape way a (pageZero a)))) (length tape))
+    where
+      go : (b : Bool) → RecoveredAtTape (pick b (acceptedWith (recoveryTape way a (pageZero a)) (replayFrom a (pageZero a)) tape) (refusedWith tapeShort a tape) .answer)
+      go true = tt
+      go false = refl
+
+  ended-work : (way : Way) (tape : List ℕ) (e : Redone) → ended way tape .answer ≡ recovered.Accepted e → ended way tape .work ≡ replay a
+  unfolding acceptedWith
+  ended-work way tape e q = go (leb (length (tapeBytes (recoveryTape way a (pageZero a)))) (length tape)) q
+    where
+      go : (b : Bool) → pick b (acceptedWith (recoveryTape way a (pageZero a)) (replayFrom a (pageZero a)) tape) (refusedWith tapeShort a tape) .answer ≡ recovered.Accepted e →
+          pick b (acceptedWith (recoveryTape way a (pageZero a)) (replayFrom a (pageZero a)) tape) (refusedWith tapeShort a tape) .work ≡ replay a
+      go true h = refl
+      go false h = absurd (refused-not tapeShort a tape e h)
+
+  recover-both : (v u : Way) (s t : List ℕ) → RecoverAlike (recoverCall v a work s) (recoverCall u a work t)
+  unfolding refusedWith
+  recover-both v u s t = rw (decides v s, decides u t) (go (isImageSize (length a)) (eqb (length work) (length a)) ok)
+    where
+      go : (b c d : Bool) → RecoverAlike (decided v s b c d) (decided u t b c d)
+      go false c d = refused-both (refusal imageSize) refl refl refl
+      go true false d = refused-both (refusal workSize) refl refl refl
+      go true true false = refused-both (refusal unsound) refl refl refl
+      go true true true = at-tape-both (ended-at v s) (ended-at u t) (λ d e h k. ended-work v s d h ∙ sym (ended-work u t e k))
+
+pub both-recoveries : BothRecoveries
+both-recoveries v u a work s t = recover-both a work v u s t
+
+pub recovery-word : RecoveryWords
+recovery-word a work tape e q =
+    let h = accepted-holds a work ByWords tape e q in
+    let cs = attempts.commands-are (table (replay a)) a h ByWords work tape e q in
+    record {
+      words = subst (All IsWord) (sym cs) (recovery-words a h);
+      counts = attempts.flushes-are (table (replay a)) a h ByWords work tape e q ∙ ap flushCount (sym cs);
+    }

@@ -137,14 +137,6 @@ words-rise (suc n) p h rest k r =
 -- ---- a line
 
 module _ (p : ℕ) (h : List ℕ) where
-  pub line-to : (way : Way) (l : ℕ) → p ≡ lineSize * l → All (To l) (lineBy way p h)
-  unfolding lineBy
-  line-to ByLine l e = (omega arith, tt)
-  line-to ByWords l e = words-to lineWords p h l (omega arith) (omega arith)
-
-  pub line-stores : (way : Way) (l : ℕ) → p ≡ lineSize * l → stores (lineBy way p h) ≡ lineBy way p h
-  line-stores way l e = to-stores l (lineBy way p h) (line-to way l e)
-
   module _ (line : length h ≡ lineSize) where
     pub line-after : (way : Way) (y : List ℕ) → after y (lineBy way p h) ≡ sets y p h
     unfolding lineBy
@@ -182,6 +174,14 @@ module _ (p : ℕ) (h : List ℕ) where
     pub line-words : All IsWord (lineBy ByWords p h)
     unfolding lineBy
     line-words = words-words lineWords p h line
+
+  pub line-to : (way : Way) (l : ℕ) → p ≡ lineSize * l → All (To l) (lineBy way p h)
+  unfolding lineBy
+  line-to ByLine l e = (omega arith, tt)
+  line-to ByWords l e = words-to lineWords p h l (omega arith) (omega arith)
+
+  pub line-stores : (way : Way) (l : ℕ) → p ≡ lineSize * l → stores (lineBy way p h) ≡ lineBy way p h
+  line-stores way l e = to-stores l (lineBy way p h) (line-to way l e)
 
   pub line-rises : (way : Way) (low : ℕ) (rest : List Op) → low ≤ p → lineSize ≤ p → RisesFrom (p + lineSize) (placesPast rest) → RisesFrom low (placesPast (lineBy way p h ++ rest))
   unfolding lineBy

@@ -4,7 +4,7 @@
 use crate::books::{delete, edit, five_hundred, insert, neighbours, one, spread};
 use crate::models::change::Change;
 use cases::images::Built;
-use reference::device::{decode, Command};
+use reference::device::{decode, Command, Device};
 use reference::tape::CommitPlace;
 use reference::transaction::{transaction_with, Fault};
 
@@ -110,7 +110,7 @@ impl Workload {
 /// The image after the transaction, its tape and its commit place.
 fn outcome(image: &[u8], list: &[u8], fault: Fault) -> (Vec<u8>, Vec<Command>, CommitPlace) {
     let (mut work, mut tape) = (image.to_vec(), vec![0; 65_536]);
-    let answer = transaction_with(fault, image, &mut work, &mut tape, list)
+    let answer = transaction_with(Device::Lines, fault, image, &mut work, &mut tape, list)
         .expect("these transactions are accepted");
     let commands = decode(&tape[..answer.bytes], image.len()).expect("the tape is good");
     (work, commands, answer.place)

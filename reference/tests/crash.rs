@@ -29,6 +29,7 @@ const OF_RECOVERY: (usize, usize) = (16, 4);
 
 /// The calls under test, with the numbers of their answers.
 mod calls {
+    use reference::device::Device;
     use reference::numbers::of_transaction;
     use reference::transaction::{transaction_with, Fault};
 
@@ -41,7 +42,14 @@ mod calls {
     ) -> (u8, [u64; 5]) {
         // There is no proved shortcut: these are the reference's.
         if fault != Fault::None {
-            return of_transaction(&transaction_with(fault, image, work, tape, list));
+            return of_transaction(&transaction_with(
+                Device::Lines,
+                fault,
+                image,
+                work,
+                tape,
+                list,
+            ));
         }
         let mut answer = [0; 5];
         let number = proved::transaction(image, work, tape, list, &mut answer);

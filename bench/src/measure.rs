@@ -111,17 +111,14 @@ pub fn fine_row(name: &str, [lean, proved, reference]: [f64; 3]) {
     );
 }
 
-/// The heading of rows that put a call beside the old way, in which each reading
-/// call judged the whole image first.
-pub fn old_way_heading(first: &str) {
+/// The heading of rows that put two ways of the proved store beside each other.
+pub fn pair_heading(first: &str, [one, other]: [&str; 2]) {
     println!();
-    println!(
-        "{first:<42}{:>16}{:>10}{:>8}",
-        "check, then it", "it alone", "ratio"
-    );
+    println!("{first:<42}{one:>16}{other:>12}{:>8}", "ratio");
 }
 
-pub fn old_way_row(name: &str, [old, alone]: [f64; 2]) {
-    let ratio = alone / old;
-    println!("{name:<42}{old:>16.0}{alone:>10.0}{ratio:>8.3}");
+/// The ratio is of the second to the first.
+pub fn pair_row(name: &str, [one, other]: [f64; 2]) {
+    let ratio = other / one;
+    println!("{name:<42}{one:>16.0}{other:>12.0}{ratio:>8.3}");
 }

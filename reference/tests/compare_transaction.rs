@@ -1,7 +1,8 @@
 //! Transaction and recovery on random calls: the answer and every buffer of
 //! the proved library are those of the reference. Stores are edited until
 //! their pages run out; lists, images, logs and buffers are good or damaged;
-//! the images to recover are cuts of these transactions, or made apart.
+//! the images to recover are cuts of these transactions, or made apart. All of
+//! it on a device with line stores, and on one without (document 02 (d)).
 
 mod writes;
 
@@ -56,7 +57,7 @@ impl Tally {
 
 /// A transaction by both.
 fn send(call: &Call, tally: &mut Tally) -> (u8, Call) {
-    let (number, after) = compare_transaction(tally.device, call);
+    let (number, after) = compare_transaction(tally.device, tally.calls, call);
     tally.call("transaction", number);
     if (5..=11).contains(&number) && after.answer.len() >= 5 {
         tally.count(format!("refused at edit {:>2}", after.answer[0]));
@@ -312,7 +313,7 @@ fn any_cut(random: &mut Random, image: &[u8], tape: &[u8], c: usize) -> Vec<u8> 
 
 /// A recovery by both.
 fn send_recovery(call: &Call, tally: &mut Tally) -> (u8, Call) {
-    let (number, after) = compare_recovery(tally.device, call);
+    let (number, after) = compare_recovery(tally.device, tally.calls, call);
     tally.call("recovery", number);
     (number, after)
 }

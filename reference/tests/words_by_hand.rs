@@ -44,7 +44,7 @@ fn edit(kind: Kind, key: u64, length: usize) -> Vec<u8> {
 /// An accepted transaction: its numbers, its tape and the new image.
 fn send(device: Device, image: &[u8], edits: Vec<u8>) -> ([u64; 5], Vec<u8>, Vec<u8>) {
     let call = Call::new(&mut Random::new(1), image, edits);
-    let (number, after) = compare_transaction(device, &call);
+    let (number, after) = compare_transaction(device, 0, &call);
     assert_eq!(number, 0);
     let five: [u64; 5] = after.answer.try_into().unwrap();
     let tape = after.tape[..five[3] as usize].to_vec();
@@ -127,7 +127,7 @@ fn every_recovery() {
             answer: vec![7; 2],
             ..Call::new(&mut Random::new(1), &image, Vec::new())
         };
-        let (number, after) = compare_recovery(Device::Words, &call);
+        let (number, after) = compare_recovery(Device::Words, 0, &call);
         let moved = image[8..16] != built.image[8..16];
         let bytes = k * LINE + if moved { 28 } else { 16 };
         assert_eq!((number, &after.answer[..]), (0, &[bytes, k + 1][..]));

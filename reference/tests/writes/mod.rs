@@ -95,9 +95,11 @@ fn write<const N: usize>(answer: &mut [u64], numbers: [u64; N]) {
     }
 }
 
-/// A transaction by both: the answer and what it left.
-pub fn compare_transaction(device: Device, call: &Call) -> (u8, Call) {
-    let (number, after) = compare("transaction", TRANSACTION, device, call);
+/// A transaction by both: the answer and what it left. A failure names the call
+/// by its number.
+pub fn compare_transaction(device: Device, which: usize, call: &Call) -> (u8, Call) {
+    let name = format!("call {which}, transaction");
+    let (number, after) = compare(&name, TRANSACTION, device, call);
     if device == Device::Words {
         beside_lines(TRANSACTION, call, number, &after);
         if let (0, &[_, kind, _, bytes, flushes]) = (number, &after.answer[..]) {
@@ -108,9 +110,10 @@ pub fn compare_transaction(device: Device, call: &Call) -> (u8, Call) {
     (number, after)
 }
 
-/// A recovery by both: the answer and what it left.
-pub fn compare_recovery(device: Device, call: &Call) -> (u8, Call) {
-    let (number, after) = compare("recovery", RECOVERY, device, call);
+/// The same of a recovery.
+pub fn compare_recovery(device: Device, which: usize, call: &Call) -> (u8, Call) {
+    let name = format!("call {which}, recovery");
+    let (number, after) = compare(&name, RECOVERY, device, call);
     if device == Device::Words {
         beside_lines(RECOVERY, call, number, &after);
         if let (0, &[bytes, flushes]) = (number, &after.answer[..]) {
@@ -126,13 +129,13 @@ fn compare(name: &str, ways: Ways, device: Device, call: &Call) -> (u8, Call) {
     let mut right = call.clone();
     let wanted = reference(device, &mut left);
     let given = proved(device, &mut right);
-    assert_eq!(given, wanted, "answer of the {name}");
-    assert_eq!(right.answer, left.answer, "numbers of the {name}");
+    assert_eq!(given, wanted, "answer of {name}");
+    assert_eq!(right.answer, left.answer, "numbers of {name}");
     // Not assert_eq: that would print whole images.
-    assert!(right.image == call.image, "image of the {name}");
-    assert!(right.edits == call.edits, "edits of the {name}");
-    assert!(right.work == left.work, "work of the {name}");
-    assert!(right.tape == left.tape, "tape of the {name}");
+    assert!(right.image == call.image, "image of {name}");
+    assert!(right.edits == call.edits, "edits of {name}");
+    assert!(right.work == left.work, "work of {name}");
+    assert!(right.tape == left.tape, "tape of {name}");
     if wanted != 0 {
         // "The tape stays. Other buffers stay unless said": "from 8 on, work
         // holds the image".

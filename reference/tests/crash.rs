@@ -432,6 +432,9 @@ impl Test {
             (Device::Lines, false) | (Device::Words, true) => Device::Lines,
             (Device::Words, false) | (Device::Lines, true) => Device::Words,
         };
+        if device != self.plan.device {
+            self.tally.count("recovery of the other device");
+        }
         let mut work = vec![0; image.len()];
         let mut tape = vec![0; 2_000];
         let (number, [bytes, _]) = calls::recover(device, image, &mut work, &mut tape);
@@ -517,6 +520,7 @@ fn every_cut_recovers(plan: Plan, places: &[&str]) {
         "commit pending, new",
         "commit flushed, new",
         "recovery cut",
+        "recovery of the other device",
         "recovery refused 13",
         "recovery with a log",
         "recovery without a log",

@@ -58,8 +58,8 @@ const LINES: Plan = Plan {
 /// the commit of two lines, 81.
 const WORDS: Plan = Plan {
     device: Device::Words,
-    cuts: 400_000,
-    before_commit: (9, 2),
+    cuts: 300_000,
+    before_commit: (9, 1),
     from_commit: (81, 4),
     of_recovery: (9, 2),
     one_of: 128,

@@ -114,11 +114,11 @@ pub fn fine_row(name: &str, [lean, proved, reference]: [f64; 3]) {
 /// The heading of rows that put two ways of the proved store beside each other.
 pub fn pair_heading(first: &str, [one, other]: [&str; 2]) {
     println!();
-    println!("{first:<42}{one:>16}{other:>12}{:>8}", "ratio");
+    println!("{first:<42}{one:>16}{other:>14}{:>8}", "ratio");
 }
 
 /// The ratio is of the second to the first.
 pub fn pair_row(name: &str, [one, other]: [f64; 2]) {
     let ratio = other / one;
-    println!("{name:<42}{one:>16.0}{other:>12.0}{ratio:>8.3}");
+    println!("{name:<42}{one:>16.0}{other:>14.0}{ratio:>8.3}");
 }

@@ -29,6 +29,18 @@ pub fn agreed<C: Clone + PartialEq>(
     reference
 }
 
+/// Gives work another place, if a copy of the image to it would be slow there.
+/// Where the two places differ by less than a line, modulo 4,096, glibc's memcpy
+/// takes 25 times as long on processors of AMD's family 25; and two buffers that
+/// are allocated one after the other lie just so.
+pub fn place_apart(image: &[u8], work: &mut Vec<u8>) {
+    let mut passed = Vec::new();
+    while (1..64).contains(&(work.as_ptr().addr().wrapping_sub(image.as_ptr().addr()) % 4096)) {
+        let other = work.clone();
+        passed.push(std::mem::replace(work, other));
+    }
+}
+
 /// Nanoseconds a call of each candidate, in turns of about the same time.
 pub fn medians<const N: usize>(candidates: &mut [&mut dyn FnMut(); N]) -> [f64; N] {
     let mut calls = [1; N];

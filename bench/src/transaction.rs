@@ -221,7 +221,7 @@ fn words_row(name: &str, pages: usize, lines: Way, words: [Way; 2], call: Call) 
         (way(&mut after), after)
     });
     assert!(given == wanted, "proved and reference differ on {name}");
-    let mut calls = [call.clone(), call];
+    let mut calls = placed([call.clone(), call]);
     let [one, other] = &mut calls;
     let times = measure::medians(&mut [&mut || timed(lines, one), &mut || timed(words[0], other)]);
     measure::pair_row(&format!("{name:<29}{pages:>5}"), times);
@@ -292,7 +292,7 @@ fn in_every_leaf(built: &Built) -> Vec<u8> {
 }
 
 fn row(name: &str, pages: usize, ways: [Way; 3], call: Call) {
-    let mut calls = [call.clone(), call.clone(), call];
+    let mut calls = placed([call.clone(), call.clone(), call]);
     let [lean, proved, reference] = &mut calls;
     let times = measure::medians(&mut [
         &mut || timed(ways[0], lean),
@@ -300,6 +300,13 @@ fn row(name: &str, pages: usize, ways: [Way; 3], call: Call) {
         &mut || timed(ways[2], reference),
     ]);
     measure::row(&format!("{name:<29}{pages:>5}"), times);
+}
+
+fn placed<const N: usize>(mut calls: [Call; N]) -> [Call; N] {
+    for call in &mut calls {
+        measure::place_apart(&call.image, &mut call.work);
+    }
+    calls
 }
 
 fn timed(way: Way, call: &mut Call) {

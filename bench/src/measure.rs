@@ -30,9 +30,9 @@ pub fn agreed<C: Clone + PartialEq>(
 }
 
 /// Gives work another place, if a copy of the image to it would be slow there.
-/// Where the two places differ by less than a line, modulo 4,096, glibc's memcpy
-/// takes 25 times as long on processors of AMD's family 25; and two buffers that
-/// are allocated one after the other lie just so.
+/// Where the two places differ by 16 bytes, modulo 4,096, glibc's memcpy takes
+/// some 20 times as long on processors of AMD's family 25; and two images that are
+/// allocated one after the other lie just so. Here they differ by a line or more.
 pub fn place_apart(image: &[u8], work: &mut Vec<u8>) {
     let mut passed = Vec::new();
     while (1..64).contains(&(work.as_ptr().addr().wrapping_sub(image.as_ptr().addr()) % 4096)) {

@@ -8,7 +8,7 @@
  *   and a length. The store keeps no pointer, allocates nothing, opens nothing
  *   and has no state of its own: threads may call it at once, each with buffers
  *   that no other thread writes meanwhile. A call takes up to 96 KiB of stack,
- *   quote_recover the most.
+ *   a recovery the most.
  *   What the caller owes a call, and nothing else:
  *   - a pointer leads to as many bytes (or numbers) as its length says. It is
  *     not NULL, also where the length is 0; it need not be aligned, but for an
@@ -39,8 +39,8 @@
  *   transaction. docs/STATEMENTS.md has all of it. So each size, limit, kind,
  *   place and refusal below is one that the proofs speak of; that this file
  *   copies them right is tested (wrapper/c).
- *   Not proved: QUOTE_TAPE_SIZE and QUOTE_RECOVERY_TAPE_SIZE, which are argued
- *   below and tested, and the stack that a call takes, which is tested.
+ *   Not proved: QUOTE_TAPE_SIZE and the two sizes of a recovery's tape, which are
+ *   argued below and tested, and the stack that a call takes, which is tested.
  *
  * How a program goes on
  *   The image is the persistent memory, or a copy of it. No call but
@@ -55,8 +55,15 @@
  *   examples/quote.c and examples/crash.c are such programs; docs/USING.md says
  *   how long a call takes, and what to do when a store is full or damaged.
  *
+ * Which memory
+ *   quote_transaction and quote_recover are for memory that writes a line of 64
+ *   bytes whole. Where only a word of 8 bytes is written whole, the program calls
+ *   quote_transaction_words and quote_recover_words instead, always: their tapes
+ *   have no LINE_STORE. Nothing in an image says which memory it is on, and all
+ *   other calls are the same for both.
+ *
  * What of an image is judged
- *   quote_check, quote_transaction and quote_recover judge all of it, every leaf
+ *   quote_check, the transactions and the recoveries judge all of it, every leaf
  *   that the index names. quote_lookup, quote_next_key and quote_preview read
  *   page 0's first line, the index page and the leaves that they need, and judge
  *   these alone: they refuse the keys of a damaged leaf, and answer all others
@@ -116,7 +123,8 @@ enum quote_edit {
  *   LINE_STORE  stores 64 bytes at 64 times its place, whole in the same way.
  *   FLUSH       does not end before all earlier stores to its line are durable.
  * A store may become durable before it is flushed, but none before an earlier
- * one to the same line. Nothing else is asked of a device: docs/USING.md.
+ * one to the same line. Nothing else is asked of a device: docs/USING.md. One for
+ * the calls that end in _words needs no LINE_STORE.
  */
 enum quote_command {
     QUOTE_WORD_STORE = 1, /* place: number of the word; 8 bytes follow */
@@ -126,21 +134,25 @@ enum quote_command {
 #define QUOTE_COMMAND_HEAD 4 /* the bytes before what is stored */
 
 /*
- * A tape of this size is never too short, for a transaction on so many pages:
- * 100 bytes a line, 16 lines a page. It is not proved. Why it is so: the tape
- * first stores words of pages 1 to N-1, each at most once (12 bytes), and
+ * A tape of this size is never too short, for either transaction on so many
+ * pages: 100 bytes a line, 16 lines a page. It is not proved. Why it is so: the
+ * tape first stores words of pages 1 to N-1, each at most once (12 bytes), and
  * flushes each line so stored once (4 bytes), so at most 8 * 12 + 4 = 100 bytes
  * for each of those 16 * (N-1) lines. Then it commits. Without the log that is
  * at most 72 bytes. With k headers logged, each header takes 2 * (68 + 4) = 144
  * bytes, the mark, its clearing and their flushes 32, the root word 12. A logged
- * header's line has no word stores, so these 144 replace 100, and 44 * k + 44 is
- * left, with k of 15 at most: 704 bytes. The 1,600 bytes counted for page 0,
- * where no word stores are, hold either.
+ * header's line is not among those first stored, so these 144 replace 100, and
+ * 44 * k + 44 is left, with k of 15 at most: 704 bytes. Without line stores a
+ * header takes 2 * (8 * 12 + 4) = 200 bytes, and 100 * k + 44 is left: 1,544 bytes.
+ * The 1,600 bytes counted for page 0, which is not first stored either, hold each
+ * of these.
  */
 #define QUOTE_TAPE_SIZE(pages) ((size_t)(pages) * 1600)
 
-/* The same for a recovery, not proved either: 72 bytes a header, for 15, then 28. */
+/* The same for a recovery, not proved either: 72 bytes a header, for 15, then 28;
+ * without line stores 100 bytes a header. */
 #define QUOTE_RECOVERY_TAPE_SIZE 1108
+#define QUOTE_RECOVERY_WORDS_TAPE_SIZE 1528
 
 /* The length of `choices` for an image of so many pages: one byte a line. */
 #define QUOTE_CHOICES_SIZE(pages) ((size_t)(pages) * 16)
@@ -168,7 +180,7 @@ enum quote_answer {
 
 /* Where a transaction commits. */
 enum quote_place {
-    QUOTE_PLACE_HEADER = 1, /* one header, of the page that the answer names */
+    QUOTE_PLACE_HEADER = 1, /* one header, of the page that the answer names; only with line stores */
     QUOTE_PLACE_ROOT = 2,   /* the root word */
     QUOTE_PLACE_LOG = 3     /* the mark, with the headers in the log */
 };
@@ -332,6 +344,31 @@ uint8_t quote_transaction(const uint8_t *image, size_t image_length,
 uint8_t quote_recover(const uint8_t *image, size_t image_length, uint8_t *work,
                       size_t work_length, uint8_t *tape, size_t tape_length,
                       uint64_t *answer, size_t answer_length);
+
+/*
+ * Transaction and recovery for memory that writes only words of 8 bytes whole
+ * (document 02 (d)). The buffers, the numbers in answer and the refusals are those
+ * of quote_transaction and quote_recover, but for this:
+ *   tape    no LINE_STORE: a header, and a line of the log, is eight WORD_STOREs
+ *           in rising order, also of words that stay the same. TAPE_SHORT is of
+ *           this tape, which is longer. QUOTE_TAPE_SIZE bytes are never too short
+ *           for the transaction, QUOTE_RECOVERY_WORDS_TAPE_SIZE for the recovery.
+ *   place   a changed header goes through the log, one alone too, so it is the
+ *           root word or the log.
+ *   work    of the transaction: the same image but for lines 1 to 15 of page 0,
+ *           the log, which no call reads where no commit waits. Of the recovery:
+ *           the same image.
+ * Either recovery finishes a commit of either transaction.
+ */
+uint8_t quote_transaction_words(const uint8_t *image, size_t image_length,
+                                uint8_t *work, size_t work_length,
+                                uint8_t *tape, size_t tape_length,
+                                const uint8_t *edits, size_t edits_length,
+                                uint64_t *answer, size_t answer_length);
+uint8_t quote_recover_words(const uint8_t *image, size_t image_length,
+                            uint8_t *work, size_t work_length, uint8_t *tape,
+                            size_t tape_length, uint64_t *answer,
+                            size_t answer_length);
 
 /*
  * Run: a device, simulated: carries out a whole tape. It looks at nothing of

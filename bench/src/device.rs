@@ -135,6 +135,9 @@ fn call(pages: usize, mix: Mix, count: usize) -> DeviceCall {
 
 fn medians(ways: [Way; 3], call: &DeviceCall) -> [f64; 3] {
     let mut calls = [call.clone(), call.clone(), call.clone()];
+    for call in &mut calls {
+        measure::place_apart(&call.image, &mut call.work);
+    }
     let [lean, proved, reference] = &mut calls;
     measure::medians(&mut [
         &mut || timed(ways[0], lean),

@@ -174,10 +174,11 @@ fn checked_next(call: &mut Call) -> u8 {
 /// What a read costs that judges the whole image first, as all did before
 /// document 02 (b), beside what it costs now.
 fn measure_old_way() {
-    measure::old_way_heading("proved    pages  leaves  quotes");
+    let ways = ["check, then it", "it alone"];
+    measure::pair_heading("proved    pages  leaves  quotes", ways);
     for (name, ways) in READS {
         for store in STORES {
-            measure::old_way_row(&title(name, store), medians(ways, store));
+            measure::pair_row(&title(name, store), medians(ways, store));
         }
     }
 }

@@ -29,6 +29,18 @@ pub fn agreed<C: Clone + PartialEq>(
     reference
 }
 
+/// Gives work another place, if a copy of the image to it would be slow there.
+/// Where the two places differ by 16 bytes, modulo 4,096, glibc's memcpy takes
+/// some 20 times as long on processors of AMD's family 25; and two images that are
+/// allocated one after the other lie just so. Here they differ by a line or more.
+pub fn place_apart(image: &[u8], work: &mut Vec<u8>) {
+    let mut passed = Vec::new();
+    while (1..64).contains(&(work.as_ptr().addr().wrapping_sub(image.as_ptr().addr()) % 4096)) {
+        let other = work.clone();
+        passed.push(std::mem::replace(work, other));
+    }
+}
+
 /// Nanoseconds a call of each candidate, in turns of about the same time.
 pub fn medians<const N: usize>(candidates: &mut [&mut dyn FnMut(); N]) -> [f64; N] {
     let mut calls = [1; N];
@@ -111,17 +123,14 @@ pub fn fine_row(name: &str, [lean, proved, reference]: [f64; 3]) {
     );
 }
 
-/// The heading of rows that put a call beside the old way, in which each reading
-/// call judged the whole image first.
-pub fn old_way_heading(first: &str) {
+/// The heading of rows that put two ways of the proved store beside each other.
+pub fn pair_heading(first: &str, [one, other]: [&str; 2]) {
     println!();
-    println!(
-        "{first:<42}{:>16}{:>10}{:>8}",
-        "check, then it", "it alone", "ratio"
-    );
+    println!("{first:<42}{one:>16}{other:>14}{:>8}", "ratio");
 }
 
-pub fn old_way_row(name: &str, [old, alone]: [f64; 2]) {
-    let ratio = alone / old;
-    println!("{name:<42}{old:>16.0}{alone:>10.0}{ratio:>8.3}");
+/// The ratio is of the second to the first.
+pub fn pair_row(name: &str, [one, other]: [f64; 2]) {
+    let ratio = other / one;
+    println!("{name:<42}{one:>16.0}{other:>14.0}{ratio:>8.3}");
 }

@@ -10,6 +10,8 @@ use cases::stores::{any_built, any_store};
 use reference::device::{cut, decode};
 use reference::image::table;
 use reference::numbers::{of_recovery, of_transaction};
+use reference::recovery::recover_words;
+use reference::transaction::transaction_words;
 use std::hint::black_box;
 
 const SEED: u64 = 20_240_607;
@@ -59,6 +61,38 @@ const TRANSACTION: [Way; 3] = [
         let answer = reference::transaction::transaction(&call.image, work, tape, &call.edits);
         let (number, five) = of_transaction(&answer);
         call.answer = five;
+        number
+    },
+];
+
+/// The proved calls for memory without line stores (document 02 (d)), and the
+/// reference's.
+const TRANSACTION_WORDS: [Way; 2] = [
+    |call| {
+        let (work, tape) = (&mut call.work, &mut call.tape);
+        let (image, edits) = (&mut call.image, &mut call.edits);
+        proved::transaction_words(image, work, tape, edits, &mut call.answer)
+    },
+    |call| {
+        let (work, tape) = (&mut call.work, &mut call.tape);
+        let answer = transaction_words(&call.image, work, tape, &call.edits);
+        let (number, five) = of_transaction(&answer);
+        call.answer = five;
+        number
+    },
+];
+
+const RECOVERY_WORDS: [Way; 2] = [
+    |call| {
+        let (work, tape) = (&mut call.work, &mut call.tape);
+        proved::recover_words(&mut call.image, work, tape, two(&mut call.answer))
+    },
+    |call| {
+        let (work, tape) = (&mut call.work, &mut call.tape);
+        let (number, numbers) = of_recovery(&recover_words(&call.image, work, tape));
+        if let Some(numbers) = numbers {
+            *two(&mut call.answer) = numbers;
+        }
         number
     },
 ];
@@ -157,25 +191,61 @@ fn check_transaction(random: &mut Random, image: Vec<u8>, compared: &mut Compare
 
 pub fn measure() {
     measure::heading("transaction                  pages");
-    for pages in [8, 64] {
-        for (name, call) in transactions(pages) {
-            row(name, pages, TRANSACTION, call);
-        }
+    for (name, pages, call) in transactions() {
+        row(name, pages, TRANSACTION, call);
     }
     measure::heading("recovery                     pages");
-    for pages in [8, 64] {
-        for headers in [0, 2, 7, 15] {
-            // 8 pages have seven headers.
-            if headers < pages {
-                let call = Call::new(&logged(pages, headers), Vec::new());
-                row(&format!("{headers} logged headers"), pages, RECOVERY, call);
-            }
-        }
+    for (name, pages, call) in recoveries() {
+        row(&name, pages, RECOVERY, call);
+    }
+    measure_words();
+}
+
+/// The proved calls without line stores beside those with them.
+fn measure_words() {
+    let ways = ["line stores", "words alone"];
+    measure::pair_heading("transaction, proved          pages", ways);
+    for (name, pages, call) in transactions() {
+        words_row(name, pages, TRANSACTION[1], TRANSACTION_WORDS, call);
+    }
+    measure::pair_heading("recovery, proved             pages", ways);
+    for (name, pages, call) in recoveries() {
+        words_row(&name, pages, RECOVERY[1], RECOVERY_WORDS, call);
     }
 }
 
+/// Before it is timed, the call without line stores must be the reference's.
+fn words_row(name: &str, pages: usize, lines: Way, words: [Way; 2], call: Call) {
+    let [given, wanted] = words.map(|way| {
+        let mut after = call.clone();
+        (way(&mut after), after)
+    });
+    assert!(given == wanted, "proved and reference differ on {name}");
+    let mut calls = placed([call.clone(), call]);
+    let [one, other] = &mut calls;
+    let times = measure::medians(&mut [&mut || timed(lines, one), &mut || timed(words[0], other)]);
+    measure::pair_row(&format!("{name:<29}{pages:>5}"), times);
+}
+
+fn recoveries() -> Vec<(String, usize, Call)> {
+    let mut all = Vec::new();
+    for pages in [8, 64] {
+        // 8 pages have seven headers.
+        for headers in [0, 2, 7, 15].into_iter().filter(|&headers| headers < pages) {
+            let call = Call::new(&logged(pages, headers), Vec::new());
+            all.push((format!("{headers} logged headers"), pages, call));
+        }
+    }
+    all
+}
+
+fn transactions() -> Vec<(&'static str, usize, Call)> {
+    let on = |pages| transactions_on(pages).map(|(name, call)| (name, pages, call));
+    [on(8), on(64)].concat()
+}
+
 /// The transactions that are timed, all accepted.
-fn transactions(pages: usize) -> [(&'static str, Call); 7] {
+fn transactions_on(pages: usize) -> [(&'static str, Call); 7] {
     let leaves = if pages == 8 { 4 } else { 26 };
     let built = book(pages, leaves, leaves * 14);
     let full = book(pages, leaves, leaves * 28);
@@ -222,7 +292,7 @@ fn in_every_leaf(built: &Built) -> Vec<u8> {
 }
 
 fn row(name: &str, pages: usize, ways: [Way; 3], call: Call) {
-    let mut calls = [call.clone(), call.clone(), call];
+    let mut calls = placed([call.clone(), call.clone(), call]);
     let [lean, proved, reference] = &mut calls;
     let times = measure::medians(&mut [
         &mut || timed(ways[0], lean),
@@ -230,6 +300,13 @@ fn row(name: &str, pages: usize, ways: [Way; 3], call: Call) {
         &mut || timed(ways[2], reference),
     ]);
     measure::row(&format!("{name:<29}{pages:>5}"), times);
+}
+
+fn placed<const N: usize>(mut calls: [Call; N]) -> [Call; N] {
+    for call in &mut calls {
+        measure::place_apart(&call.image, &mut call.work);
+    }
+    calls
 }
 
 fn timed(way: Way, call: &mut Call) {

@@ -4,7 +4,7 @@
 use crate::books::{delete, edit, five_hundred, insert, neighbours, one, spread};
 use crate::models::change::Change;
 use cases::images::Built;
-use reference::device::{decode, Command};
+use reference::device::{decode, Command, Device};
 use reference::tape::CommitPlace;
 use reference::transaction::{transaction_with, Fault};
 
@@ -25,6 +25,8 @@ pub struct Workload {
 pub struct Done {
     pub place: CommitPlace,
     pub tape: Vec<Command>,
+    /// The tape for memory without line stores.
+    pub tape_of_words: Vec<Command>,
     pub change: Change,
     /// The same in a store whose updates write over the old value, which is
     /// safe under a log of values, though not in this store.
@@ -92,11 +94,13 @@ impl Workload {
     pub fn each(&self, mut show: impl FnMut(&Done)) {
         let (mut image, mut in_place) = (self.book.image.clone(), self.book.image.clone());
         for list in &self.lists {
-            let (after, tape, place) = outcome(&image, list, Fault::None);
-            let (overwritten, _, _) = outcome(&in_place, list, Fault::UpdateInPlace);
+            let (after, tape, place) = outcome(Device::Lines, &image, list, Fault::None);
+            let (_, tape_of_words, _) = outcome(Device::Words, &image, list, Fault::None);
+            let (overwritten, _, _) = outcome(Device::Lines, &in_place, list, Fault::UpdateInPlace);
             show(&Done {
                 place,
                 tape,
+                tape_of_words,
                 change: Change::between(&image, &after),
                 change_in_place: Change::between(&in_place, &overwritten),
             });
@@ -108,9 +112,14 @@ impl Workload {
 }
 
 /// The image after the transaction, its tape and its commit place.
-fn outcome(image: &[u8], list: &[u8], fault: Fault) -> (Vec<u8>, Vec<Command>, CommitPlace) {
+fn outcome(
+    device: Device,
+    image: &[u8],
+    list: &[u8],
+    fault: Fault,
+) -> (Vec<u8>, Vec<Command>, CommitPlace) {
     let (mut work, mut tape) = (image.to_vec(), vec![0; 65_536]);
-    let answer = transaction_with(fault, image, &mut work, &mut tape, list)
+    let answer = transaction_with(device, fault, image, &mut work, &mut tape, list)
         .expect("these transactions are accepted");
     let commands = decode(&tape[..answer.bytes], image.len()).expect("the tape is good");
     (work, commands, answer.place)

@@ -9,6 +9,15 @@ pub const WORD: usize = 8;
 pub const LINE: usize = 64;
 pub const PAGE: usize = 1024;
 
+/// What a device writes whole. `Lines`: "Kind 2, line store .. is atomic."
+/// `Words`: document 02 (d), "memory is atomic for 8 bytes only". Nothing in an
+/// image says which device it is on.
+#[derive(Clone, Copy, Debug, PartialEq, Eq)]
+pub enum Device {
+    Lines,
+    Words,
+}
+
 /// One command of a tape.
 #[derive(Clone, Debug, PartialEq, Eq)]
 pub enum Command {

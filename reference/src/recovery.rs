@@ -1,7 +1,7 @@
 //! Document 01, 'The transaction's tape', its last lines, and from 'Each call
 //! and when it says no' recovery.
 
-use crate::device::{check_length, check_work, Command, LINE, PAGE};
+use crate::device::{check_length, check_work, Command, Device, LINE, PAGE};
 use crate::image::{check, read_page_zero, Mark};
 use crate::page::two_bytes;
 use crate::tape;
@@ -15,6 +15,20 @@ pub struct Recovered {
 }
 
 pub fn recover(image: &[u8], work: &mut [u8], tape: &mut [u8]) -> Result<Recovered, Refusal> {
+    recover_on(Device::Lines, image, work, tape)
+}
+
+/// Document 02 (d): the "recovery call" for modules without line stores.
+pub fn recover_words(image: &[u8], work: &mut [u8], tape: &mut [u8]) -> Result<Recovered, Refusal> {
+    recover_on(Device::Words, image, work, tape)
+}
+
+pub fn recover_on(
+    device: Device,
+    image: &[u8],
+    work: &mut [u8],
+    tape: &mut [u8],
+) -> Result<Recovered, Refusal> {
     check_length(image)?;
     check_work(image, work)?;
     let Some(zero) = read_page_zero(image) else {
@@ -23,7 +37,7 @@ pub fn recover(image: &[u8], work: &mut [u8], tape: &mut [u8]) -> Result<Recover
     let (replayed, commands) = match zero.mark {
         // "Recovery with mark 0 gives no commands."
         None => (image.to_vec(), Vec::new()),
-        Some(mark) => replay(image, mark)?,
+        Some(mark) => replay(device, image, mark)?,
     };
     // "4 if .. the replayed image is unsound."
     if check(&replayed).is_err() {
@@ -46,7 +60,7 @@ pub fn recover(image: &[u8], work: &mut [u8], tape: &mut [u8]) -> Result<Recover
 /// The replayed image, "logged headers and new root in, mark 0", and the tape:
 /// "it stores every logged header, then flushes each, both in log order, and
 /// goes on as above".
-fn replay(image: &[u8], mark: Mark) -> Result<(Vec<u8>, Vec<Command>), Refusal> {
+fn replay(device: Device, image: &[u8], mark: Mark) -> Result<(Vec<u8>, Vec<Command>), Refusal> {
     let mut replayed = image.to_vec();
     let (mut stores, mut flushes, mut seen) = (Vec::new(), Vec::new(), Vec::new());
     for line in 1..=mark.headers {
@@ -58,7 +72,7 @@ fn replay(image: &[u8], mark: Mark) -> Result<(Vec<u8>, Vec<Command>), Refusal> 
         }
         seen.push(page);
         replayed[page * PAGE..][..LINE].copy_from_slice(header);
-        stores.push(tape::header_store(page, header));
+        stores.extend(tape::header_stores(device, page, header));
         flushes.push(tape::header_flush(page));
     }
     replayed[8..16].copy_from_slice(&(mark.root as u64).to_le_bytes());

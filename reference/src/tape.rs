@@ -1,7 +1,8 @@
 //! Document 01, 'The transaction's tape': the commands that lead from one
-//! image to the next, for a transaction and for recovery.
+//! image to the next, for a transaction and for recovery. Document 02 (d): the
+//! same on a device without line stores.
 
-use crate::device::{Command, LINE, PAGE, WORD};
+use crate::device::{Command, Device, LINE, PAGE, WORD};
 use crate::image::{reached, Mark};
 use crate::transaction::Fault;
 use crate::{refuse, Refusal};
@@ -25,10 +26,15 @@ fn word_store(word: usize, bytes: &[u8]) -> Command {
     }
 }
 
-fn line_store(line: usize, bytes: &[u8]) -> Command {
-    Command::LineStore {
-        line,
-        bytes: bytes.try_into().expect("a line has 64 bytes"),
+/// One line store; or document 02 (d), "Each line is written as eight word
+/// stores in rising order", those of words that don't change too.
+fn line_stores(device: Device, line: usize, bytes: &[u8]) -> Vec<Command> {
+    let bytes: [u8; LINE] = bytes.try_into().expect("a line has 64 bytes");
+    match device {
+        Device::Lines => vec![Command::LineStore { line, bytes }],
+        Device::Words => (bytes.chunks(WORD).enumerate())
+            .map(|(i, word)| word_store(line * WORDS_IN_LINE + i, word))
+            .collect(),
     }
 }
 
@@ -37,9 +43,9 @@ pub fn header_bytes(image: &[u8], page: usize) -> &[u8] {
     &image[page * PAGE..][..LINE]
 }
 
-/// The store of a page's header line.
-pub fn header_store(page: usize, bytes: &[u8]) -> Command {
-    line_store(page * LINES_IN_PAGE, bytes)
+/// What stores a page's header line.
+pub fn header_stores(device: Device, page: usize, bytes: &[u8]) -> Vec<Command> {
+    line_stores(device, page * LINES_IN_PAGE, bytes)
 }
 
 pub fn header_flush(page: usize) -> Command {
@@ -59,22 +65,27 @@ pub fn mark_store(mark: Option<Mark>) -> Command {
 /// The transaction's tape, and its commit place; refusal 12 if there are "more
 /// than 15 changed headers where the log is needed".
 pub fn commands(
+    device: Device,
     before: &[u8],
     after: &[u8],
     fault: Fault,
 ) -> Result<(Vec<Command>, CommitPlace), Refusal> {
     let (mut tape, flushes) = stage_a(before, after);
+    let (early, late) = match fault {
+        Fault::RecordsFlushedLate => (Vec::new(), flushes),
+        _ => (flushes, Vec::new()),
+    };
+    tape.extend(early);
     let headers = changed_headers(before, after);
     let root = before[8..16] != after[8..16];
-    let late = fault == Fault::RecordsFlushedLate;
-    if !late {
-        tape.extend(flushes.clone());
-    }
+    let by = written_by(device, fault);
     let place = match (headers.as_slice(), root) {
-        ([page], false) => {
-            tape.push(header_store(*page, header_bytes(after, *page)));
-            tape.push(header_flush(*page));
-            CommitPlace::Header { page: *page }
+        // Document 02 (d): without line stores "a change of any header, even
+        // one, goes through the log".
+        (&[page], false) if device == Device::Lines => {
+            tape.extend(header_stores(by, page, header_bytes(after, page)));
+            tape.push(header_flush(page));
+            CommitPlace::Header { page }
         }
         ([], true) => {
             tape.push(root_store(after));
@@ -85,17 +96,21 @@ pub fn commands(
         ([], false) => CommitPlace::Root,
         _ if headers.len() > 15 => return refuse(12),
         _ => {
-            tape.extend(logged(before, after, &headers, fault));
+            tape.extend(logged(by, before, after, &headers, fault));
             CommitPlace::Log
         }
     };
-    if late {
-        tape.extend(flushes);
-    }
-    if fault == Fault::HeaderByWords {
-        tape = tape.into_iter().flat_map(by_words).collect();
-    }
+    tape.extend(late);
     Ok((tape, place))
+}
+
+/// As which device lines are written. "A header written as eight word stores" is
+/// a shortcut where one header alone commits.
+fn written_by(device: Device, fault: Fault) -> Device {
+    match fault {
+        Fault::HeaderByWords => Device::Words,
+        _ => device,
+    }
 }
 
 /// "Stage A: a word store for each word that differs, outside page 0 and
@@ -137,11 +152,17 @@ fn changed_headers(before: &[u8], after: &[u8]) -> Vec<usize> {
 /// "More: log lines 1 to k take the new headers by rising page, then their
 /// flushes; the mark; flush of line 0; header stores, rising; their flushes;
 /// the root word if it differs; mark 0; flush of line 0."
-fn logged(before: &[u8], after: &[u8], headers: &[usize], fault: Fault) -> Vec<Command> {
+fn logged(
+    device: Device,
+    before: &[u8],
+    after: &[u8],
+    headers: &[usize],
+    fault: Fault,
+) -> Vec<Command> {
     let k = headers.len();
     let mut tape = Vec::new();
     for (i, &page) in headers.iter().enumerate() {
-        tape.push(line_store(1 + i, header_bytes(after, page)));
+        tape.extend(line_stores(device, 1 + i, header_bytes(after, page)));
     }
     tape.extend((1..=k).map(|line| Command::Flush { line }));
     // "Bytes 2-3 = the new root page", also where the root stays.
@@ -149,7 +170,7 @@ fn logged(before: &[u8], after: &[u8], headers: &[usize], fault: Fault) -> Vec<C
     tape.push(mark_store(Some(Mark { headers: k, root })));
     tape.push(header_flush(0));
     for &page in headers {
-        tape.push(header_store(page, header_bytes(after, page)));
+        tape.extend(header_stores(device, page, header_bytes(after, page)));
     }
     let flushes = headers.iter().map(|&page| header_flush(page));
     if fault == Fault::MarkClearedEarly {
@@ -171,16 +192,6 @@ pub fn finish(before: &[u8], after: &[u8]) -> Vec<Command> {
     tape.push(mark_store(None));
     tape.push(header_flush(0));
     tape
-}
-
-/// "A header written as eight word stores."
-fn by_words(command: Command) -> Vec<Command> {
-    match command {
-        Command::LineStore { line, bytes } => (0..WORDS_IN_LINE)
-            .map(|i| word_store(line * WORDS_IN_LINE + i, &bytes[i * WORD..][..WORD]))
-            .collect(),
-        other => vec![other],
-    }
 }
 
 /// The tape's bytes.

@@ -1,7 +1,7 @@
 //! Document 01, 'Edits': how each edit is made; and from 'Each call and when it
 //! says no' the transaction.
 
-use crate::device::{check_length, check_work, LINE, PAGE};
+use crate::device::{check_length, check_work, Device, LINE, PAGE};
 use crate::edits::{parse, Edit, Kind};
 use crate::image::{leaf_of, page_of, reached, sound_leaves};
 use crate::page::{Header, Record, INDEX, LEAF, SLOTS};
@@ -37,10 +37,22 @@ pub fn transaction(
     tape: &mut [u8],
     list: &[u8],
 ) -> Result<Accepted, Refusal> {
-    transaction_with(Fault::None, image, work, tape, list)
+    transaction_with(Device::Lines, Fault::None, image, work, tape, list)
+}
+
+/// Document 02 (d): the "separate transaction call" for modules without line
+/// stores.
+pub fn transaction_words(
+    image: &[u8],
+    work: &mut [u8],
+    tape: &mut [u8],
+    list: &[u8],
+) -> Result<Accepted, Refusal> {
+    transaction_with(Device::Words, Fault::None, image, work, tape, list)
 }
 
 pub fn transaction_with(
+    device: Device,
     fault: Fault,
     image: &[u8],
     work: &mut [u8],
@@ -58,7 +70,7 @@ pub fn transaction_with(
         tree.edit(edit)
             .map_err(|number| Refusal { number, edit: i })?;
     }
-    let (commands, place) = tape::commands(image, &tree.finished(), fault)?;
+    let (commands, place) = tape::commands(device, image, &tree.finished(), fault)?;
     let bytes = tape::encode(&commands);
     if tape.len() < bytes.len() {
         return refuse(13);

@@ -1,113 +1,51 @@
 //! Transaction and recovery on random calls: the answer and every buffer of
 //! the proved library are those of the reference. Stores are edited until
 //! their pages run out; lists, images, logs and buffers are good or damaged;
-//! the images to recover are cuts of these transactions, or made apart.
+//! the images to recover are cuts of these transactions, or made apart. All of
+//! it on a device with line stores, and on one without (document 02 (d)).
+
+mod writes;
 
 use cases::damage::{damage, other_length, FIELDS};
 use cases::images::Built;
 use cases::lists::{List, FAULTS};
 use cases::random::Random;
 use cases::{logs, stores};
-use reference::device::{cut, decode, Command};
+use reference::device::{cut, decode, Command, Device};
 use reference::edits::{parse, Kind};
 use reference::image::{format, reached, read_page_zero, table};
-use reference::numbers::{of_recovery, of_transaction};
 use reference::page::LAST_KEY;
 use reference::recovery::recover;
-use reference::transaction::transaction;
 use std::cmp::Ordering;
 use std::collections::BTreeMap;
+use writes::{compare_recovery, compare_transaction, Call, BEFORE};
 
 const SEED: u64 = 20_240_606;
-const CALLS: usize = 400_000;
 
-/// What an answer array holds before a call.
-const BEFORE: u64 = 0x5555_aaaa_1234_8765;
-
-/// The buffers of one call; recovery uses no edits.
-#[derive(Clone, PartialEq)]
-struct Call {
-    image: Vec<u8>,
-    work: Vec<u8>,
-    tape: Vec<u8>,
-    edits: Vec<u8>,
-    answer: Vec<u64>,
-}
-
-impl Call {
-    /// A call with buffers as they should be, of any content.
-    fn new(random: &mut Random, image: &[u8], edits: Vec<u8>) -> Call {
-        let tape = if image.len() > 20 * 1024 {
-            65_536
-        } else {
-            16_384
-        };
-        Call {
-            image: image.to_vec(),
-            work: vec![random.byte(); image.len()],
-            tape: vec![random.byte(); tape],
-            edits,
-            answer: vec![BEFORE; 5],
-        }
-    }
-}
-
-/// The reference's way and the proved library's; 0 is accepted.
-type Ways = [fn(&mut Call) -> u8; 2];
-
-const TRANSACTION: Ways = [
-    |call| {
-        let answer = transaction(&call.image, &mut call.work, &mut call.tape, &call.edits);
-        let (number, five) = of_transaction(&answer);
-        write(&mut call.answer, five);
-        number
-    },
-    |call| {
-        proved::transaction(
-            &mut call.image,
-            &mut call.work,
-            &mut call.tape,
-            &mut call.edits,
-            &mut call.answer,
-        )
-    },
-];
-
-const RECOVERY: Ways = [
-    |call| {
-        let answer = recover(&call.image, &mut call.work, &mut call.tape);
-        let (number, two) = of_recovery(&answer);
-        if let Some(two) = two {
-            write(&mut call.answer, two);
-        }
-        number
-    },
-    |call| {
-        proved::recover(
-            &mut call.image,
-            &mut call.work,
-            &mut call.tape,
-            &mut call.answer,
-        )
-    },
-];
-
-/// Numbers are written only where there is room for all of them.
-fn write<const N: usize>(answer: &mut [u64], numbers: [u64; N]) {
-    if let Some(room) = answer.first_chunk_mut() {
-        *room = numbers;
-    }
-}
-
-/// How often each thing came.
-#[derive(Default)]
+/// How often each thing came on a device.
 struct Tally {
+    device: Device,
     times: BTreeMap<String, usize>,
     calls: usize,
     lengths: Vec<usize>,
 }
 
 impl Tally {
+    fn new(device: Device) -> Tally {
+        Tally {
+            device,
+            times: BTreeMap::new(),
+            calls: 0,
+            lengths: vec![0; 201],
+        }
+    }
+
+    /// A call more, with this answer.
+    fn call(&mut self, name: &str, number: u8) {
+        self.calls += 1;
+        self.count(format!("{name}, answer {number:>2}"));
+    }
+
     fn count(&mut self, what: impl Into<String>) {
         *self.times.entry(what.into()).or_default() += 1;
     }
@@ -117,35 +55,10 @@ impl Tally {
     }
 }
 
-/// One call by both; gives the answer and what the reference left.
-fn compare(name: &str, ways: Ways, call: &Call, tally: &mut Tally) -> (u8, Call) {
-    let [reference, proved] = ways;
-    let mut left = call.clone();
-    let mut right = call.clone();
-    let wanted = reference(&mut left);
-    let given = proved(&mut right);
-    let which = tally.calls;
-    assert_eq!(given, wanted, "answer of call {which}, {name}");
-    assert_eq!(right.answer, left.answer, "numbers of call {which}, {name}");
-    // Not assert_eq: that would print whole images.
-    assert!(right.image == call.image, "image of call {which}, {name}");
-    assert!(right.edits == call.edits, "edits of call {which}, {name}");
-    assert!(right.work == left.work, "work of call {which}, {name}");
-    assert!(right.tape == left.tape, "tape of call {which}, {name}");
-    if wanted != 0 {
-        // "The tape stays. Other buffers stay unless said": "from 8 on, work
-        // holds the image".
-        let work = if wanted < 8 { &call.work } else { &call.image };
-        assert!(left.work == *work && left.tape == call.tape);
-    }
-    tally.calls += 1;
-    tally.count(format!("{name}, answer {wanted:>2}"));
-    (wanted, left)
-}
-
 /// A transaction by both.
 fn send(call: &Call, tally: &mut Tally) -> (u8, Call) {
-    let (number, after) = compare("transaction", TRANSACTION, call, tally);
+    let (number, after) = compare_transaction(tally.device, tally.calls, call);
+    tally.call("transaction", number);
     if (5..=11).contains(&number) && after.answer.len() >= 5 {
         tally.count(format!("refused at edit {:>2}", after.answer[0]));
     }
@@ -328,24 +241,30 @@ const POINTS: [&str; 11] = [
 ];
 
 fn point(done: &[Command]) -> &'static str {
-    let header = |line: &usize| done.iter().any(|command| is_header_store(command, *line));
+    // Past the commit, and up to the root word, there are only headers.
+    let past = done.iter().any(is_commit);
     POINTS[match done.last() {
         None => 0,
         Some(Command::WordStore { word: 0, bytes }) if *bytes == [0; 8] => 9,
         Some(Command::WordStore { word: 0, .. }) => 5,
         Some(Command::WordStore { word: 1, .. }) => 8,
-        Some(Command::WordStore { .. }) => 1,
+        Some(Command::WordStore { word: 8..128, .. }) => 3,
+        Some(Command::WordStore { .. }) if !past => 1,
         Some(Command::LineStore { line: 0..16, .. }) => 3,
-        Some(Command::LineStore { .. }) => 6,
+        Some(Command::WordStore { .. } | Command::LineStore { .. }) => 6,
         Some(Command::Flush { line: 0 }) => 10,
         Some(Command::Flush { line: 0..16 }) => 4,
-        Some(Command::Flush { line }) if header(line) => 7,
+        Some(Command::Flush { .. }) if past => 7,
         Some(Command::Flush { .. }) => 2,
     }]
 }
 
-fn is_header_store(command: &Command, place: usize) -> bool {
-    matches!(command, Command::LineStore { line, .. } if *line == place)
+/// The mark, or the line store of one header.
+fn is_commit(command: &Command) -> bool {
+    matches!(
+        command,
+        Command::WordStore { word: 0, .. } | Command::LineStore { line: 16.., .. }
+    )
 }
 
 /// Cuts of the accepted transaction, and what the calls make of them.
@@ -353,8 +272,12 @@ fn cut_anywhere(random: &mut Random, call: &Call, after: &Call, tally: &mut Tall
     let tape = &after.tape[..after.answer[3] as usize];
     let commands = decode(tape, call.image.len()).unwrap();
     // A log is what recovery is for: more cuts of such tapes.
-    let log = after.answer[1] == 3;
-    for _ in 0..if log { 3 } else { random.below(2) } {
+    let cuts = match logged_headers(&commands) {
+        0 => random.below(2),
+        1 => 1,
+        _ => 3,
+    };
+    for _ in 0..cuts {
         // The commit and what follows it are at the end.
         let c = match random.below(4) {
             0 => random.between(0, commands.len()),
@@ -373,6 +296,11 @@ fn cut_anywhere(random: &mut Random, call: &Call, after: &Call, tally: &mut Tall
     }
 }
 
+fn logged_headers(commands: &[Command]) -> usize {
+    let log = |command: &&Command| matches!(command, Command::Flush { line: 1..16 });
+    commands.iter().filter(log).count()
+}
+
 fn any_cut(random: &mut Random, image: &[u8], tape: &[u8], c: usize) -> Vec<u8> {
     let most = random.pick(&[0, 1, 1, 2, 8, 255]);
     let choices: Vec<u8> = (0..image.len() / 64)
@@ -385,12 +313,14 @@ fn any_cut(random: &mut Random, image: &[u8], tape: &[u8], c: usize) -> Vec<u8> 
 
 /// A recovery by both.
 fn send_recovery(call: &Call, tally: &mut Tally) -> (u8, Call) {
-    compare("recovery", RECOVERY, call, tally)
+    let (number, after) = compare_recovery(tally.device, tally.calls, call);
+    tally.call("recovery", number);
+    (number, after)
 }
 
 fn recovery_call(random: &mut Random, image: &[u8]) -> Call {
     let mut call = Call::new(random, image, Vec::new());
-    call.tape.truncate(1200);
+    call.tape.truncate(1600);
     call.answer.truncate(2);
     call
 }
@@ -475,15 +405,12 @@ fn made_apart(random: &mut Random, tally: &mut Tally) {
     recoveries(random, image, tally);
 }
 
-#[test]
-fn transaction_and_recovery_are_the_references() {
-    println!("seed {SEED}");
+/// So many calls on a device.
+fn compared(device: Device, calls: usize) -> Tally {
+    println!("{device:?}, seed {SEED}");
     let mut random = Random::new(SEED);
-    let mut tally = Tally {
-        lengths: vec![0; 201],
-        ..Tally::default()
-    };
-    while tally.calls < CALLS {
+    let mut tally = Tally::new(device);
+    while tally.calls < calls {
         life(&mut random, &mut tally);
         long_log(&mut random, &mut tally);
         made_apart(&mut random, &mut tally);
@@ -496,6 +423,20 @@ fn transaction_and_recovery_are_the_references() {
     println!("{:<40}{least:>8}", "accepted values, least of a length");
     assert!(*least > 20);
     everything_came(&tally);
+    tally
+}
+
+#[test]
+fn transaction_and_recovery_are_the_references() {
+    let tally = compared(Device::Lines, 400_000);
+    assert!(tally.came(BY_A_HEADER) > 20);
+}
+
+/// Document 02 (d): "a change of any header, even one, goes through the log".
+#[test]
+fn those_without_line_stores_are_the_references() {
+    let tally = compared(Device::Words, 200_000);
+    assert_eq!(tally.came(BY_A_HEADER), 0);
 }
 
 /// The reference against what the builders know: a fresh store, and the table
@@ -528,6 +469,8 @@ fn everything_came(tally: &Tally) {
     assert_eq!(answers.count(), 14 + 5);
 }
 
+const BY_A_HEADER: &str = "commit by a header";
+
 fn wanted_of_transactions() -> Vec<String> {
     let answers = (0..=13).map(|number| format!("transaction, answer {number:>2}"));
     let edits = (0..=16).map(|edit| format!("refused at edit {edit:>2}"));
@@ -536,7 +479,6 @@ fn wanted_of_transactions() -> Vec<String> {
     let faults = FAULTS.map(|fault| format!("list with {}", fault.0));
     let pages = (0..=4).map(|count| format!("new pages: {count:>2}"));
     let others = [
-        "commit by a header",
         "commit by the root word",
         "commit by the log",
         "leaves: fewer",

@@ -1,6 +1,7 @@
 //! Random transactions, their tapes cut at every command, chains of cut
 //! recoveries, all held to the ledger. And each line of 'Shortcuts that break a
-//! curve', which the same test must catch.
+//! curve', which the same test must catch. All of it on a device with line
+//! stores, and on one without (document 02 (d)).
 //!
 //! The tapes, the recoveries and the cuts are the proved library's; the
 //! shortcuts are the reference's.
@@ -8,7 +9,7 @@
 use cases::lists::any_list;
 use cases::random::Random;
 use cases::stores::any_store;
-use reference::device::{decode, run, Command};
+use reference::device::{decode, run, Command, Device};
 use reference::image::{table, Table};
 use reference::ledger::Ledger;
 use reference::tape::count_flushes;
@@ -16,24 +17,62 @@ use reference::transaction::Fault;
 use std::collections::BTreeMap;
 
 const SEED: u64 = 20_240_605;
-/// Cuts of transactions, besides those of recoveries.
-const CUTS: usize = 1_000_000;
 const TRANSACTIONS: usize = 16;
 
 /// At a point of a tape where a cut may keep pending stores in at most so many
-/// ways, all are tried, else so many of them: before the commit, from the
-/// commit on, and for a recovery.
-const EARLY: (usize, usize) = (8, 2);
-const LATE: (usize, usize) = (32, 16);
-const OF_RECOVERY: (usize, usize) = (16, 4);
+/// ways, all are tried, else so many of them.
+type Ways = (usize, usize);
+
+/// What is tried on a device.
+#[derive(Clone, Copy)]
+struct Plan {
+    device: Device,
+    /// Cuts of transactions, besides those of recoveries.
+    cuts: usize,
+    before_commit: Ways,
+    from_commit: Ways,
+    of_recovery: Ways,
+    /// Of so many images with a mark, the recovery of one is cut everywhere.
+    one_of: usize,
+}
+
+impl Plan {
+    fn ways(&self, phase: Phase) -> Ways {
+        match phase {
+            Phase::BeforeCommit => self.before_commit,
+            Phase::CommitPending | Phase::CommitFlushed => self.from_commit,
+        }
+    }
+}
+
+const LINES: Plan = Plan {
+    device: Device::Lines,
+    cuts: 1_000_000,
+    before_commit: (8, 2),
+    from_commit: (32, 16),
+    of_recovery: (16, 4),
+    one_of: 32,
+};
+
+/// Of one line every first part of its eight stores is tried, 9 ways, and past
+/// the commit of two lines, 81.
+const WORDS: Plan = Plan {
+    device: Device::Words,
+    cuts: 300_000,
+    before_commit: (9, 1),
+    from_commit: (81, 4),
+    of_recovery: (9, 2),
+    one_of: 128,
+};
 
 /// The calls under test, with the numbers of their answers.
 mod calls {
+    use reference::device::Device;
     use reference::numbers::of_transaction;
     use reference::transaction::{transaction_with, Fault};
 
     pub fn transaction(
-        fault: Fault,
+        (device, fault): (Device, Fault),
         image: &mut [u8],
         work: &mut [u8],
         tape: &mut [u8],
@@ -41,17 +80,29 @@ mod calls {
     ) -> (u8, [u64; 5]) {
         // There is no proved shortcut: these are the reference's.
         if fault != Fault::None {
-            return of_transaction(&transaction_with(fault, image, work, tape, list));
+            let answer = transaction_with(device, fault, image, work, tape, list);
+            return of_transaction(&answer);
         }
+        let make = match device {
+            Device::Lines => proved::transaction,
+            Device::Words => proved::transaction_words,
+        };
         let mut answer = [0; 5];
-        let number = proved::transaction(image, work, tape, list, &mut answer);
-        (number, answer)
+        (make(image, work, tape, list, &mut answer), answer)
     }
 
-    pub fn recover(image: &mut [u8], work: &mut [u8], tape: &mut [u8]) -> (u8, [u64; 2]) {
+    pub fn recover(
+        device: Device,
+        image: &mut [u8],
+        work: &mut [u8],
+        tape: &mut [u8],
+    ) -> (u8, [u64; 2]) {
+        let make = match device {
+            Device::Lines => proved::recover,
+            Device::Words => proved::recover_words,
+        };
         let mut answer = [0; 2];
-        let number = proved::recover(image, work, tape, &mut answer);
-        (number, answer)
+        (make(image, work, tape, &mut answer), answer)
     }
 
     pub use proved::cut;
@@ -83,6 +134,7 @@ enum Phase {
 struct Test {
     random: Random,
     tally: Tally,
+    plan: Plan,
     fault: Fault,
 }
 
@@ -100,6 +152,10 @@ impl Cuttable {
             tape: tape.to_vec(),
             commands: decode(tape, image.len()).expect("the tape is well formed"),
         }
+    }
+
+    fn any(&self, is: impl Fn(&Command) -> bool) -> bool {
+        self.commands.iter().any(is)
     }
 
     fn cut(&mut self, c: usize, choices: &mut [u8]) -> Vec<u8> {
@@ -174,10 +230,11 @@ impl Phase {
 }
 
 impl Test {
-    fn new(fault: Fault) -> Test {
+    fn new(plan: Plan, fault: Fault) -> Test {
         Test {
             random: Random::new(SEED),
             tally: Tally::default(),
+            plan,
             fault,
         }
     }
@@ -185,7 +242,7 @@ impl Test {
     /// Stores and transactions until there are cuts enough; an error says which
     /// promise was broken.
     fn survive(&mut self) -> Result<(), String> {
-        while self.tally.cuts < CUTS {
+        while self.tally.cuts < self.plan.cuts {
             let mut image = any_store(&mut self.random);
             let mut ledger = Ledger::new(&image);
             for _ in 0..TRANSACTIONS {
@@ -204,8 +261,8 @@ impl Test {
         let short = self.random.one_in(12);
         let old_tape = vec![self.random.byte(); if short { 100 } else { 65_536 }];
         let (mut work, mut tape) = (old_work.clone(), old_tape.clone());
-        let (number, answer) =
-            calls::transaction(self.fault, image, &mut work, &mut tape, &mut list);
+        let variant = (self.plan.device, self.fault);
+        let (number, answer) = calls::transaction(variant, image, &mut work, &mut tape, &mut list);
         ledger.feed(&list, number == 0);
         if number != 0 {
             self.tally.refused[number as usize] += 1;
@@ -219,7 +276,7 @@ impl Test {
         }
         let mut tape = Cuttable::new(image, &tape[..bytes]);
         whole_tape(&tape, &work, flushes, ledger)?;
-        self.count_commit(kind, &tape);
+        self.count_commit(kind, &tape)?;
         let commit_line = if kind == 1 { 16 * page } else { 0 };
         let crashed = self.all_cuts(&mut tape, commit_line, ledger)?;
         *image = work;
@@ -230,20 +287,23 @@ impl Test {
         Ok(())
     }
 
-    fn count_commit(&mut self, kind: usize, tape: &Cuttable) {
-        let logged = |command: &Command| matches!(command, Command::LineStore { line: 1..16, .. });
-        let full = tape
-            .commands
-            .iter()
-            .filter(|command| logged(command))
-            .count()
-            == 15;
+    /// Document 02 (d): without line stores no header commits, and there is "no
+    /// kind 2 command".
+    fn count_commit(&mut self, kind: usize, tape: &Cuttable) -> Result<(), String> {
+        let line_store = |command: &Command| matches!(command, Command::LineStore { .. });
+        if self.plan.device == Device::Words && (kind == 1 || tape.any(line_store)) {
+            return Err("a line store, or a commit by a header".into());
+        }
+        let full = tape.any(|command| *command == Command::Flush { line: 15 });
+        let one = !tape.any(|command| *command == Command::Flush { line: 2 });
         self.tally.count(match kind {
             1 => "commit by a header",
             2 => "commit by the root word",
             _ if full => "commit by a full log",
+            _ if one => "commit by a log of one header",
             _ => "commit by the log",
         });
+        Ok(())
     }
 
     /// Every cut of the tape and recovery after it; gives one of the recovered
@@ -267,10 +327,9 @@ impl Test {
             if early && tape.image.len() > 12 * 1024 && !self.random.one_in(16) {
                 continue;
             }
-            let ways = if early { EARLY } else { LATE };
-            for crashed in self.cuts_after(tape, c, &pending, ways) {
+            for crashed in self.cuts_after(tape, c, &pending, self.plan.ways(phase)) {
                 self.tally.cuts += 1;
-                if crashed[0] == 1 && self.random.one_in(32) {
+                if crashed[0] == 1 && self.random.one_in(self.plan.one_of) {
                     self.cut_recovery(&crashed, ledger, phase)?;
                 }
                 let recovered = self.recoveries(crashed)?;
@@ -294,7 +353,7 @@ impl Test {
         tape: &mut Cuttable,
         c: usize,
         pending: &Pending,
-        (all, some): (usize, usize),
+        (all, some): Ways,
     ) -> Vec<Vec<u8>> {
         // A line with nothing pending may have any choice.
         let mut choices = vec![self.random.byte(); tape.image.len() / 64];
@@ -314,14 +373,14 @@ impl Test {
 
     /// The recovery of this image cut at every command, and recovered again.
     fn cut_recovery(&mut self, image: &[u8], ledger: &Ledger, phase: Phase) -> Result<(), String> {
-        let (_, tape) = recover(&mut image.to_vec())?;
+        let (_, tape) = self.recover(&mut image.to_vec())?;
         let mut tape = Cuttable::new(image, &tape);
         let mut pending = Pending::default();
         for c in 0..=tape.commands.len() {
             if c > 0 {
                 pending.add(&tape.commands[c - 1]);
             }
-            for crashed in self.cuts_after(&mut tape, c, &pending, OF_RECOVERY) {
+            for crashed in self.cuts_after(&mut tape, c, &pending, self.plan.of_recovery) {
                 self.tally.count("recovery cut");
                 let recovered = self.recoveries(crashed)?;
                 self.judge(&recovered, ledger, phase)?;
@@ -339,7 +398,7 @@ impl Test {
             if self.random.one_in(8) {
                 self.without_tape(&mut image)?;
             }
-            let (work, tape) = recover(&mut image)?;
+            let (work, tape) = self.recover(&mut image)?;
             if tape.is_empty() || self.random.one_in(2) {
                 self.tally.count(if tape.is_empty() {
                     "recovery without a log"
@@ -366,10 +425,30 @@ impl Test {
         }
     }
 
+    /// A recovery that must be accepted: work and tape. Now and then it is that
+    /// of the other device: nothing in an image says which one it is on.
+    fn recover(&mut self, image: &mut [u8]) -> Result<(Vec<u8>, Vec<u8>), String> {
+        let device = match (self.plan.device, self.random.one_in(8)) {
+            (Device::Lines, false) | (Device::Words, true) => Device::Lines,
+            (Device::Words, false) | (Device::Lines, true) => Device::Words,
+        };
+        if device != self.plan.device {
+            self.tally.count("recovery of the other device");
+        }
+        let mut work = vec![0; image.len()];
+        let mut tape = vec![0; 2_000];
+        let (number, [bytes, _]) = calls::recover(device, image, &mut work, &mut tape);
+        if number != 0 {
+            return Err(format!("recovery refused {number}"));
+        }
+        tape.truncate(bytes as usize);
+        Ok((work, tape))
+    }
+
     /// "13, work then holding the image", if there is anything to store.
     fn without_tape(&mut self, image: &mut [u8]) -> Result<(), String> {
         let mut work = vec![0; image.len()];
-        match calls::recover(image, &mut work, &mut []) {
+        match calls::recover(self.plan.device, image, &mut work, &mut []) {
             (0, [0, 0]) => {}
             (13, _) => self.tally.count("recovery refused 13"),
             answer => return Err(format!("recovery without a tape: {answer:?}")),
@@ -416,22 +495,10 @@ fn whole_tape(tape: &Cuttable, work: &[u8], flushes: usize, ledger: &Ledger) -> 
     Ok(())
 }
 
-/// A recovery that must be accepted: work and tape.
-fn recover(image: &mut [u8]) -> Result<(Vec<u8>, Vec<u8>), String> {
-    let mut work = vec![0; image.len()];
-    let mut tape = vec![0; 2_000];
-    let (number, [bytes, _]) = calls::recover(image, &mut work, &mut tape);
-    if number != 0 {
-        return Err(format!("recovery refused {number}"));
-    }
-    tape.truncate(bytes as usize);
-    Ok((work, tape))
-}
-
-#[test]
-fn every_cut_recovers() {
-    println!("seed {SEED}");
-    let mut test = Test::new(Fault::None);
+/// Every cut of this plan recovers, and all of this came besides.
+fn every_cut_recovers(plan: Plan, places: &[&str]) {
+    println!("{:?}, seed {SEED}", plan.device);
+    let mut test = Test::new(plan, Fault::None);
     let answer = test.survive();
     let Tally {
         times,
@@ -445,7 +512,6 @@ fn every_cut_recovers() {
     println!("transactions refused, by number: {refused:?}");
     assert_eq!(answer, Ok(()));
     let wanted = [
-        "commit by a header",
         "commit by the root word",
         "commit by the log",
         "commit by a full log",
@@ -454,50 +520,65 @@ fn every_cut_recovers() {
         "commit pending, new",
         "commit flushed, new",
         "recovery cut",
+        "recovery of the other device",
         "recovery refused 13",
         "recovery with a log",
         "recovery without a log",
     ];
-    for what in wanted {
+    for what in wanted.iter().chain(places) {
         assert!(times.contains_key(what), "never came: {what}");
     }
     assert!(refused[5..].iter().all(|&times| times > 0));
 }
 
-/// The faulty variant must be caught.
-fn caught(fault: Fault) {
-    let mut test = Test::new(fault);
-    let answer = test.survive();
-    println!("{fault:?}: {answer:?} after {} cuts", test.tally.cuts);
-    assert!(answer.is_err(), "{fault:?} was not caught");
+#[test]
+fn every_cut_recovers_with_line_stores() {
+    every_cut_recovers(LINES, &["commit by a header"]);
 }
 
-/// "A header written as eight word stores."
+#[test]
+fn every_cut_recovers_without_line_stores() {
+    every_cut_recovers(WORDS, &["commit by a log of one header"]);
+}
+
+/// The faulty variant must be caught on these devices.
+fn caught(fault: Fault, plans: &[Plan]) {
+    for &plan in plans {
+        let mut test = Test::new(plan, fault);
+        let answer = test.survive();
+        let (device, cuts) = (plan.device, test.tally.cuts);
+        println!("{fault:?}, {device:?}: {answer:?} after {cuts} cuts");
+        assert!(answer.is_err(), "{fault:?} was not caught");
+    }
+}
+
+/// "A header written as eight word stores", where it is the one changed place.
+/// On a device without line stores such a header goes through the log.
 #[test]
 fn header_by_words_is_caught() {
-    caught(Fault::HeaderByWords);
+    caught(Fault::HeaderByWords, &[LINES]);
 }
 
 /// "An update over the old bytes because the length matches."
 #[test]
 fn update_in_place_is_caught() {
-    caught(Fault::UpdateInPlace);
+    caught(Fault::UpdateInPlace, &[LINES, WORDS]);
 }
 
 /// "The mark cleared before the headers are flushed."
 #[test]
 fn mark_cleared_early_is_caught() {
-    caught(Fault::MarkClearedEarly);
+    caught(Fault::MarkClearedEarly, &[LINES, WORDS]);
 }
 
 /// "A page freed in a transaction taken again in it."
 #[test]
 fn freed_page_taken_is_caught() {
-    caught(Fault::FreedPageTaken);
+    caught(Fault::FreedPageTaken, &[LINES, WORDS]);
 }
 
 /// "Record lines flushed after the header."
 #[test]
 fn records_flushed_late_is_caught() {
-    caught(Fault::RecordsFlushedLate);
+    caught(Fault::RecordsFlushedLate, &[LINES, WORDS]);
 }

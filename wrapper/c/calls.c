@@ -284,13 +284,40 @@ static void bad_leaf_in_a_preview(void)
     give_back(list);
 }
 
+/* The two kinds of memory: their calls; tape bytes, flushes, commit place and its
+ * page of document 01's first worked row; tape bytes of a recovery of one header,
+ * and of the longest one. */
+static const struct device {
+    transaction_call *transaction;
+    recover_call *recover;
+    size_t row_bytes;
+    uint64_t row_flushes, place, page;
+    size_t recovery_bytes, longest;
+} devices[] = {
+    {quote_transaction, quote_recover, 112, 2, QUOTE_PLACE_HEADER, 2, 88,
+     QUOTE_RECOVERY_TAPE_SIZE},
+    {quote_transaction_words, quote_recover_words, 272, 5, QUOTE_PLACE_LOG, 0, 116,
+     QUOTE_RECOVERY_WORDS_TAPE_SIZE},
+};
+
+/* How many commands of a kind are on a tape of so many bytes. */
+static int count_commands(struct bytes tape, size_t bytes, uint8_t kind)
+{
+    static const size_t sizes[] = {0, 12, 68, 4};
+    int count = 0;
+    for (size_t at = 0; at < bytes; at += sizes[tape.at[at]])
+        count += tape.at[at] == kind;
+    return count;
+}
+
 /* Document 01's first worked row, with a tape of this length. */
-static uint8_t worked_row(struct bytes work, struct bytes tape, uint64_t *answer, size_t numbers)
+static uint8_t worked_row(const struct device *device, struct bytes work, struct bytes tape,
+                          uint64_t *answer, size_t numbers)
 {
     struct bytes image = fresh(8);
     struct bytes list = one_edit(QUOTE_INSERT, 101, 8, 'p');
-    uint8_t number = quote_transaction(image.at, image.length, work.at, work.length, tape.at,
-                                       tape.length, list.at, list.length, answer, numbers);
+    uint8_t number = device->transaction(image.at, image.length, work.at, work.length, tape.at,
+                                         tape.length, list.at, list.length, answer, numbers);
     if (number == QUOTE_TAPE_SHORT)
         EXPECT(same(work, image) && preview_shows(image, list, 101, QUOTE_IN_LIST, 10, 8));
     give_back(image);
@@ -298,32 +325,36 @@ static uint8_t worked_row(struct bytes work, struct bytes tape, uint64_t *answer
     return number;
 }
 
-static void transaction_answers(void)
+static void transaction_answers(const struct device *device)
 {
     uint64_t answer[6] = {7, 7, 7, 7, 7, 7};
-    struct bytes work = lend(8192), tape = lend(112), other = lend_filled(111, 77);
-    EXPECT(worked_row(work, tape, answer, 6) == QUOTE_ACCEPTED);
-    EXPECT(answer[QUOTE_TRANSACTION_EDIT] == 0 && answer[QUOTE_TRANSACTION_PAGE] == 2);
-    EXPECT(answer[QUOTE_TRANSACTION_PLACE] == QUOTE_PLACE_HEADER);
-    EXPECT(answer[QUOTE_TRANSACTION_BYTES] == 112 && answer[QUOTE_TRANSACTION_FLUSHES] == 2);
+    size_t bytes = device->row_bytes;
+    struct bytes work = lend(8192), tape = lend(bytes), other = lend_filled(bytes - 1, 77);
+    EXPECT(worked_row(device, work, tape, answer, 6) == QUOTE_ACCEPTED);
+    EXPECT(answer[QUOTE_TRANSACTION_EDIT] == 0 && answer[QUOTE_TRANSACTION_PAGE] == device->page);
+    EXPECT(answer[QUOTE_TRANSACTION_PLACE] == device->place);
+    EXPECT(answer[QUOTE_TRANSACTION_BYTES] == bytes);
+    EXPECT(answer[QUOTE_TRANSACTION_FLUSHES] == device->row_flushes);
     EXPECT(answer[QUOTE_TRANSACTION_NUMBERS] == 7);
     EXPECT(tape.at[0] == QUOTE_WORD_STORE && tape.at[36] == QUOTE_FLUSH);
-    EXPECT(tape.at[40] == QUOTE_LINE_STORE && tape.at[108] == QUOTE_FLUSH);
+    EXPECT(count_commands(tape, bytes, QUOTE_FLUSH) == (int)device->row_flushes);
+    EXPECT(count_commands(tape, bytes, QUOTE_LINE_STORE) == (device->place == QUOTE_PLACE_HEADER));
     EXPECT(quote_check(work.at, work.length) == QUOTE_ACCEPTED);
-    EXPECT(worked_row(work, other, answer, 5) == QUOTE_TAPE_SHORT);
+    EXPECT(worked_row(device, work, other, answer, 5) == QUOTE_TAPE_SHORT);
     EXPECT(answer[0] == 0 && answer[1] == 0 && answer[3] == 0 && all_are(other, 77));
     answer[0] = 7;
-    EXPECT(worked_row(work, tape, answer, 4) == QUOTE_ACCEPTED);
+    EXPECT(worked_row(device, work, tape, answer, 4) == QUOTE_ACCEPTED);
     EXPECT(answer[0] == 7 && answer[1] == 0);
     work.length -= 1;
-    EXPECT(worked_row(work, tape, answer, 5) == QUOTE_WORK_SIZE_WRONG);
+    EXPECT(worked_row(device, work, tape, answer, 5) == QUOTE_WORK_SIZE_WRONG);
     give_back(work);
     give_back(tape);
     give_back(other);
 }
 
 /* The place at which an update of the quotes from one key to another commits. */
-static uint64_t place_of_update(struct bytes *image, uint64_t from, uint64_t to)
+static uint64_t place_of_update(const struct device *device, struct bytes *image, uint64_t from,
+                                uint64_t to)
 {
     uint8_t room[QUOTE_LONGEST_LIST] = {0};
     size_t length = 0;
@@ -332,8 +363,8 @@ static uint64_t place_of_update(struct bytes *image, uint64_t from, uint64_t to)
     uint64_t answer[QUOTE_TRANSACTION_NUMBERS];
     struct bytes work = lend(image->length), tape = lend(QUOTE_TAPE_SIZE(16));
     struct bytes list = lend_copy(room, length);
-    EXPECT(quote_transaction(image->at, image->length, work.at, work.length, tape.at, tape.length,
-                             list.at, list.length, answer, 5) == QUOTE_ACCEPTED);
+    EXPECT(device->transaction(image->at, image->length, work.at, work.length, tape.at, tape.length,
+                               list.at, list.length, answer, 5) == QUOTE_ACCEPTED);
     give_back(list);
     give_back(tape);
     give_back(*image);
@@ -342,20 +373,22 @@ static uint64_t place_of_update(struct bytes *image, uint64_t from, uint64_t to)
 }
 
 /* Each copy of a leaf adds a record to the index, which is copied once it is
- * full: the root word. Quotes in several leaves: the log. */
-static void commit_places(void)
+ * full: the root word. Quotes in several leaves: the log; without line stores any
+ * header. */
+static void commit_places(const struct device *device)
 {
+    int lines = device->place == QUOTE_PLACE_HEADER;
     struct bytes image = fresh(16);
     for (uint64_t key = 1; key <= 8; key += 1)
         EXPECT(apply_one(&image, one_edit(QUOTE_INSERT, key, 200, 'v')) == QUOTE_ACCEPTED);
     uint64_t came[4] = {0, 0, 0, 0};
     for (uint64_t i = 0; i < 300; i += 1)
-        came[place_of_update(&image, 1 + i % 8, 1 + i % 8)] += 1;
-    EXPECT(came[QUOTE_PLACE_HEADER] > 0 && came[QUOTE_PLACE_ROOT] > 0);
-    EXPECT(came[QUOTE_PLACE_LOG] == 0 && came[0] == 0);
+        came[place_of_update(device, &image, 1 + i % 8, 1 + i % 8)] += 1;
+    EXPECT(came[device->place] > 0 && came[QUOTE_PLACE_ROOT] > 0 && came[0] == 0);
+    EXPECT(came[lines ? QUOTE_PLACE_LOG : QUOTE_PLACE_HEADER] == 0);
     for (int i = 0; i < 8; i += 1)
-        came[place_of_update(&image, 1, 8)] += 1;
-    EXPECT(came[QUOTE_PLACE_LOG] > 0);
+        came[place_of_update(device, &image, 1, 8)] += 1;
+    EXPECT(came[QUOTE_PLACE_LOG] > 0 && (lines || came[QUOTE_PLACE_HEADER] == 0));
     give_back(image);
 }
 
@@ -481,20 +514,21 @@ static void full_stores_refuse(void)
     give_back(shorter);
 }
 
-static uint8_t recover(struct bytes image, struct bytes work, struct bytes tape, uint64_t *answer)
+static uint8_t recover(const struct device *device, struct bytes image, struct bytes work,
+                       struct bytes tape, uint64_t *answer)
 {
-    return quote_recover(image.at, image.length, work.at, work.length, tape.at, tape.length,
-                         answer, QUOTE_RECOVER_NUMBERS);
+    return device->recover(image.at, image.length, work.at, work.length, tape.at, tape.length,
+                           answer, QUOTE_RECOVER_NUMBERS);
 }
 
 /* The longest: 15 headers and another root, in a tape of exactly the size that
  * the header gives. The logged headers are those that are there, of leaves of
  * three quotes; the root word is a wrong one. */
-static void longest_recovery(void)
+static void longest_recovery(const struct device *device)
 {
     uint64_t found[QUOTE_LOOKUP_NUMBERS], answer[QUOTE_RECOVER_NUMBERS + 1] = {7, 7, 7};
     struct bytes image = fresh(64), work = lend(image.length);
-    struct bytes tape = lend(QUOTE_RECOVERY_TAPE_SIZE);
+    struct bytes tape = lend(device->longest);
     EXPECT(fill(&image, 200) == QUOTE_INDEX_FULL);
     struct bytes whole = lend_copy(image.at, image.length);
     for (uint64_t i = 0; i < 15; i += 1) {
@@ -504,9 +538,9 @@ static void longest_recovery(void)
     memcpy(image.at, "\1\17", 2);
     memcpy(image.at + 2, whole.at + 8, 2);
     image.at[8] = whole.at[8] == 1 ? 2 : 1;
-    EXPECT(quote_recover(image.at, image.length, work.at, work.length, tape.at, tape.length,
-                         answer, QUOTE_RECOVER_NUMBERS + 1) == QUOTE_ACCEPTED);
-    EXPECT(answer[QUOTE_RECOVER_BYTES] == QUOTE_RECOVERY_TAPE_SIZE);
+    EXPECT(device->recover(image.at, image.length, work.at, work.length, tape.at, tape.length,
+                           answer, QUOTE_RECOVER_NUMBERS + 1) == QUOTE_ACCEPTED);
+    EXPECT(answer[QUOTE_RECOVER_BYTES] == device->longest);
     EXPECT(answer[QUOTE_RECOVER_FLUSHES] == 16 && answer[QUOTE_RECOVER_NUMBERS] == 7);
     EXPECT(memcmp(work.at, whole.at, 64) == 0);
     give_back(image);
@@ -515,28 +549,29 @@ static void longest_recovery(void)
     give_back(whole);
 }
 
-static void recovery_finishes_a_commit(size_t pages)
+static void recovery_finishes_a_commit(const struct device *device, size_t pages)
 {
     uint64_t answer[2] = {7, 7};
+    size_t bytes = device->recovery_bytes;
     struct bytes image = fresh(pages), work = lend_filled(image.length, 77);
-    struct bytes tape = lend(88), short_tape = lend_filled(87, 77), none = lend(0);
-    EXPECT(recover(image, work, none, answer) == QUOTE_ACCEPTED);
+    struct bytes tape = lend(bytes), short_tape = lend_filled(bytes - 1, 77), none = lend(0);
+    EXPECT(recover(device, image, work, none, answer) == QUOTE_ACCEPTED);
     EXPECT(answer[0] == 0 && answer[1] == 0 && same(work, image));
     memcpy(image.at, "\1\1\1", 3);              /* a mark: one header, root 1 */
     memcpy(image.at + 64, image.at + 1024, 64); /* that header */
-    EXPECT(recover(image, work, tape, answer) == QUOTE_ACCEPTED);
-    EXPECT(answer[QUOTE_RECOVER_BYTES] == 88 && answer[QUOTE_RECOVER_FLUSHES] == 2);
+    EXPECT(recover(device, image, work, tape, answer) == QUOTE_ACCEPTED);
+    EXPECT(answer[QUOTE_RECOVER_BYTES] == bytes && answer[QUOTE_RECOVER_FLUSHES] == 2);
     EXPECT(quote_check(work.at, work.length) == QUOTE_ACCEPTED);
-    EXPECT(recover(image, work, short_tape, answer) == QUOTE_TAPE_SHORT);
+    EXPECT(recover(device, image, work, short_tape, answer) == QUOTE_TAPE_SHORT);
     EXPECT(same(work, image) && all_are(short_tape, 77));
     memset(work.at, 77, work.length);
     image.at[64 + 6] = 0; /* the header of page 0 */
-    EXPECT(recover(image, work, tape, answer) == QUOTE_UNSOUND && all_are(work, 77));
+    EXPECT(recover(device, image, work, tape, answer) == QUOTE_UNSOUND && all_are(work, 77));
     work.length -= 1;
-    EXPECT(recover(image, work, tape, answer) == QUOTE_WORK_SIZE_WRONG);
+    EXPECT(recover(device, image, work, tape, answer) == QUOTE_WORK_SIZE_WRONG);
     image.length -= 1;
-    EXPECT(recover(image, work, tape, answer) == QUOTE_IMAGE_SIZE_WRONG);
-    EXPECT(answer[0] == 88 && all_are(work, 77));
+    EXPECT(recover(device, image, work, tape, answer) == QUOTE_IMAGE_SIZE_WRONG);
+    EXPECT(answer[0] == bytes && all_are(work, 77));
     give_back(image);
     give_back(work);
     give_back(tape);
@@ -609,14 +644,16 @@ int main(void)
     preview_without_room();
     bad_leaf_refuses_its_own_keys();
     bad_leaf_in_a_preview();
-    transaction_answers();
-    commit_places();
     lists_are_refused();
     seventeenth_edit_is_refused();
     full_stores_refuse();
-    longest_recovery();
-    recovery_finishes_a_commit(QUOTE_LEAST_PAGES);
-    recovery_finishes_a_commit(QUOTE_MOST_PAGES);
+    for (size_t i = 0; i < sizeof devices / sizeof *devices; i += 1) {
+        transaction_answers(&devices[i]);
+        commit_places(&devices[i]);
+        longest_recovery(&devices[i]);
+        recovery_finishes_a_commit(&devices[i], QUOTE_LEAST_PAGES);
+        recovery_finishes_a_commit(&devices[i], QUOTE_MOST_PAGES);
+    }
     run_carries_out();
     cut_keeps_what_was_flushed();
     puts("calls: every call answers as its header says");

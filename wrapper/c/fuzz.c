@@ -73,22 +73,24 @@ static void expect_known(uint8_t number, unsigned known)
     came |= BIT(number);
 }
 
-static void transaction_and_recovery(struct bytes image, struct bytes *store)
+/* A transaction and a recovery of one kind of memory, at random. */
+static void transaction_and_recovery(transaction_call *transaction, recover_call *redo,
+                                     struct bytes image, struct bytes *store)
 {
     struct bytes list = any_list(), work = lend(below(12) == 0 ? below(9000) : image.length);
     struct bytes tape = lend(below(3) == 0 ? below(400) : 16384);
     size_t numbers = below(8);
     uint64_t *answer = (uint64_t *)malloc(8 * numbers);
-    uint8_t number = quote_transaction(image.at, image.length, work.at, work.length, tape.at,
-                                       tape.length, list.at, list.length, answer, numbers);
+    uint8_t number = transaction(image.at, image.length, work.at, work.length, tape.at,
+                                 tape.length, list.at, list.length, answer, numbers);
     expect_known(number, TRANSACTION_SAYS);
     if (number == QUOTE_ACCEPTED) {
         EXPECT(quote_check(work.at, work.length) == QUOTE_ACCEPTED);
         give_back(*store);
         *store = lend_copy(work.at, work.length);
     }
-    number = quote_recover(image.at, image.length, work.at, work.length, tape.at, tape.length,
-                           answer, numbers);
+    number = redo(image.at, image.length, work.at, work.length, tape.at, tape.length, answer,
+                  numbers);
     expect_known(number, RECOVER_SAYS);
     free(answer);
     give_back(list);
@@ -171,7 +173,8 @@ int main(void)
     struct bytes store = fresh(12);
     for (int i = 0; i < ROUNDS; i += 1) {
         struct bytes image = any_image(store);
-        transaction_and_recovery(image, &store);
+        transaction_and_recovery(quote_transaction, quote_recover, image, &store);
+        transaction_and_recovery(quote_transaction_words, quote_recover_words, image, &store);
         device(image);
         looking(image);
         reading(image);

@@ -99,28 +99,55 @@ static inline void add_edit(struct bytes *list, uint8_t kind, uint64_t key, uint
     memset(list->at + at + QUOTE_EDIT_HEAD, byte, length);
 }
 
-/* The transaction of a list on an image, with buffers that suffice. Accepted,
- * the image becomes the new one; refused, work and tape are as the header
- * says. Gives the edit that is at fault too. */
-static inline uint8_t apply(struct bytes *image, struct bytes list, uint64_t *edit)
+/* A transaction and a recovery, with line stores or without. */
+typedef uint8_t transaction_call(const uint8_t *image, size_t image_length, uint8_t *work,
+                                 size_t work_length, uint8_t *tape, size_t tape_length,
+                                 const uint8_t *edits, size_t edits_length, uint64_t *answer,
+                                 size_t answer_length);
+typedef uint8_t recover_call(const uint8_t *image, size_t image_length, uint8_t *work,
+                             size_t work_length, uint8_t *tape, size_t tape_length,
+                             uint64_t *answer, size_t answer_length);
+
+/* The transaction of a list on an image, with a tape that suffices: gives work,
+ * and the edit that is at fault. Refused, work and tape are as the header says. */
+static inline uint8_t transact(transaction_call *call, struct bytes image, struct bytes list,
+                               struct bytes *work, uint64_t *edit)
 {
     uint64_t answer[QUOTE_TRANSACTION_NUMBERS];
-    struct bytes work = lend_filled(image->length, 77);
-    struct bytes tape = lend_filled(QUOTE_TAPE_SIZE(image->length / QUOTE_PAGE_SIZE), 77);
-    uint8_t number = quote_transaction(image->at, image->length, work.at, work.length, tape.at,
-                                       tape.length, list.at, list.length, answer,
-                                       QUOTE_TRANSACTION_NUMBERS);
+    struct bytes tape = lend_filled(QUOTE_TAPE_SIZE(image.length / QUOTE_PAGE_SIZE), 77);
+    *work = lend_filled(image.length, 77);
+    uint8_t number = call(image.at, image.length, work->at, work->length, tape.at, tape.length,
+                          list.at, list.length, answer, QUOTE_TRANSACTION_NUMBERS);
     *edit = answer[QUOTE_TRANSACTION_EDIT];
-    if (number == QUOTE_ACCEPTED) {
-        struct bytes old = *image;
-        *image = work;
-        work = old;
-    } else {
+    if (number != QUOTE_ACCEPTED) {
         EXPECT(all_are(tape, 77));
-        EXPECT(number < QUOTE_KEY_PRESENT ? all_are(work, 77) : same(work, *image));
+        EXPECT(number < QUOTE_KEY_PRESENT ? all_are(*work, 77) : same(*work, image));
     }
-    give_back(work);
     give_back(tape);
+    return number;
+}
+
+/* Whether two images are the same but for the log, lines 1 to 15 of page 0. */
+static inline int same_but_log(struct bytes one, struct bytes other)
+{
+    return one.length == other.length && memcmp(one.at, other.at, QUOTE_LINE_SIZE) == 0 &&
+           memcmp(one.at + QUOTE_PAGE_SIZE, other.at + QUOTE_PAGE_SIZE,
+                  one.length - QUOTE_PAGE_SIZE) == 0;
+}
+
+/* The transaction of a list on an image, on both kinds of memory, which say the
+ * same. Accepted, the image becomes the new one. Gives the edit at fault too. */
+static inline uint8_t apply(struct bytes *image, struct bytes list, uint64_t *edit)
+{
+    struct bytes work, other;
+    uint64_t said;
+    uint8_t number = transact(quote_transaction, *image, list, &work, edit);
+    EXPECT(transact(quote_transaction_words, *image, list, &other, &said) == number);
+    EXPECT(said == *edit && same_but_log(work, other));
+    give_back(other);
+    give_back(number == QUOTE_ACCEPTED ? *image : work);
+    if (number == QUOTE_ACCEPTED)
+        *image = work;
     return number;
 }
 

@@ -2,9 +2,14 @@
 //! allocates nothing and keeps nothing. `include/quote_store.h` says of each
 //! what its buffers hold afterwards, and its refusals in their order.
 //!
-//! [`check`], [`transaction`] and [`recover`] judge the whole image. [`lookup`],
-//! [`next_key`] and [`preview`] judge page 0, the index and the leaves that they
-//! read: quotes of other leaves are answered where one is damaged.
+//! [`check`], the transactions and the recoveries judge the whole image.
+//! [`lookup`], [`next_key`] and [`preview`] judge page 0, the index and the leaves
+//! that they read: quotes of other leaves are answered where one is damaged.
+//!
+//! [`transaction`] and [`recover`] are for a device that writes a line of 64
+//! bytes whole ([`Device::Lines`](crate::Device::Lines)), [`transaction_words`]
+//! and [`recover_words`] for one that writes only words of 8 bytes whole
+//! ([`Device::Words`](crate::Device::Words)). The other calls are for both.
 
 use crate::{Commit, Preview, Recovery, Refusal};
 use quote_store_sys as sys;
@@ -238,11 +243,53 @@ pub fn transaction(
     tape: &mut [u8],
     edits: &[u8],
 ) -> Result<Commit, Refusal> {
+    transaction_by(sys::quote_transaction, image, work, tape, edits)
+}
+
+/// [`transaction`] for a device that writes only words whole: the same edits and
+/// refusals. There is no line store on its tape: a header, and a line of the log,
+/// is eight word stores. A changed header goes through the log, one alone too.
+/// Work is the same but for lines 1 to 15 of page 0, the log.
+///
+/// ```
+/// use quote_store::{calls, encode, tape_length, CommitPlace, Edit, Store};
+///
+/// let image = Store::fresh(8)?.image().to_vec();
+/// let mut work = image.clone();
+/// let mut tape = vec![0; tape_length(image.len())];
+/// let edits = encode(&[Edit::Insert { key: 101, value: &[1; 8] }]);
+/// let commit = calls::transaction(&image, &mut work, &mut tape, &edits)?;
+/// assert_eq!(commit.place, CommitPlace::Header { page: 2 });
+/// assert_eq!((commit.bytes, commit.flushes), (112, 2));
+///
+/// let mut other = image.clone();
+/// let commit = calls::transaction_words(&image, &mut other, &mut tape, &edits)?;
+/// assert_eq!(commit.place, CommitPlace::Log);
+/// assert_eq!((commit.bytes, commit.flushes), (272, 5));
+/// assert!(other[..64] == work[..64] && other[1024..] == work[1024..]);
+/// # Ok::<(), quote_store::Refusal>(())
+/// ```
+pub fn transaction_words(
+    image: &[u8],
+    work: &mut [u8],
+    tape: &mut [u8],
+    edits: &[u8],
+) -> Result<Commit, Refusal> {
+    transaction_by(sys::quote_transaction_words, image, work, tape, edits)
+}
+
+fn transaction_by(
+    call: sys::Transaction,
+    image: &[u8],
+    work: &mut [u8],
+    tape: &mut [u8],
+    edits: &[u8],
+) -> Result<Commit, Refusal> {
     let mut answer = [0; 5];
     // Sound: each pointer is lent with its own length, and no buffer that is
     // written overlaps another; image and edits are only read.
     let number = unsafe {
-        sys::quote_transaction(
+        call(
             image.as_ptr(),
             image.len(),
             work.as_mut_ptr(),
@@ -279,11 +326,42 @@ pub fn transaction(
 /// # Ok::<(), Refusal>(())
 /// ```
 pub fn recover(image: &[u8], work: &mut [u8], tape: &mut [u8]) -> Result<Recovery, Refusal> {
+    recover_by(sys::quote_recover, image, work, tape)
+}
+
+/// [`recover`] for a device that writes only words whole: the same image, and no
+/// line store on the tape. It finishes a commit of either transaction.
+///
+/// ```
+/// use quote_store::{calls, Refusal, Store};
+///
+/// let mut image = Store::fresh(8)?.image().to_vec();
+/// // A mark that says: one header logged, root page 1. And that header.
+/// image[..8].copy_from_slice(&[1, 1, 1, 0, 0, 0, 0, 0]);
+/// image.copy_within(1024..1024 + 64, 64);
+///
+/// let (mut work, mut other) = (image.clone(), image.clone());
+/// let recovery = calls::recover_words(&image, &mut work, &mut [0; 1528])?;
+/// assert_eq!((recovery.bytes, recovery.flushes), (116, 2));
+/// calls::recover(&image, &mut other, &mut [0; 1108])?;
+/// assert!(work == other);
+/// # Ok::<(), Refusal>(())
+/// ```
+pub fn recover_words(image: &[u8], work: &mut [u8], tape: &mut [u8]) -> Result<Recovery, Refusal> {
+    recover_by(sys::quote_recover_words, image, work, tape)
+}
+
+fn recover_by(
+    call: sys::Recovery,
+    image: &[u8],
+    work: &mut [u8],
+    tape: &mut [u8],
+) -> Result<Recovery, Refusal> {
     let mut answer = [0; 2];
     // Sound: each pointer is lent with its own length, and no buffer that is
     // written overlaps another; the image is only read.
     let number = unsafe {
-        sys::quote_recover(
+        call(
             image.as_ptr(),
             image.len(),
             work.as_mut_ptr(),

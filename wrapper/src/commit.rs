@@ -13,11 +13,13 @@
 /// ```
 #[derive(Clone, Copy, Debug, PartialEq, Eq)]
 pub enum CommitPlace {
-    /// The header of this page, the only one that the edits change.
+    /// The header of this page, the only one that the edits change; not on
+    /// [`Device::Words`](crate::Device::Words).
     Header { page: usize },
     /// The root word: the edits made a new index page.
     Root,
-    /// The log, for edits that change more than one header.
+    /// The log, for edits that change more than one header, or a header and the
+    /// root word; on [`Device::Words`](crate::Device::Words) for any header.
     Log,
 }
 

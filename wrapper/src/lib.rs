@@ -5,6 +5,7 @@
 //! [`Store`] holds everything in memory of its own and is the place to begin.
 //! [`calls`] has each call of the proved library on buffers that the program
 //! lends, for a program whose image is the persistent memory itself.
+//! [`Device`] says what the memory writes whole, a line or only a word.
 //! docs/USING.md in the repository says what a device must do with the commands
 //! and how long calls take; its README has the limits and the words.
 //!
@@ -57,12 +58,14 @@
 
 pub mod calls;
 mod commit;
+mod device;
 mod edit;
 mod preview;
 mod refusal;
 mod store;
 
 pub use commit::{Commit, CommitPlace, Recovery};
+pub use device::Device;
 pub use edit::{encode, Edit};
 pub use preview::Preview;
 pub use refusal::Refusal;
@@ -107,7 +110,7 @@ pub const LAST_KEY: u64 = 999_999_999_999;
 /// ```
 pub const LONGEST_VALUE: usize = 200;
 
-/// A tape of this length is never too short for a transaction on an image of
+/// A tape of this length is never too short for either transaction on an image of
 /// this length: 100 bytes a line. `include/quote_store.h` says why, beside
 /// QUOTE_TAPE_SIZE; it is not proved. It holds a recovery too.
 ///

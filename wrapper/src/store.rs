@@ -1,7 +1,7 @@
 //! A store with the buffers that its calls need.
 
 use crate::edit::value_at;
-use crate::{calls, encode, tape_length, Commit, Edit, Preview, Refusal, PAGE};
+use crate::{calls, encode, tape_length, Commit, Device, Edit, Preview, Refusal, PAGE};
 
 /// An image has 64 pages at most.
 const MOST_PAGES: usize = 64;
@@ -30,12 +30,17 @@ const MOST_PAGES: usize = 64;
 /// # Ok::<(), quote_store::Refusal>(())
 /// ```
 ///
+/// [`fresh`](Store::fresh) and [`open`](Store::open) are for a device that writes a
+/// line whole; [`fresh_on`](Store::fresh_on) and [`open_on`](Store::open_on) take
+/// the [`Device`].
+///
 /// A device has one store at a time. A new device first takes the image of a
 /// fresh store, whole, before any edit. Where a device fails while it carries out
 /// commands, the program drops the store and opens what the device holds, as
 /// after a power failure; edits whose commands were not taken are lost then. A
 /// store can't be cloned, since its commands are to be carried out once.
 pub struct Store {
+    device: Device,
     image: Vec<u8>,
     /// Room for the calls.
     work: Vec<u8>,
@@ -56,10 +61,31 @@ impl Store {
     /// # Ok::<(), Refusal>(())
     /// ```
     pub fn fresh(pages: usize) -> Result<Store, Refusal> {
+        Store::fresh_on(Device::Lines, pages)
+    }
+
+    /// [`fresh`](Store::fresh) for a device of this kind. The image is the same for
+    /// both.
+    ///
+    /// ```
+    /// use quote_store::{Device, Edit, Store};
+    ///
+    /// let mut store = Store::fresh_on(Device::Words, 8)?;
+    /// assert!(store.image() == Store::fresh(8)?.image());
+    /// store.apply(&[Edit::Insert { key: 101, value: b"101.25" }])?;
+    /// // Word stores have 12 bytes, flushes 4; there is no line store.
+    /// let mut tape = &store.take_tape()[..];
+    /// while let [kind, ..] = *tape {
+    ///     assert!(kind == 1 || kind == 3);
+    ///     tape = &tape[if kind == 1 { 12 } else { 4 }..];
+    /// }
+    /// # Ok::<(), quote_store::Refusal>(())
+    /// ```
+    pub fn fresh_on(device: Device, pages: usize) -> Result<Store, Refusal> {
         // One page too many is refused as any larger number is.
         let mut image = vec![0; pages.min(MOST_PAGES + 1) * PAGE];
         calls::format(&mut image)?;
-        Ok(Store::around(image))
+        Ok(Store::around(device, image))
     }
 
     /// The store with this image. If a power failure cut a commit, it is
@@ -118,16 +144,42 @@ impl Store {
     /// # Ok::<(), Refusal>(())
     /// ```
     pub fn open(image: &[u8]) -> Result<Store, Refusal> {
+        Store::open_on(Device::Lines, image)
+    }
+
+    /// [`open`](Store::open) for a device of this kind: the recovery's commands,
+    /// and those of later calls, are for it.
+    ///
+    /// ```
+    /// use quote_store::{calls, Device, Edit, Store};
+    ///
+    /// let mut store = Store::fresh_on(Device::Words, 8)?;
+    /// let before = store.image().to_vec();
+    /// store.apply(&[Edit::Insert { key: 101, value: b"101.25" }])?;
+    /// let tape = store.take_tape();
+    ///
+    /// // The power fails after c commands: the quote is there, or it is not.
+    /// let (mut device, mut c, mut there) = (before.clone(), 0, false);
+    /// while calls::cut(&before, &mut device, &tape, c, &[1; 128]).is_ok() {
+    ///     there = Store::open_on(Device::Words, &device)?.get(101).is_some();
+    ///     c += 1;
+    /// }
+    /// assert!(there);
+    /// # Ok::<(), quote_store::Refusal>(())
+    /// ```
+    pub fn open_on(device: Device, image: &[u8]) -> Result<Store, Refusal> {
+        let store = || Store::around(device, image.to_vec());
         match calls::check(image) {
-            Ok(()) => Ok(Store::around(image.to_vec())),
-            Err(Refusal::MarkWaits) => Store::around(image.to_vec()).recovered(),
+            Ok(()) => Ok(store()),
+            Err(Refusal::MarkWaits) => store().recovered(),
             Err(refusal) => Err(refusal),
         }
     }
 
     /// The store with this image, and buffers that suffice for every call.
-    fn around(image: Vec<u8>) -> Store {
+    fn around(device: Device, image: Vec<u8>) -> Store {
         Store {
+            device,
             work: vec![0; image.len()],
             room: vec![0; tape_length(image.len())],
             waiting: Vec::new(),
@@ -136,7 +188,11 @@ impl Store {
     }
 
     fn recovered(mut self) -> Result<Store, Refusal> {
-        let recovery = calls::recover(&self.image, &mut self.work, &mut self.room)?;
+        let recover = match self.device {
+            Device::Lines => calls::recover,
+            Device::Words => calls::recover_words,
+        };
+        let recovery = recover(&self.image, &mut self.work, &mut self.room)?;
         self.carried_out(recovery.bytes);
         Ok(self)
     }
@@ -275,7 +331,11 @@ impl Store {
     /// ```
     pub fn apply(&mut self, edits: &[Edit]) -> Result<Commit, Refusal> {
         let edits = encode(edits);
-        let commit = calls::transaction(&self.image, &mut self.work, &mut self.room, &edits)?;
+        let transaction = match self.device {
+            Device::Lines => calls::transaction,
+            Device::Words => calls::transaction_words,
+        };
+        let commit = transaction(&self.image, &mut self.work, &mut self.room, &edits)?;
         self.carried_out(commit.bytes);
         Ok(commit)
     }

@@ -1,7 +1,7 @@
 //! The `Store` type against a plain map, and through power failures.
 
 use cases::random::Random;
-use quote_store::{calls, Edit, Refusal, Store, LAST_KEY, LINE};
+use quote_store::{calls, Device, Edit, Refusal, Store, LAST_KEY, LINE};
 use std::collections::BTreeMap;
 
 const SEED: u64 = 20_240_612;
@@ -55,12 +55,12 @@ const CHOICES: [Choice; 5] = [
 /// The power fails after each of the tape's commands: at first the first of
 /// these tables is there, at the end the last one, and none comes back once it
 /// was left. Gives how often a commit had to be finished.
-fn every_cut(before: &[u8], tape: &[u8], tables: &[&Map]) -> usize {
+fn every_cut(kind: Device, before: &[u8], tape: &[u8], tables: &[&Map]) -> usize {
     let mut recovered = 0;
     for choice in CHOICES {
         let (mut c, mut left, mut ends) = (0, 0, false);
         while let Some(device) = after_cut(before, tape, c, choice) {
-            let found = Store::open(&device).expect("no cut is refused");
+            let found = Store::open_on(kind, &device).expect("no cut is refused");
             let more = tables[left..].iter().position(|map| holds(&found, map));
             left += more.expect("it holds one of the tables");
             assert!(left == 0 || c > 0);
@@ -99,11 +99,11 @@ fn device_follows(device: &[u8], mut found: Store) -> bool {
     recovery > 0
 }
 
-#[test]
-fn store_is_the_map_through_power_failures() {
-    println!("seed {SEED}");
+/// A store on a device of this kind, through 60 transactions.
+fn is_the_map(kind: Device) {
+    println!("{kind:?}, seed {SEED}");
     let mut random = Random::new(SEED);
-    let mut store = Store::fresh(16).unwrap();
+    let mut store = Store::fresh_on(kind, 16).unwrap();
     let mut map = Map::new();
     let (mut accepted, mut recovered) = (0, 0);
     while accepted < 60 {
@@ -117,7 +117,7 @@ fn store_is_the_map_through_power_failures() {
                 let tape = store.take_tape();
                 assert_eq!(commit.bytes, tape.len());
                 assert!(played(&before, &tape) == store.image());
-                recovered += every_cut(&before, &tape, &[&old, &map]);
+                recovered += every_cut(kind, &before, &tape, &[&old, &map]);
                 accepted += 1;
             }
             Err(refusal) => panic!("{refusal}"),
@@ -126,6 +126,16 @@ fn store_is_the_map_through_power_failures() {
     }
     println!("{accepted} transactions, {recovered} recoveries");
     assert!(recovered > 100);
+}
+
+#[test]
+fn store_is_the_map_through_power_failures() {
+    is_the_map(Device::Lines);
+}
+
+#[test]
+fn store_on_words_is_the_map_through_power_failures() {
+    is_the_map(Device::Words);
 }
 
 #[test]
@@ -172,7 +182,12 @@ fn a_refused_list_changes_nothing() {
 /// recovery and two transactions, taken together.
 #[test]
 fn cut_among_the_commands_of_several_calls() {
-    let (mut store, mut map) = (Store::fresh(16).unwrap(), Map::new());
+    several_calls(Device::Lines);
+    several_calls(Device::Words);
+}
+
+fn several_calls(kind: Device) {
+    let (mut store, mut map) = (Store::fresh_on(kind, 16).unwrap(), Map::new());
     let insert = |key| Edit::Insert { key, value: DATA };
     for key in 1..=60 {
         store.apply(&[insert(key)]).unwrap();
@@ -187,7 +202,7 @@ fn cut_among_the_commands_of_several_calls() {
     let waits = cuts.find(|device| calls::check(device) == Err(Refusal::MarkWaits));
     let device = waits.expect("a commit is cut");
 
-    let mut store = Store::open(&device).unwrap();
+    let mut store = Store::open_on(kind, &device).unwrap();
     store.apply(&[Edit::Delete { key: 1 }]).unwrap();
     store
         .apply(&[Edit::Delete { key: 60 }, Edit::Delete { key: 2 }])
@@ -195,7 +210,7 @@ fn cut_among_the_commands_of_several_calls() {
     let (mut next, mut last) = (map.clone(), map.clone());
     next.remove(&1);
     last.retain(|key, _| ![1, 2, 60].contains(key));
-    let finished = every_cut(&device, &store.take_tape(), &[&map, &next, &last]);
+    let finished = every_cut(kind, &device, &store.take_tape(), &[&map, &next, &last]);
     assert!(finished > 0);
 }
 

@@ -29,8 +29,11 @@ const fn in_place(name: &'static str, colour: &'static str, counts: fn(&Done) ->
     }
 }
 
-const METHODS: [Method; 9] = [
+const METHODS: [Method; 10] = [
     method("this store", "#1f4e9e", |done| store::counts(&done.tape)),
+    method("this store, words", "#4f7fc4", |done| {
+        store::counts(&done.tape_of_words)
+    }),
     method("logging only", "#8ab0dc", |done| {
         logging_only::counts(&done.change)
     }),
@@ -91,14 +94,14 @@ fn means(workload: &Workload) -> Means {
 
 fn table(unit: usize, all: &[Workload], means: &[Means]) {
     let names = all.iter().map(|workload| format!("{:>15}", workload.name));
-    println!("\n{:<16}{}", UNITS[unit], names.collect::<String>());
+    println!("\n{:<18}{}", UNITS[unit], names.collect::<String>());
     for (i, method) in METHODS.iter().enumerate() {
         let mean = |means: &Means| match means[i] {
             Some(three) => format!("{:>15.1}", three[unit]),
             None => format!("{:>15}", "-"),
         };
         println!(
-            "{:<16}{}",
+            "{:<18}{}",
             method.name,
             means.iter().map(mean).collect::<String>()
         );

@@ -4,6 +4,9 @@
 //! The rule: as this store, but each changed header goes through the log, one
 //! alone too. Records first, then log lines, mark, headers, mark cleared.
 //!
+//! This is also what document 02 (d) asks of this store where memory has no line
+//! stores.
+//!
 //! Left out: a root change with no header changed, which has nothing to log,
 //! still commits by the root word, as in this store. FASH's headers may be
 //! longer than a line; here they are one line, as in this store.
@@ -108,14 +111,17 @@ mod tests {
         assert_eq!(counts(&change), hand);
     }
 
-    /// Where this store needs the log too, the two are the same.
+    /// Where this store needs the log too, the two are the same. Without line
+    /// stores they are so everywhere: a header's words are as many bytes.
     #[test]
     fn as_this_store_where_it_logs() {
         let mut logged = 0;
         for workload in workloads::all() {
             workload.each(|done| {
+                let counts = counts(&done.change);
+                assert_eq!(counts, store::counts(&done.tape_of_words));
                 if done.place == CommitPlace::Log {
-                    assert_eq!(counts(&done.change), store::counts(&done.tape));
+                    assert_eq!(counts, store::counts(&done.tape));
                     logged += 1;
                 }
             });

@@ -118,9 +118,38 @@ pub fn transaction(
     edits: &mut [u8],
     answer: &mut [u64],
 ) -> u8 {
+    transaction_by(
+        interface::quote_transaction,
+        [image, work, tape, edits],
+        answer,
+    )
+}
+
+/// The same for modules without line stores.
+#[inline]
+pub fn transaction_words(
+    image: &mut [u8],
+    work: &mut [u8],
+    tape: &mut [u8],
+    edits: &mut [u8],
+    answer: &mut [u64],
+) -> u8 {
+    transaction_by(
+        interface::quote_transaction_words,
+        [image, work, tape, edits],
+        answer,
+    )
+}
+
+#[inline]
+fn transaction_by(
+    call: interface::Transaction,
+    [image, work, tape, edits]: [&mut [u8]; 4],
+    answer: &mut [u64],
+) -> u8 {
     // Sound: each pointer is lent with its own length, for this call alone.
     unsafe {
-        interface::quote_transaction(
+        call(
             image.as_mut_ptr(),
             image.len(),
             work.as_mut_ptr(),
@@ -139,9 +168,24 @@ pub fn transaction(
 /// is room for two.
 #[inline]
 pub fn recover(image: &mut [u8], work: &mut [u8], tape: &mut [u8], answer: &mut [u64]) -> u8 {
+    recover_by(interface::quote_recover, [image, work, tape], answer)
+}
+
+/// The same for modules without line stores.
+#[inline]
+pub fn recover_words(image: &mut [u8], work: &mut [u8], tape: &mut [u8], answer: &mut [u64]) -> u8 {
+    recover_by(interface::quote_recover_words, [image, work, tape], answer)
+}
+
+#[inline]
+fn recover_by(
+    call: interface::Recovery,
+    [image, work, tape]: [&mut [u8]; 3],
+    answer: &mut [u64],
+) -> u8 {
     // Sound: each pointer is lent with its own length, for this call alone.
     unsafe {
-        interface::quote_recover(
+        call(
             image.as_mut_ptr(),
             image.len(),
             work.as_mut_ptr(),

@@ -72,4 +72,52 @@ extern "C" {
         answer: *mut u64,
         answer_length: usize,
     ) -> u8;
+    pub fn quote_transaction_words(
+        image: *const u8,
+        image_length: usize,
+        work: *mut u8,
+        work_length: usize,
+        tape: *mut u8,
+        tape_length: usize,
+        edits: *const u8,
+        edits_length: usize,
+        answer: *mut u64,
+        answer_length: usize,
+    ) -> u8;
+    pub fn quote_recover_words(
+        image: *const u8,
+        image_length: usize,
+        work: *mut u8,
+        work_length: usize,
+        tape: *mut u8,
+        tape_length: usize,
+        answer: *mut u64,
+        answer_length: usize,
+    ) -> u8;
 }
+
+/// The signature of both transaction calls.
+pub type Transaction = unsafe extern "C" fn(
+    image: *const u8,
+    image_length: usize,
+    work: *mut u8,
+    work_length: usize,
+    tape: *mut u8,
+    tape_length: usize,
+    edits: *const u8,
+    edits_length: usize,
+    answer: *mut u64,
+    answer_length: usize,
+) -> u8;
+
+/// The signature of both recovery calls.
+pub type Recovery = unsafe extern "C" fn(
+    image: *const u8,
+    image_length: usize,
+    work: *mut u8,
+    work_length: usize,
+    tape: *mut u8,
+    tape_length: usize,
+    answer: *mut u64,
+    answer_length: usize,
+) -> u8;

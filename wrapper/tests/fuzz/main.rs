@@ -11,7 +11,8 @@ use cases::random::Random;
 use input::{any_input, Input};
 use quote_store::{calls, tape_length, Commit, CommitPlace, Preview, Refusal};
 use rules::{
-    Buffers, Call, CHECK, CUT, FORMAT, LOOKUP, NEXT_KEY, PREVIEW, RECOVER, RUN, TRANSACTION,
+    Buffers, Call, CHECK, CUT, FORMAT, LOOKUP, NEXT_KEY, PREVIEW, RECOVER, RECOVER_WORDS, RUN,
+    TRANSACTION, TRANSACTION_WORDS,
 };
 use std::collections::BTreeMap;
 
@@ -36,28 +37,20 @@ fn round(random: &mut Random, tally: &mut Tally) {
     }
     reads(random, &input, tally);
     let look = try_one(random, &PREVIEW, &input, tally);
-    let made = try_one(random, &TRANSACTION, &input, tally);
-    look_agrees(&look, &made);
-    if made.0 == 4 {
+    let made = [TRANSACTION, TRANSACTION_WORDS].map(|call| try_one(random, &call, &input, tally));
+    let redone = [RECOVER, RECOVER_WORDS].map(|call| try_one(random, &call, &input, tally));
+    look_agrees(&look, &made[0]);
+    if made[0].0 == 4 {
         *tally.entry((BESIDE[2], look.0)).or_default() += 1;
     }
-    if let (0, buffers) = made {
-        play(
-            random,
-            &input,
-            &buffers,
-            buffers.answer.after().get(3..5),
-            tally,
-        );
-    }
-    if let (0, buffers) = try_one(random, &RECOVER, &input, tally) {
-        play(
-            random,
-            &input,
-            &buffers,
-            buffers.answer.after().get(..2),
-            tally,
-        );
+    for (pair, numbers) in [(made, 3..5), (redone, 0..2)] {
+        words_agree(&pair, numbers.clone());
+        for (number, buffers) in pair {
+            let answer = buffers.answer.after().get(numbers.clone());
+            if let (0, Some(&[bytes, flushes])) = (number, answer) {
+                play(random, &input, &buffers, (bytes as usize, flushes), tally);
+            }
+        }
     }
 }
 
@@ -89,25 +82,45 @@ fn reads(random: &mut Random, input: &Input, tally: &mut Tally) {
 /// read is nothing to it.
 const BESIDE: [&str; 3] = ["lookup, check 4", "next key, check 4", "preview, check 4"];
 
-/// Runs and cuts the tape that an accepted call wrote, whole or damaged, if it
-/// had room to answer bytes and flushes.
+/// Runs and cuts the tape that an accepted call wrote, whole or damaged; it has
+/// so many bytes and flushes.
 fn play(
     random: &mut Random,
     input: &Input,
     buffers: &Buffers,
-    numbers: Option<&[u64]>,
+    (bytes, flushes): (usize, u64),
     tally: &mut Tally,
 ) {
-    let Some(&[bytes, flushes]) = numbers else {
-        return;
-    };
-    tape_is_good(buffers, bytes as usize, flushes);
+    tape_is_good(buffers, bytes, flushes);
     let input = Input {
-        tape: any_part(random, &buffers.tape.after()[..bytes as usize]),
+        tape: any_part(random, &buffers.tape.after()[..bytes]),
         ..input.clone()
     };
     try_one(random, &RUN, &input, tally);
     try_one(random, &CUT, &input, tally);
+}
+
+/// Document 02 (d), of a call and the same for a device without line stores:
+/// "Refused: as in the present calls", where 13 is of each one's own tape; "work
+/// matches the line-store device's but for log lines"; no line store. `numbers` is
+/// where bytes and flushes stand in the answer.
+fn words_agree(
+    [(number, lines), (said, words)]: &[(u8, Buffers); 2],
+    numbers: std::ops::Range<usize>,
+) {
+    if (*number, *said) == (0, 13) {
+        return;
+    }
+    assert_eq!(said, number, "refused unlike the line-store call");
+    if *number != 0 {
+        return assert_eq!(words.answer.after(), lines.answer.after());
+    }
+    let (one, other) = (lines.work.after(), words.work.after());
+    assert!(one[..64] == other[..64] && one[1024..] == other[1024..]);
+    if let Some(&[bytes, _]) = words.answer.after().get(numbers) {
+        let tape = &words.tape.after()[..bytes as usize];
+        assert_eq!(count(2, tape), 0, "a line store");
+    }
 }
 
 fn key_is_above(buffers: &Buffers) {
@@ -177,16 +190,17 @@ fn tape_is_good(buffers: &Buffers, bytes: usize, flushes: u64) {
     calls::run(image, &mut work, &tape[..bytes]).expect("the tape is well formed");
     assert!(work == buffers.work.after());
     assert_eq!(calls::check(&work), Ok(()));
-    assert_eq!(count_flushes(&tape[..bytes]), flushes);
+    assert_eq!(count(3, &tape[..bytes]), flushes);
 }
 
-fn count_flushes(mut tape: &[u8]) -> u64 {
-    let mut flushes = 0;
+/// How many commands of this kind are on the tape.
+fn count(wanted: u8, mut tape: &[u8]) -> u64 {
+    let mut times = 0;
     while let Some(kind) = tape.first() {
-        flushes += u64::from(*kind == 3);
+        times += u64::from(*kind == wanted);
         tape = &tape[[0, 12, 68, 4][*kind as usize]..];
     }
-    flushes
+    times
 }
 
 /// The tape, mostly; or cut short, or with a bit turned.
@@ -218,7 +232,9 @@ fn bad_input_gets_its_refusal() {
         NEXT_KEY,
         PREVIEW,
         TRANSACTION,
+        TRANSACTION_WORDS,
         RECOVER,
+        RECOVER_WORDS,
         RUN,
         CUT,
     ] {
@@ -254,8 +270,11 @@ fn same_answer(given: Result<Commit, Refusal>, number: u8, five: &[u64]) {
     assert_eq!(numbers.1.map(|number| number as u64), five);
 }
 
-#[test]
-fn wrapper_answers_as_the_call() {
+/// A transaction of the wrapper.
+type Safe = fn(&[u8], &mut [u8], &mut [u8], &[u8]) -> Result<Commit, Refusal>;
+
+/// How often the call was refused, and committed by header, root and log.
+fn answers_as(raw: &Call, safe: Safe) -> [usize; 4] {
     let mut random = Random::new(SEED + 1);
     let mut times = [0; 4];
     for _ in 0..4_000 {
@@ -264,16 +283,24 @@ fn wrapper_answers_as_the_call() {
             ..any_input(&mut random)
         };
         let mut buffers = Buffers::new(&mut random, &input);
-        let number = TRANSACTION.try_on(&mut buffers);
+        let number = raw.try_on(&mut buffers);
         let five = buffers.answer.after();
         times[five[1] as usize] += 1;
         let (mut work, mut tape) = (input.work.clone(), input.tape.clone());
-        let given = calls::transaction(&input.image, &mut work, &mut tape, &input.edits);
+        let given = safe(&input.image, &mut work, &mut tape, &input.edits);
         same_answer(given, number, five);
         assert!(work == buffers.work.after() && tape == buffers.tape.after());
     }
     println!("refused, then commits by header, root and log: {times:?}");
+    times
+}
+
+#[test]
+fn wrapper_answers_as_the_call() {
+    let times = answers_as(&TRANSACTION, calls::transaction);
     assert!(times.iter().all(|times| *times > 3));
+    let [refused, header, root, log] = answers_as(&TRANSACTION_WORDS, calls::transaction_words);
+    assert!(header == 0 && [refused, root, log].iter().all(|times| *times > 3));
 }
 
 /// What the raw call returns, and its four numbers.

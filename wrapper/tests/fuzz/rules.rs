@@ -38,78 +38,110 @@ pub struct Call {
     pub make: fn(&mut Buffers) -> u8,
     pub known: &'static [u8],
     numbers: usize,
+    /// The refusals with which work holds the image; it stays with the others.
+    restores: &'static [u8],
+    /// Whether numbers are written on a refusal too, the edit's first.
+    names_edit: bool,
 }
 
-pub const TRANSACTION: Call = Call {
-    name: "transaction",
-    make: |b| {
-        let (image, work, tape) = (b.image.lend(), b.work.lend(), b.tape.lend());
-        proved::transaction(image, work, tape, b.edits.lend(), b.answer.lend())
-    },
-    known: &[0, 1, 2, 3, 4, 5, 6, 7, 8, 9, 10, 11, 12, 13],
-    numbers: 5,
-};
+/// A call whose refusals leave all buffers.
+const fn call(
+    name: &'static str,
+    make: fn(&mut Buffers) -> u8,
+    known: &'static [u8],
+    numbers: usize,
+) -> Call {
+    Call {
+        name,
+        make,
+        known,
+        numbers,
+        restores: &[],
+        names_edit: false,
+    }
+}
 
-pub const RECOVER: Call = Call {
-    name: "recover",
-    make: |b| {
-        let (image, work, tape) = (b.image.lend(), b.work.lend(), b.tape.lend());
-        proved::recover(image, work, tape, b.answer.lend())
-    },
-    known: &[0, 1, 2, 4, 13],
-    numbers: 2,
-};
+/// "From 8 on, work holds the image."
+const fn transaction(name: &'static str, make: fn(&mut Buffers) -> u8) -> Call {
+    let known = &[0, 1, 2, 3, 4, 5, 6, 7, 8, 9, 10, 11, 12, 13];
+    Call {
+        restores: &[8, 9, 10, 11, 12, 13],
+        names_edit: true,
+        ..call(name, make, known, 5)
+    }
+}
 
-pub const RUN: Call = Call {
-    name: "run",
-    make: |b| proved::run(b.image.lend(), b.work.lend(), b.tape.lend()),
-    known: &[0, 1, 2, 14],
-    numbers: 0,
-};
+/// "13, work then holding the image."
+const fn recovery(name: &'static str, make: fn(&mut Buffers) -> u8) -> Call {
+    Call {
+        restores: &[13],
+        ..call(name, make, &[0, 1, 2, 4, 13], 2)
+    }
+}
 
-pub const CUT: Call = Call {
-    name: "cut",
-    make: |b| {
+pub const TRANSACTION: Call = transaction("transaction", |b| {
+    let (image, work, tape) = (b.image.lend(), b.work.lend(), b.tape.lend());
+    proved::transaction(image, work, tape, b.edits.lend(), b.answer.lend())
+});
+
+pub const TRANSACTION_WORDS: Call = transaction("transaction words", |b| {
+    let (image, work, tape) = (b.image.lend(), b.work.lend(), b.tape.lend());
+    proved::transaction_words(image, work, tape, b.edits.lend(), b.answer.lend())
+});
+
+pub const RECOVER: Call = recovery("recover", |b| {
+    let (image, work, tape) = (b.image.lend(), b.work.lend(), b.tape.lend());
+    proved::recover(image, work, tape, b.answer.lend())
+});
+
+pub const RECOVER_WORDS: Call = recovery("recover words", |b| {
+    let (image, work, tape) = (b.image.lend(), b.work.lend(), b.tape.lend());
+    proved::recover_words(image, work, tape, b.answer.lend())
+});
+
+pub const RUN: Call = call(
+    "run",
+    |b| proved::run(b.image.lend(), b.work.lend(), b.tape.lend()),
+    &[0, 1, 2, 14],
+    0,
+);
+
+pub const CUT: Call = call(
+    "cut",
+    |b| {
         let (image, work, tape) = (b.image.lend(), b.work.lend(), b.tape.lend());
         proved::cut(image, work, tape, b.c, b.choices.lend())
     },
-    known: &[0, 1, 2, 14, 15, 16],
-    numbers: 0,
-};
+    &[0, 1, 2, 14, 15, 16],
+    0,
+);
 
-pub const FORMAT: Call = Call {
-    name: "format",
-    make: |b| proved::format(b.image.lend()),
-    known: &[0, 1],
-    numbers: 0,
-};
+pub const FORMAT: Call = call("format", |b| proved::format(b.image.lend()), &[0, 1], 0);
 
-pub const CHECK: Call = Call {
-    name: "check",
-    make: |b| proved::check(b.image.lend()),
-    known: &[0, 1, 3, 4],
-    numbers: 0,
-};
+pub const CHECK: Call = call("check", |b| proved::check(b.image.lend()), &[0, 1, 3, 4], 0);
 
-pub const LOOKUP: Call = Call {
-    name: "lookup",
-    make: |b| proved::lookup(b.image.lend(), b.key, b.answer.lend()),
-    known: &[0, 1, 3, 4, 6],
-    numbers: 3,
-};
+pub const LOOKUP: Call = call(
+    "lookup",
+    |b| proved::lookup(b.image.lend(), b.key, b.answer.lend()),
+    &[0, 1, 3, 4, 6],
+    3,
+);
 
-pub const NEXT_KEY: Call = Call {
-    name: "next key",
-    make: |b| proved::next_key(b.image.lend(), b.key, b.answer.lend()),
-    known: &[0, 1, 3, 4],
-    numbers: 2,
-};
+pub const NEXT_KEY: Call = call(
+    "next key",
+    |b| proved::next_key(b.image.lend(), b.key, b.answer.lend()),
+    &[0, 1, 3, 4],
+    2,
+);
 
 pub const PREVIEW: Call = Call {
-    name: "preview",
-    make: |b| proved::preview(b.image.lend(), b.edits.lend(), b.key, b.answer.lend()),
-    known: &[0, 1, 3, 4, 5, 6, 7, 8, 9],
-    numbers: 4,
+    names_edit: true,
+    ..call(
+        "preview",
+        |b| proved::preview(b.image.lend(), b.edits.lend(), b.key, b.answer.lend()),
+        &[0, 1, 3, 4, 5, 6, 7, 8, 9],
+        4,
+    )
 };
 
 impl Call {
@@ -130,17 +162,12 @@ impl Call {
         number
     }
 
-    /// "The tape stays. Other buffers stay unless said": transaction, "from 8
-    /// on, work holds the image"; recovery, "13, work then holding the image".
+    /// "The tape stays. Other buffers stay unless said."
     fn refused(&self, number: u8, buffers: &Buffers) {
         let Buffers { image, work, .. } = buffers;
         let (name, tape) = (self.name, &buffers.tape);
         assert!(tape.stayed(), "tape of {name} refused with {number}");
-        let restored = match name {
-            "transaction" => number >= 8,
-            "recover" => number == 13,
-            _ => false,
-        };
+        let restored = self.restores.contains(&number);
         let wanted = if restored { image } else { work };
         let good = work.after() == wanted.before();
         assert!(good, "work of {name} refused with {number}");
@@ -149,8 +176,7 @@ impl Call {
     /// Numbers are written only where there is room for all, and only those.
     fn answer_kept(&self, number: u8, buffers: &Buffers) {
         let (before, after) = (buffers.answer.before(), buffers.answer.after());
-        let names_edit = ["transaction", "preview"].contains(&self.name);
-        let written = if (number == 0 || names_edit) && before.len() >= self.numbers {
+        let written = if (number == 0 || self.names_edit) && before.len() >= self.numbers {
             self.numbers
         } else {
             0

@@ -1,0 +1,145 @@
+//! Document 02 (d), "Modules without line stores", on tapes worked out by hand.
+//! Each call is made by the reference and by the proved library.
+
+mod writes;
+
+use cases::images::even;
+use cases::logs::waiting;
+use cases::random::Random;
+use cases::stores::fresh;
+use reference::device::{decode, Command, Device};
+use reference::edits::{Edit, Kind};
+use writes::{compare_recovery, compare_transaction, Call};
+
+/// Bytes of a word store, and of a line's eight words with its flush.
+const WORD: u64 = 12;
+const LINE: u64 = 8 * WORD + 4;
+
+/// A command as (kind, place).
+type Outline = Vec<(u8, usize)>;
+
+fn outline(tape: &[u8], image: &[u8]) -> Outline {
+    let short = |command: &Command| match command {
+        Command::WordStore { word, .. } => (1, *word),
+        Command::LineStore { line, .. } => (2, *line),
+        Command::Flush { line } => (3, *line),
+    };
+    decode(tape, image.len())
+        .unwrap()
+        .iter()
+        .map(short)
+        .collect()
+}
+
+/// Word stores from one word to another, in rising order.
+fn words(from: usize, to: usize) -> Outline {
+    (from..=to).map(|word| (1, word)).collect()
+}
+
+fn edit(kind: Kind, key: u64, length: usize) -> Vec<u8> {
+    let value = vec![7; length];
+    Edit { kind, key, value }.encode()
+}
+
+/// An accepted transaction: its numbers, its tape and the new image.
+fn send(device: Device, image: &[u8], edits: Vec<u8>) -> ([u64; 5], Vec<u8>, Vec<u8>) {
+    let call = Call::new(&mut Random::new(1), image, edits);
+    let (number, after) = compare_transaction(device, 0, &call);
+    assert_eq!(number, 0);
+    let five: [u64; 5] = after.answer.try_into().unwrap();
+    let tape = after.tape[..five[3] as usize].to_vec();
+    (five, tape, after.work)
+}
+
+/// Document 01's first worked row, "words 381-383; flush 47; line 32; flush 32",
+/// with the header of page 2 through the log: line 1 and its flush, the mark,
+/// then the header. All eight words of either are stored, though six are zero
+/// before and after.
+#[test]
+fn one_header_goes_through_the_log() {
+    let image = fresh(8);
+    let (five, tape, work) = send(Device::Words, &image, edit(Kind::Insert, 101, 8));
+    let records = [words(381, 383), vec![(3, 47)]].concat();
+    let log = [words(8, 15), vec![(3, 1)]].concat();
+    let header = [words(256, 263), vec![(3, 32)]].concat();
+    let mark = vec![(1, 0), (3, 0)];
+    let hand = [&records, &log, &mark, &header, &mark].map(|part| part.to_vec());
+    assert_eq!(outline(&tape, &image), hand.concat());
+    let bytes = 3 * WORD + 4 + LINE + (WORD + 4) + LINE + (WORD + 4);
+    assert_eq!((bytes, five), (272, [0, 3, 0, bytes, 5]));
+    // "The mark carries the root after the transaction, also if unchanged."
+    let at = 3 * 12 + 4 + 100 + 4;
+    assert_eq!(tape[at..at + 8], [1, 1, 1, 0, 0, 0, 0, 0]);
+    assert!(work[64..128] == work[2048..2112] && work[..8] == [0; 8]);
+}
+
+/// A delete has no stage A.
+#[test]
+fn one_delete() {
+    let (_, _, image) = send(Device::Words, &fresh(8), edit(Kind::Insert, 101, 8));
+    let (five, _, _) = send(Device::Words, &image, edit(Kind::Delete, 101, 0));
+    assert_eq!(five, [0, 3, 0, 2 * LINE + 2 * (WORD + 4), 4]);
+}
+
+/// "A change of the root word alone still commits by that word": leaf and index
+/// have no room, so that both are copied. There is no line on the tape, and it
+/// is that of the line-store device.
+#[test]
+fn the_root_word_alone() {
+    let (_, _, mut image) = send(Device::Words, &fresh(8), edit(Kind::Insert, 101, 8));
+    for page in [1, 2] {
+        image[page * 1024 + 2..][..2].copy_from_slice(&[64, 0]);
+    }
+    let edits = edit(Kind::Update, 101, 8);
+    let (five, tape, work) = send(Device::Words, &image, edits.clone());
+    assert_eq!(five[1], 2);
+    assert!(outline(&tape, &image).ends_with(&[(1, 1), (3, 0)]));
+    assert_eq!(send(Device::Lines, &image, edits), (five, tape, work));
+}
+
+/// Updates of so many leaves, one each, with records of 24 bytes: three words
+/// each. Both devices have the same flushes, and a line is 28 bytes longer.
+#[test]
+fn every_number_of_headers() {
+    let built = even(&mut Random::new(1), 64, 16, 32);
+    for k in 1..=15 {
+        let keys = built.leaves[..k].iter().map(|leaf| leaf.places[0].key);
+        let edits: Vec<u8> = keys.flat_map(|key| edit(Kind::Update, key, 8)).collect();
+        let (words, _, _) = send(Device::Words, &built.image, edits.clone());
+        let (lines, _, _) = send(Device::Lines, &built.image, edits);
+        let k = k as u64;
+        assert_eq!(words[1], 3);
+        if k > 1 {
+            assert_eq!((lines[1], words[4]), (3, lines[4]));
+            assert_eq!(words[3], lines[3] + 2 * k * (96 - 68));
+        }
+    }
+}
+
+/// The recovery of so many headers, in log order: 100 bytes each, then 16, or 28
+/// where the root changes.
+#[test]
+fn every_recovery() {
+    let built = even(&mut Random::new(1), 64, 16, 32);
+    for k in 1..=15 {
+        let image = waiting(&mut Random::new(k), &built, k as usize);
+        let call = Call {
+            answer: vec![7; 2],
+            ..Call::new(&mut Random::new(1), &image, Vec::new())
+        };
+        let (number, after) = compare_recovery(Device::Words, 0, &call);
+        let moved = image[8..16] != built.image[8..16];
+        let bytes = k * LINE + if moved { 28 } else { 16 };
+        assert_eq!((number, &after.answer[..]), (0, &[bytes, k + 1][..]));
+        let pages: Vec<usize> = (1..=k as usize)
+            .map(|line| image[64 * line + 6] as usize)
+            .collect();
+        let header = |&page: &usize| words(128 * page, 128 * page + 7);
+        let stores: Outline = pages.iter().flat_map(header).collect();
+        let flushes: Outline = pages.iter().map(|page| (3, 16 * page)).collect();
+        let root = words(1, usize::from(moved));
+        let end = vec![(1, 0), (3, 0)];
+        let tape = &after.tape[..bytes as usize];
+        assert_eq!(outline(tape, &image), [stores, flushes, root, end].concat());
+    }
+}

@@ -1,9 +1,9 @@
 -- The tapes without line stores are of words alone, and the two calls answer alike but for 13, and leave the same image but for log lines.
 -- Assumes nothing.
-use Prim.Native.Nat.{ℕ, _≤_, _<_}
+use Prim.Native.Nat.{ℕ, _≤_}
 use mathlib.Core.Path.{_≡_, refl, sym, ap, _∙_, subst}
 use mathlib.Core.Logic.{_⊎_, inl, inr}
-use mathlib.Core.Bool.{Bool, true, false, _&&_, false≢true}
+use mathlib.Core.Bool.{Bool, true, false, _&&_}
 use mathlib.Core.List.{List}
 use native.Mathlib.Omega.{arith}
 use lib.ListN.{length}
@@ -14,6 +14,7 @@ use Rattle.codec.proofs.Tests.{first, second}
 use Rattle.device.specs.Tape.{tapeBytes, flushCount}
 use Rattle.device.specs.Calls.{isImageSize, imageSize, workSize, unsound, tapeShort, refusal}
 use Rattle.device.specs.declared.Refusal.{Refusal}
+use Rattle.device.specs.declared.Answer.the-variants as answers
 use Rattle.image.specs.PageZero.{logMost, pageZero}
 use Rattle.image.specs.Image.{sound}
 use Rattle.image.specs.Table.{table}
@@ -31,7 +32,8 @@ use Rattle.journal.specs.declared.Way.the-variants.{ByWords}
 use Rattle.journal.specs.declared.Commit.{Commit}
 use Rattle.journal.specs.declared.CommitPlace.{CommitPlace}
 use Rattle.journal.specs.declared.CommitPlace.the-variants.{Header, Root, Log}
-use Rattle.journal.proofs.Devices.{recovery-words, taken-words, words-place, same-back, taken-work}
+use Rattle.journal.proofs.Devices as devices
+use Rattle.journal.proofs.Devices.{taken-words, words-place, same-back, taken-work}
 use Rattle.tree.specs.State.{State}
 use Rattle.tree.specs.Whole.{editedImage}
 use Rattle.tree.proofs.Accepted.{edits-accepted}
@@ -44,7 +46,7 @@ use Rattle.transaction.proofs.Demand2.{was-sound, target, target-edited, answer
 use Rattle.recovery.specs.Calls.{Result, refusedWith, acceptedWith, recoverCall}
 use Rattle.recovery.specs.declared.Redone.{Redone}
 use Rattle.recovery.specs.declared.Recovered.the-variants as recovered
-use Rattle.durability.specs.Devices.{WordTape, TransactionWords, RecoveryWords, AtTape, Alike, refused, at-tape, BothCalls, RecoveredAtTape, RecoverAlike, refused-both, at-tape-both, BothRecoveries}
+use Rattle.durability.specs.Devices.{WordTape, TransactionWords, RecoveryWords, transactionSays, recoverySays, AtTape, Alike, refused, at-tape, BothCalls, BothRecoveries}
 use Rattle.durability.proofs.Recovered.{refused-not}
 use Rattle.durability.proofs.Attempts as attempts
 
@@ -75,6 +77,10 @@ module _ (a work tape bytes : List ℕ) (c : Commit) (e : transactionCall ByWord
 pub transaction-words : TransactionWords
 transaction-words = transaction-word
 
+-- a refusal is no acceptance
+not-accepted : (r : Refusal) → answers.Refused r ≡ answers.Accepted → ⊥
+not-accepted r e = let z : _≡_ {A = ℕ} 0 1 = cc in omega arith
+
 -- ---- both transactions
 
 module _ (v u : Way) (a work s t bytes : List ℕ) where
@@ -84,10 +90,14 @@ module _ (v u : Way) (a work s t bytes : List ℕ) where
   abbrev Q : transaction.Result
   Q = transactionCall u a work t bytes
 
+  abbrev AlikeHere : Type 0
+  AlikeHere = Alike SameButLog (transactionSays (R .answer)) (transactionSays (Q .answer)) (R .work) (Q .work)
+
   -- the same ground refuses both
-  both-refused : (x : Refusal) (m : List ℕ) → R ≡ record { answer = transacted.Refused x; work = m; tape = s } → Q ≡ record { answer = transacted.Refused x; work = m; tape = t } → Alike R Q
+  both-refused : (x : Refusal) (m : List ℕ) → R ≡ record { answer = transacted.Refused x; work = m; tape = s } → Q ≡ record { answer = transacted.Refused x; work = m; tape = t } → AlikeHere
+  unfolding transactionSays
   both-refused x m e f =
-      refused x (ap (λ (r : transaction.Result). r .answer) e) (ap (λ (r : transaction.Result). r .answer) f)
+      refused x (ap (λ (r : transaction.Result). transactionSays (r .answer)) e) (ap (λ (r : transaction.Result). transactionSays (r .answer)) f)
       (ap (λ (r : transaction.Result). r .work) e ∙ sym (ap (λ (r : transaction.Result). r .work) f))
 
   -- past 12
@@ -110,31 +120,31 @@ module _ (v u : Way) (a work s t bytes : List ℕ) where
         go true e = inl (answers-call way a work tape bytes _ (accepted B es st D few (leb-true used (length tape) e)))
         go false e = inr (answers-call way a work tape bytes _ (no-tape B es st D few (leb-false used (length tape) e)))
 
-    end-at : (way : Way) (tape : List ℕ) → Ends way tape → AtTape (transactionCall way a work tape bytes .answer)
-    unfolding AtTape transaction.acceptedWith transaction.refusedWith
+    end-at : (way : Way) (tape : List ℕ) → Ends way tape → AtTape (transactionSays (transactionCall way a work tape bytes .answer))
+    unfolding AtTape transactionSays transaction.acceptedWith transaction.refusedWith
     end-at way tape (inl e) = rw e tt
     end-at way tape (inr e) = rw e refl
 
     -- accepted, work is the edited image but for log lines
-    left : (way : Way) (tape : List ℕ) → Ends way tape → transaction.isAccepted (transactionCall way a work tape bytes .answer) ≡ true → SameButLog (transactionCall way a work tape bytes .work) new
-    unfolding transaction.isAccepted transaction.acceptedWith transaction.refusedWith roomInLog
-    left way tape (inr e) h = absurd (false≢true (sym (ap (λ (r : transaction.Result). transaction.isAccepted (r .answer)) e) ∙ h))
+    left : (way : Way) (tape : List ℕ) → Ends way tape → transactionSays (transactionCall way a work tape bytes .answer) ≡ answers.Accepted → SameButLog (transactionCall way a work tape bytes .work) new
+    unfolding transactionSays transaction.acceptedWith transaction.refusedWith roomInLog
+    left way tape (inr e) h = absurd (not-accepted (refusal tapeShort) (sym (ap (λ (r : transaction.Result). transactionSays (r .answer)) e) ∙ h))
     left way tape (inl e) h =
         let sa = check-sound a (B .checked) in
         let d = edits-accepted a sa es (list-proper bytes es (D .reads)) st (D .makes) in
         subst (λ (x : List ℕ). SameButLog x new) (sym (ap (λ (r : transaction.Result). r .work) e)) (taken-work way a new sa d (le-leb (length (changedPages a new)) logMost few))
 
-    both-at-tape : Alike R Q
+    both-at-tape : AlikeHere
     both-at-tape =
         let e = ends v s in
         let f = ends u t in
         at-tape (end-at v s e) (end-at u t f) (λ h k. same-back (R .work) (Q .work) new (left v s e h) (left u t f k))
 
-  both-call : Alike R Q
+  both-call : AlikeHere
   unfolding transaction.refusedWith
   both-call = go R (call-answers v a work s bytes) refl
     where
-      go : (r : transaction.Result) → Answers v a work s bytes r → R ≡ r → Alike R Q
+      go : (r : transaction.Result) → Answers v a work s bytes r → R ≡ r → AlikeHere
       go _ (bad-size e) q = both-refused _ work q (answers-call u a work t bytes _ (bad-size e))
       go _ (bad-work e other) q = both-refused _ work q (answers-call u a work t bytes _ (bad-work e other))
       go _ (bad-image e same x c) q = both-refused x work q (answers-call u a work t bytes _ (bad-image e same x c))
@@ -153,14 +163,16 @@ module _ (a work : List ℕ) where
   abbrev ok : Bool
   ok = replayable a (pageZero a) && sound (replayFrom a (pageZero a))
 
-  -- what a recovery comes to once 1, 2 and 4 do not hold
-  abbrev ended : Way → List ℕ → Result
-  ended way tape =
-      pick (leb (length (tapeBytes (recoveryTape way a (pageZero a)))) (length tape)) (acceptedWith (recoveryTape way a (pageZero a)) (replayFrom a (pageZero a)) tape) (refusedWith tapeShort a tape)
+  -- once 1, 2 and 4 do not hold: accepted or refused with 13, by the length of the tape
+  abbrev fits : Way → List ℕ → Bool
+  fits way tape = leb (length (tapeBytes (recoveryTape way a (pageZero a)))) (length tape)
+
+  abbrev onTape : Way → List ℕ → Bool → Result
+  onTape way tape b = pick b (acceptedWith (recoveryTape way a (pageZero a)) (replayFrom a (pageZero a)) tape) (refusedWith tapeShort a tape)
 
   -- by the three tests, which no device and no tape has a part in
   abbrev decided : Way → List ℕ → Bool → Bool → Bool → Result
-  decided way tape b c d = pick b (pick c (pick d (ended way tape) (refusedWith unsound work tape)) (refusedWith workSize work tape)) (refusedWith imageSize work tape)
+  decided way tape b c d = pick b (pick c (pick d (onTape way tape (fits way tape)) (refusedWith unsound work tape)) (refusedWith workSize work tape)) (refusedWith imageSize work tape)
 
   decides : (way : Way) (tape : List ℕ) → recoverCall way a work tape ≡ decided way tape (isImageSize (length a)) (eqb (length work) (length a)) ok
   unfolding recoverCall
@@ -181,41 +193,37 @@ module _ (a work : List ℕ) where
             isTable = refl;
           }
 
-  ended-at : (way : Way) (tape : List ℕ) → RecoveredAtTape (ended way tape .answer)
-  unfolding RecoveredAtTape acceptedWith refusedWith
-  ended-at way tape = go (leb (length (tapeBytes (recoveryTape way a (pageZero a)))) (length tape))
-    where
-      go : (b : Bool) → RecoveredAtTape (pick b (acceptedWith (recoveryTape way a (pageZero a)) (replayFrom a (pageZero a)) tape) (refusedWith tapeShort a tape) .answer)
-      go true = tt
-      go false = refl
+  on-at : (way : Way) (tape : List ℕ) (b : Bool) → AtTape (recoverySays (onTape way tape b .answer))
+  unfolding AtTape recoverySays acceptedWith refusedWith
+  on-at way tape true = tt
+  on-at way tape false = refl
 
-  ended-work : (way : Way) (tape : List ℕ) (e : Redone) → ended way tape .answer ≡ recovered.Accepted e → ended way tape .work ≡ replay a
-  unfolding acceptedWith
-  ended-work way tape e q = go (leb (length (tapeBytes (recoveryTape way a (pageZero a)))) (length tape)) q
-    where
-      go : (b : Bool) → pick b (acceptedWith (recoveryTape way a (pageZero a)) (replayFrom a (pageZero a)) tape) (refusedWith tapeShort a tape) .answer ≡ recovered.Accepted e →
-          pick b (acceptedWith (recoveryTape way a (pageZero a)) (replayFrom a (pageZero a)) tape) (refusedWith tapeShort a tape) .work ≡ replay a
-      go true h = refl
-      go false h = absurd (refused-not tapeShort a tape e h)
+  on-work : (way : Way) (tape : List ℕ) (b : Bool) → recoverySays (onTape way tape b .answer) ≡ answers.Accepted → onTape way tape b .work ≡ replay a
+  unfolding recoverySays acceptedWith refusedWith
+  on-work way tape true h = refl
+  on-work way tape false h = absurd (not-accepted (refusal tapeShort) h)
 
-  recover-both : (v u : Way) (s t : List ℕ) → RecoverAlike (recoverCall v a work s) (recoverCall u a work t)
-  unfolding refusedWith
+  recover-both : (v u : Way) (s t : List ℕ) →
+      let r = recoverCall v a work s in
+      let q = recoverCall u a work t in
+      Alike (λ (m n : List ℕ). m ≡ n) (recoverySays (r .answer)) (recoverySays (q .answer)) (r .work) (q .work)
+  unfolding recoverySays refusedWith
   recover-both v u s t = rw (decides v s, decides u t) (go (isImageSize (length a)) (eqb (length work) (length a)) ok)
     where
-      go : (b c d : Bool) → RecoverAlike (decided v s b c d) (decided u t b c d)
-      go false c d = refused-both (refusal imageSize) refl refl refl
-      go true false d = refused-both (refusal workSize) refl refl refl
-      go true true false = refused-both (refusal unsound) refl refl refl
-      go true true true = at-tape-both (ended-at v s) (ended-at u t) (λ d e h k. ended-work v s d h ∙ sym (ended-work u t e k))
+      go : (b c d : Bool) → Alike (λ (m n : List ℕ). m ≡ n) (recoverySays (decided v s b c d .answer)) (recoverySays (decided u t b c d .answer)) (decided v s b c d .work) (decided u t b c d .work)
+      go false c d = refused (refusal imageSize) refl refl refl
+      go true false d = refused (refusal workSize) refl refl refl
+      go true true false = refused (refusal unsound) refl refl refl
+      go true true true = at-tape (on-at v s (fits v s)) (on-at u t (fits u t)) (λ h k. on-work v s (fits v s) h ∙ sym (on-work u t (fits u t) k))
 
 pub both-recoveries : BothRecoveries
 both-recoveries v u a work s t = recover-both a work v u s t
 
-pub recovery-word : RecoveryWords
-recovery-word a work tape e q =
+pub recovery-words : RecoveryWords
+recovery-words a work tape e q =
     let h = accepted-holds a work ByWords tape e q in
     let cs = attempts.commands-are (table (replay a)) a h ByWords work tape e q in
     record {
-      words = subst (All IsWord) (sym cs) (recovery-words a h);
+      words = subst (All IsWord) (sym cs) (devices.recovery-words a h);
       counts = attempts.flushes-are (table (replay a)) a h ByWords work tape e q ∙ ap flushCount (sym cs);
     }

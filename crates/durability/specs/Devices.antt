@@ -4,23 +4,22 @@
 use Prim.Native.Nat.{ℕ}
 use mathlib.Core.Path.{_≡_}
 use mathlib.Core.Logic.{_⊎_}
-use mathlib.Core.Bool.{true}
 use mathlib.Core.List.{List}
 use Rattle.codec.specs.Lists.{All}
 use Rattle.device.specs.Tape.{Op, flushCount}
 use Rattle.device.specs.Calls.{tapeShort}
 use Rattle.device.specs.declared.Refusal.{Refusal}
+use Rattle.device.specs.declared.Answer.{Answer}
+use Rattle.device.specs.declared.Answer.the-variants as answers
 use Rattle.journal.specs.Way.{IsWord}
 use Rattle.journal.specs.Log.{SameButLog}
 use Rattle.journal.specs.declared.Way.{Way}
 use Rattle.journal.specs.declared.Way.the-variants.{ByWords}
 use Rattle.journal.specs.declared.Commit.{Commit}
 use Rattle.journal.specs.declared.CommitPlace.the-variants.{Root, Log}
-use Rattle.transaction.specs.Calls as transaction
 use Rattle.transaction.specs.Calls.{commandsOn, transactionCall}
 use Rattle.transaction.specs.declared.Transacted.{Transacted}
 use Rattle.transaction.specs.declared.Transacted.the-variants as transacted
-use Rattle.recovery.specs.Calls as recovery
 use Rattle.recovery.specs.Calls.{recoverCall}
 use Rattle.recovery.specs.declared.Redone.{Redone}
 use Rattle.recovery.specs.declared.Recovered.{Recovered}
@@ -47,29 +46,38 @@ RecoveryWords =
 
 -- ---- the two calls on one image, with one work buffer and one list, each with a tape of its own
 
+-- whether a call is accepted, and else its refusal
+unfoldable pub transactionSays : Transacted → Answer
+transactionSays (transacted.Accepted c) = answers.Accepted
+transactionSays (transacted.Refused r) = answers.Refused r
+
+unfoldable pub recoverySays : Recovered → Answer
+recoverySays (recovered.Accepted e) = answers.Accepted
+recoverySays (recovered.Refused r) = answers.Refused r
+
 -- accepted, or refused with 13: what is asked before the tape holds
-unfoldable pub AtTape : Transacted → Type 0
-AtTape (transacted.Accepted c) = Unit {0}
-AtTape (transacted.Refused r) = r .number ≡ tapeShort
+unfoldable pub AtTape : Answer → Type 0
+AtTape answers.Accepted = Unit {0}
+AtTape (answers.Refused r) = r .number ≡ tapeShort
 
--- "Refused: as in the present calls": the same refusal and the same work; or each is accepted or refused with 13, and where both are accepted,
--- "work matches the line-store device's but for log lines"
-pub data Alike (r q : transaction.Result) : Type 0 where
-  refused : (x : Refusal) → r .answer ≡ transacted.Refused x → q .answer ≡ transacted.Refused x → r .work ≡ q .work → Alike r q
-  at-tape : AtTape (r .answer) → AtTape (q .answer) → (transaction.isAccepted (r .answer) ≡ true → transaction.isAccepted (q .answer) ≡ true → SameButLog (r .work) (q .work)) → Alike r q
+-- Two calls that say x and y and leave the work m and n. "Refused: as in the present calls": the same refusal and the same work; or each is
+-- accepted or refused with 13, and where both are accepted, what they leave is so related.
+pub data Alike (Related : List ℕ → List ℕ → Type 0) (x y : Answer) (m n : List ℕ) : Type 0 where
+  refused : (r : Refusal) → x ≡ answers.Refused r → y ≡ answers.Refused r → m ≡ n → Alike Related x y m n
+  at-tape : AtTape x → AtTape y → (x ≡ answers.Accepted → y ≡ answers.Accepted → Related m n) → Alike Related x y m n
 
+-- "After an accepted call, work matches the line-store device's but for log lines."
 abbrev pub BothCalls : Type 0
-BothCalls = (v u : Way) (a work s t bytes : List ℕ) → Alike (transactionCall v a work s bytes) (transactionCall u a work t bytes)
+BothCalls =
+    (v u : Way) (a work s t bytes : List ℕ) →
+    let r = transactionCall v a work s bytes in
+    let q = transactionCall u a work t bytes in
+    Alike SameButLog (transactionSays (r .answer)) (transactionSays (q .answer)) (r .work) (q .work)
 
--- recoveries: the same refusal and the same work; or each is accepted or refused with 13, and where both are accepted they leave the same image
-unfoldable pub RecoveredAtTape : Recovered → Type 0
-RecoveredAtTape (recovered.Accepted e) = Unit {0}
-RecoveredAtTape (recovered.Refused r) = r .number ≡ tapeShort
-
-pub data RecoverAlike (r q : recovery.Result) : Type 0 where
-  refused-both : (x : Refusal) → r .answer ≡ recovered.Refused x → q .answer ≡ recovered.Refused x → r .work ≡ q .work → RecoverAlike r q
-  at-tape-both : RecoveredAtTape (r .answer) → RecoveredAtTape (q .answer) →
-      ((d e : Redone) → r .answer ≡ recovered.Accepted d → q .answer ≡ recovered.Accepted e → r .work ≡ q .work) → RecoverAlike r q
-
+-- two recoveries leave the same image
 abbrev pub BothRecoveries : Type 0
-BothRecoveries = (v u : Way) (a work s t : List ℕ) → RecoverAlike (recoverCall v a work s) (recoverCall u a work t)
+BothRecoveries =
+    (v u : Way) (a work s t : List ℕ) →
+    let r = recoverCall v a work s in
+    let q = recoverCall u a work t in
+    Alike (λ (m n : List ℕ). m ≡ n) (recoverySays (r .answer)) (recoverySays (q .answer)) (r .work) (q .work)

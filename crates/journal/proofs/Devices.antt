@@ -1,9 +1,9 @@
 -- What the two devices differ in: on the one without line stores every store is of a word, and no header commits. What they leave is the same
 -- but for log lines (document 02 (d)).
 -- Assumes nothing.
-use Prim.Native.Nat.{ℕ, suc, _+_, _*_, _/_, _%_, _≤_, _<_}
+use Prim.Native.Nat.{ℕ, suc, _+_, _*_, _/_, _%_, _≤_}
 use mathlib.Core.Path.{_≡_, refl, sym, ap, _∙_, subst}
-use mathlib.Core.Logic.{_⊎_, inl, inr}
+use mathlib.Core.Logic.{inl, inr}
 use mathlib.Core.Bool.{Bool, true, false}
 use mathlib.Core.List.{List, [], _∷_, _++_}
 use native.Mathlib.Omega.{arith}
@@ -19,7 +19,7 @@ use Rattle.page.specs.Layout.{pageSize, lineSize, Rec}
 use Rattle.image.specs.PageZero.{rootOf, logMost, markBytes}
 use Rattle.image.specs.Image.{reached, sound}
 use Rattle.image.proofs.General.{All-append}
-use Rattle.journal.specs.Changes.{wordSize, freeWord, wordStores, flushesOf, stageA, headerLine, changedPages, sameRoot}
+use Rattle.journal.specs.Changes.{wordSize, wordStores, flushesOf, stageA, headerLine, changedPages, sameRoot}
 use Rattle.journal.specs.Way.{lineBy, IsWord}
 use Rattle.journal.specs.Log.{SameButLog, ownPage, logStores, logFlushes, logTape, headerStores, headerFlushes, ending, replayTape}
 use Rattle.journal.specs.Recovery.{logged, rootIs, recoveryTape}
@@ -33,7 +33,7 @@ use Rattle.journal.proofs.Ways.{line-words}
 use Rattle.journal.proofs.Headers.{Lines, header-flushing}
 use Rattle.journal.proofs.Standing.{logged-lines, length-noMark, length-mark}
 use Rattle.journal.proofs.Holds.{Cases, cases}
-use Rattle.journal.proofs.StageA.{flushing-of, wordAt, walk, walk-all}
+use Rattle.journal.proofs.StageA.{flushing-of, walk, walk-all}
 use Rattle.journal.proofs.Log.{log-flushing}
 use Rattle.journal.proofs.Chosen.{choose-all}
 use Rattle.journal.proofs.Edits.{size, changed, headers-lines}

@@ -7,15 +7,16 @@ use mathlib.Core.Bool.{Bool, true, false}
 use mathlib.Core.List.{List, [], _∷_, _++_, append-assoc}
 use native.Mathlib.Omega.{arith}
 use lib.ListN.{length, length-map}
-use borrow.Author.Tests.{leb-true, lt-leb}
+use borrow.Author.Tests.{leb-true, lt-leb, eq-eqb}
 use Rattle.codec.specs.Lists.{splice, All}
 use Rattle.codec.specs.Numbers.{bytesOf}
+use Rattle.codec.proofs.Numbers.{length-bytesOf}
 use Rattle.device.specs.Tape.{Op, store, flush, malformed}
 use Rattle.device.specs.Cut.{IsFlush}
 use Rattle.page.specs.Layout.{pageSize, lineSize}
 use Rattle.image.specs.PageZero.{rootOf, logMost, markBytes, noMark}
 use Rattle.image.specs.Image.{sound}
-use Rattle.journal.specs.Changes.{stageA, headerLine, changedPages, sameRoot}
+use Rattle.journal.specs.Changes.{wordSize, stageA, headerLine, changedPages, sameRoot}
 use Rattle.journal.specs.Way.{lineBy}
 use Rattle.journal.specs.Log.{pageLines, ownPage, logStores, logFlushes, logTape, headerStores, headerFlushes, ending, replayTape}
 use Rattle.journal.specs.Tape.{newHeaders, joinLines, byHeader, byRoot, byLog, roomInLog, takenFor}
@@ -27,18 +28,18 @@ use Rattle.journal.specs.declared.Way.the-variants.{ByLine}
 use Rattle.journal.specs.declared.CommitPlace.the-variants.{Log}
 use Rattle.journal.proofs.Ways.{rises-lower, line-rises}
 use Rattle.journal.proofs.Headers.{Lines, header-flushing}
+use Rattle.journal.proofs.Standing.{length-noMark, length-mark}
 use Rattle.journal.proofs.Log.{log-flushing, log-after, log-read}
 use Rattle.journal.proofs.Chosen.{choose-all}
 use Rattle.journal.proofs.Changed.{InBoth}
 use Rattle.journal.proofs.Edits.{size, changed, header-own, headers-lines}
 use Rattle.journal.proofs.Rising.{from-one}
 
--- ---- the places past line 0
+-- ---- the places past the words of line 0
 
--- a store to line 0
-place-near : (p : ℕ) (vs : List ℕ) (rest : List Op) → p < lineSize → placesPast (store p vs ∷ rest) ≡ placesPast rest
+place-near : (p : ℕ) (vs : List ℕ) (rest : List Op) → p < lineSize → length vs ≡ wordSize → placesPast (store p vs ∷ rest) ≡ placesPast rest
 unfolding placesPast
-place-near p vs rest h = rw (lt-leb lineSize p h)
+place-near p vs rest h e = rw (lt-leb lineSize p h, eq-eqb (length vs) wordSize e)
 
 past-flushes : (ys rest : List Op) → All IsFlush ys → placesPast (ys ++ rest) ≡ placesPast rest
 unfolding placesPast
@@ -52,11 +53,11 @@ unfolding ending placesPast
 ending-near same root = go same
   where
     cleared : placesPast (store 0 noMark ∷ flush 0 ∷ []) ≡ []
-    cleared = place-near 0 noMark (flush 0 ∷ []) (omega arith)
+    cleared = place-near 0 noMark (flush 0 ∷ []) (omega arith) length-noMark
 
     go : (same : Bool) → placesPast (ending same root) ≡ []
     go true = cleared
-    go false = place-near 8 (bytesOf 8 root) (store 0 noMark ∷ flush 0 ∷ []) (omega arith) ∙ cleared
+    go false = place-near 8 (bytesOf 8 root) (store 0 noMark ∷ flush 0 ∷ []) (omega arith) (length-bytesOf 8 root) ∙ cleared
 
 -- ---- the log, with what follows it
 
@@ -113,7 +114,7 @@ module _ (way : Way) (a w : List ℕ) (s : sound a ≡ true) (d : Edited a w) (r
       (log-rises way 1 new (F ++ rest) (omega arith)
       (subst (RisesFrom (lineSize * (1 + length new))) (sym (past-flushes F rest (log-flushing way 1 new .flushes))) (rises-lower (lineSize * (1 + length new)) pageSize (placesPast rest) log-inside r)))
 
-  -- stage A first; past it, the stores beyond line 0 rise
+  -- stage A first; past it, all stores but the words of line 0 rise
   abbrev Ordered : List Op → Type 0
   Ordered cs = (rest : List Op) × (cs ≡ stageA a w ++ rest) × Rises (placesPast rest)
 
@@ -130,7 +131,7 @@ module _ (way : Way) (a w : List ℕ) (s : sound a ≡ true) (d : Edited a w) (r
       go : Rises (placesPast (logTape way new ++ (store 0 mark ∷ T)))
       go =
           rises-lower 0 lineSize (placesPast (logTape way new ++ (store 0 mark ∷ T))) (omega arith)
-          (log-tape (store 0 mark ∷ T) (subst (RisesFrom pageSize) (sym (place-near 0 mark T (omega arith))) (replay-rises same)))
+          (log-tape (store 0 mark ∷ T) (subst (RisesFrom pageSize) (sym (place-near 0 mark T (omega arith) (length-mark (length new) (rootOf w)))) (replay-rises same)))
 
   -- log lines 1 to k, then the headers by rising page
   pub lines-rising : Ordered (takenFor way a w .tape)
@@ -140,7 +141,7 @@ module _ (way : Way) (a w : List ℕ) (s : sound a ≡ true) (d : Edited a w) (r
       (sameRoot a w) (changedPages a w) refl
     where
       root : Rises (placesPast (store 8 (bytesOf 8 (rootOf w)) ∷ flush 0 ∷ []))
-      root = subst Rises (sym (place-near 8 (bytesOf 8 (rootOf w)) (flush 0 ∷ []) (omega arith))) tt
+      root = subst Rises (sym (place-near 8 (bytesOf 8 (rootOf w)) (flush 0 ∷ []) (omega arith) (length-bytesOf 8 (rootOf w)))) tt
 
       header : way ≡ ByLine → (p : ℕ) → changedPages a w ≡ p ∷ [] → Ordered (byHeader (stageA a w) w p .tape)
       header line p e =

@@ -15,7 +15,7 @@ use borrow.Author.Tests.{le-leb}
 use Rattle.codec.specs.Lists.{part, All}
 use Rattle.codec.proofs.Lists.{sets-append}
 use Rattle.device.specs.Tape.{Op, store, flush, malformed, Writable}
-use Rattle.device.specs.Cut.{after, lineOf, durable, hits, touches, stores, To, Flushing, Writes}
+use Rattle.device.specs.Cut.{after, durable, hits, touches, stores, To, Flushing, Writes}
 use Rattle.device.proofs.Clauses.{after-nil, after-store, touches-nil, durable-here}
 use Rattle.device.proofs.Segments.{in-hits, hits-out}
 use Rattle.device.proofs.Stores.{to-stores}

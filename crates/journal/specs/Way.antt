@@ -20,8 +20,8 @@ unfoldable pub lineBy : Way → ℕ → List ℕ → List Op
 lineBy ByLine p h = store p h ∷ []
 lineBy ByWords p h = wordsOf lineWords p h
 
--- a store, if it is one, of a word: "use no kind 2 command"
+-- a command of tapes that "use no kind 2 command": a store of a word, or a flush
 abbrev pub IsWord : Op → Type 0
 IsWord (store p vs) = length vs ≡ wordSize
 IsWord (flush l) = Unit {0}
-IsWord malformed = Unit {0}
+IsWord malformed = ⊥

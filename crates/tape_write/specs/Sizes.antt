@@ -1,7 +1,7 @@
 -- The sizes of tapes, by what differs: a word store takes 12 bytes, a line store 68, a flush 4.
 -- Assumes nothing.
 use Prim.Native.Nat.{ℕ, _+_, _*_}
-use mathlib.Core.Bool.{Bool, true, false, _&&_}
+use mathlib.Core.Bool.{Bool, false, _&&_}
 use lib.Dec.{eqb}
 use Rattle.codec.specs.Lists.{pick}
 use Rattle.journal.specs.declared.Way.{Way}

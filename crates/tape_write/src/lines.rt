@@ -1,4 +1,4 @@
-// A line on the tape, in the device's way: "one line store", or "eight word stores in rising order" (document 02 (d)).
+// A line on the tape, in the device's way: one line store, or "eight word stores in rising order" (document 02 (d)).
 use journal::Way;
 ghost use mathlib.Core.Path.{_≡_};
 ghost use Prim.Native.Nat.{ℕ, _+_, _*_, _≤_};

@@ -7,13 +7,14 @@ use mathlib.Core.List.{List}
 use native.Mathlib.Omega.{arith}
 use lib.ListN.{length, getD}
 use lib.Dec.{leb, eqb}
-use borrow.Author.Tests.{leb-true, le-leb, eq-eqb}
+use borrow.Author.Tests.{leb-true, le-leb, eqb-true, eq-eqb}
 use Rattle.codec.specs.Lists.{pick}
 use Rattle.codec.proofs.Tests.{first, second}
 use Rattle.device.specs.Tape.{Op, decode, wellFormed}
 use Rattle.device.specs.Cut.{after, cutImage}
 use Rattle.device.specs.Counts.{scanned}
 use Rattle.device.specs.Calls.{isImageSize, Ran, accepted, refused, unless, runCall, cutTape, cutCall}
+use Rattle.device.specs.declared.Answer.the-variants.{Accepted}
 use Rattle.device.specs.declared.Scan.the-variants.{Commands, Broken}
 
 module _ (test : Bool) (k : ℕ) (old : List ℕ) (ran : Ran) where
@@ -38,6 +39,35 @@ pub cut-accepts : (image work tape choices : List ℕ) (c : ℕ) → isImageSize
 unfolding cutCall cutTape unless
 cut-accepts image work tape choices c size same bytes formed few =
     rw (size, eq-eqb (length work) (length image) same, eq-eqb (length choices) (length image / 64) bytes, formed, le-leb c (length (decode (length image) tape)) few)
+
+-- what an accepted cut found
+pub record Cuttable (image work tape choices : List ℕ) (c : ℕ) : Type 0 where
+  pub size : isImageSize (length image) ≡ true
+  pub same : length work ≡ length image
+  pub bytes : length choices ≡ length image / 64
+  pub formed : wellFormed (decode (length image) tape) ≡ true
+  pub few : c ≤ length (decode (length image) tape)
+
+passed : (test : Bool) (k : ℕ) (old : List ℕ) (ran : Ran) → unless test k old ran .answer ≡ Accepted → (test ≡ true) × (ran .answer ≡ Accepted)
+unfolding unless
+passed true k old ran e = (refl, e)
+passed false k old ran e = let z : _≡_ {A = ℕ} 0 1 = cc in absurd (omega arith)
+
+pub cut-accepted : (image work tape choices : List ℕ) (c : ℕ) → cutCall image work tape c choices .answer ≡ Accepted → Cuttable image work tape choices c
+unfolding cutCall cutTape
+cut-accepted image work tape choices c e =
+    let a = passed _ _ _ _ e in
+    let b = passed _ _ _ _ (a .1) in
+    let d = passed _ _ _ _ (b .1) in
+    let f = passed _ _ _ _ (d .1) in
+    let g = passed _ _ _ _ (f .1) in
+    record {
+      size = a .0;
+      same = eqb-true (length work) (length image) (b .0);
+      bytes = eqb-true (length choices) (length image / 64) (d .0);
+      formed = f .0;
+      few = leb-true c (length (decode (length image) tape)) (g .0);
+    }
 
 -- what a call is said to do, in two parts
 pub said : (call done : Ran) → call ≡ done → (done .answer ≡ call .answer) × (done .work ≡ call .work)

@@ -6,6 +6,7 @@ pub mod Calls
 pub mod Clauses
 pub mod Cuts
 pub mod Lines
+pub mod Pending
 pub mod Segments
 pub mod Stores
 pub mod Writing

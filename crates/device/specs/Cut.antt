@@ -112,6 +112,10 @@ settled l (store p vs ∷ cs) = pick (eqb (lineOf p) l && durable l cs) 1 0 + se
 settled l (flush m ∷ cs) = settled l cs
 settled l (malformed ∷ cs) = settled l cs
 
+-- "A store is pending until its line is flushed": how many of the stores to line l are not durable then
+unfoldable pub pending : ℕ → List Op → ℕ
+pending l cs = length (stores (ofLine l cs)) - settled l cs
+
 -- a store to line l
 abbrev pub To : ℕ → Op → Type 0
 To l (store p vs) = lineOf p ≡ l

@@ -50,6 +50,10 @@ impl Refusal {
 
     pub const BAD_CHOICES: u8 = 16;
 
+    pub const LONG_TAPE: u8 = 17;
+
+    pub const NO_SUCH_CUT: u8 = 18;
+
     // A refusal that names no edit.
     pub fn of(number: u8) -> Refusal
         ensures { λ r. ⌜ r ≡ refusal number ⌝ }
@@ -115,19 +119,21 @@ fn size_at(tape: &[u8], at: usize, n: usize) -> usize
     size
 }
 
-// Whether the whole tape is well formed over an image of n bytes.
-fn well_formed(tape: &[u8], n: usize) -> bool
-    ensures { λ r. ⌜ r ≡ wellFormed (decode n (now (tape .entry))) ⌝ }
+// Judges the whole tape over an image of n bytes and counts its commands.
+pub fn count_commands(tape: &[u8], n: usize) -> Scan
+    ensures { λ r. ⌜ r ≡ scanned (decode n (now (tape .entry))) ⌝ }
 {
     let mut at = 0;
+    let mut count = 0;
     while at < tape.len() {
         let size = size_at(tape, at, n);
         if size == 0 {
-            return false;
+            return Scan::Broken;
         }
         at = at + size;
+        count = count + 1;
     }
-    true
+    Scan::Commands(count)
 }
 
 // Makes every store of a well-formed tape.
@@ -176,12 +182,14 @@ pub fn run(image: &[u8], work: &mut [u8], tape: &[u8]) -> Answer
     if work.len() != n {
         return Answer::Refused(Refusal::of(Refusal::WORK_SIZE));
     }
-    if !well_formed(tape, n) {
-        return Answer::Refused(Refusal::of(Refusal::BAD_TAPE));
+    match count_commands(tape, n) {
+        Scan::Broken => Answer::Refused(Refusal::of(Refusal::BAD_TAPE)),
+        Scan::Commands(_) => {
+            codec::copy_all(work, image);
+            play(work, tape);
+            Answer::Accepted
+        }
     }
-    codec::copy_all(work, image);
-    play(work, tape);
-    Answer::Accepted
 }
 
 // Notes where a flush at `at` of the tape ends.

@@ -6,6 +6,8 @@ use lib.ListN.{length}
 use lib.Seq.{sets}
 use lib.Dec.{leb}
 use Rattle.codec.specs.Lists.{pick}
+use Rattle.cuts.specs.declared.Counted.{Counted}
+use Rattle.cuts.specs.declared.Counted.the-variants as counts
 use Rattle.journal.specs.declared.CommitPlace.{CommitPlace}
 use Rattle.journal.specs.declared.CommitPlace.the-variants.{Header, Root, Log}
 use Rattle.journal.specs.declared.Commit.{Commit}
@@ -23,6 +25,15 @@ use Rattle.preview.specs.declared.Preview.the-variants as previews
 -- an array with numbers written at its front, if it has room for all of them
 unfoldable pub lent : List ℕ → List ℕ → List ℕ
 lent old new = pick (leb (length new) (length old)) (sets old 0 new) old
+
+-- the number of cuts, or a cut's count of commands. A refusal writes nothing
+unfoldable pub countedNumber : Counted → ℕ
+countedNumber (counts.Number n) = 0
+countedNumber (counts.Refused r) = r .number
+
+unfoldable pub countedNumbers : Counted → List ℕ
+countedNumbers (counts.Number n) = n ∷ []
+countedNumbers (counts.Refused r) = []
 
 -- a lookup: 1, the value's offset and its length; or three zeros where the key is missing. A refusal writes nothing
 unfoldable pub lookupNumber : Lookup → ℕ

@@ -1,5 +1,8 @@
 // The store for C and Rust: every call answers a number, 0 if accepted, else the refusal's. What a call answers besides is written to a
 // lent array of numbers, if it has room.
+use cuts::Counted;
+use cuts::count_cuts;
+use cuts::nth_cut;
 use device::Answer;
 use image::Lookup;
 use image::Next;
@@ -18,12 +21,13 @@ ghost use mathlib.Core.Path.{_≡_};
 ghost use Prim.Native.Nat.{_≤_};
 ghost use lib.ListN.{take};
 ghost use Rattle.device.specs.Calls.{numberOf, runCall, cutCall};
+ghost use Rattle.cuts.specs.Calls.{countCall, nthCall};
 ghost use Rattle.image.specs.Calls.{formatCall, checkCall, lookupCall, nextCall};
 ghost use Rattle.journal.specs.declared.Way.the-variants.{ByLine, ByWords};
 ghost use Rattle.preview.specs.Calls.{previewCall};
 ghost use Rattle.transaction.specs.Calls.{transactionCall};
 ghost use Rattle.recovery.specs.Calls.{recoverCall};
-ghost use Rattle.store.specs.Numbers.{lent, lookupNumber, lookupNumbers, nextNumber, nextNumbers, previewNumber, previewNumbers, commitNumbers, transactedNumber, transactedNumbers, recoveredNumber, recoveredNumbers};
+ghost use Rattle.store.specs.Numbers.{lent, countedNumber, countedNumbers, lookupNumber, lookupNumbers, nextNumber, nextNumbers, previewNumber, previewNumbers, commitNumbers, transactedNumber, transactedNumbers, recoveredNumber, recoveredNumbers};
 
 fn number_of(answer: Answer) -> u8
     ensures { λ r. ⌜ r ≡ numberOf answer ⌝ }
@@ -69,6 +73,45 @@ pub extern "C" fn quote_cut(
     ensures { λ _. ⌜ now (work .exit) ≡ (cutCall (now (image .entry)) (now (work .entry)) (now (tape .entry)) c (now (choices .entry))) .work ⌝ }
 {
     number_of(device::cut(image, work, tape, c, choices))
+}
+
+// Writes what a call on all cuts answers besides its number, which is the answer.
+fn put_counted(answer: &mut [u64], counted: Counted) -> u8
+    ensures { λ r. ⌜ r ≡ countedNumber counted ⌝ }
+    ensures { λ _. ⌜ now (answer .exit) ≡ lent (now (answer .entry)) (countedNumbers counted) ⌝ }
+{
+    match counted {
+        Counted::Number(number) => {
+            put_numbers(answer, [number as u64, 0, 0, 0, 0], 1);
+            0
+        }
+        Counted::Refused(refusal) => refusal.number,
+    }
+}
+
+#[no_mangle]
+pub extern "C" fn quote_count_cuts(image: &[u8], tape: &[u8], answer: &mut [u64]) -> u8
+    ensures { λ r. ⌜ r ≡ countedNumber (countCall (now (image .entry)) (now (tape .entry))) ⌝ }
+    ensures { λ _. ⌜ now (answer .exit) ≡ lent (now (answer .entry)) (countedNumbers (countCall (now (image .entry)) (now (tape .entry)))) ⌝ }
+{
+    let counted = count_cuts(image, tape);
+    put_counted(answer, counted)
+}
+
+#[no_mangle]
+pub extern "C" fn quote_nth_cut(
+    image: &[u8],
+    tape: &[u8],
+    r: usize,
+    choices: &mut [u8],
+    answer: &mut [u64],
+) -> u8
+    ensures { λ n. ⌜ n ≡ countedNumber (nthCall (now (image .entry)) (now (tape .entry)) r (now (choices .entry)) .answer) ⌝ }
+    ensures { λ _. ⌜ now (choices .exit) ≡ nthCall (now (image .entry)) (now (tape .entry)) r (now (choices .entry)) .choices ⌝ }
+    ensures { λ _. ⌜ now (answer .exit) ≡ lent (now (answer .entry)) (countedNumbers (nthCall (now (image .entry)) (now (tape .entry)) r (now (choices .entry)) .answer)) ⌝ }
+{
+    let counted = nth_cut(image, tape, r, choices);
+    put_counted(answer, counted)
 }
 
 #[no_mangle]

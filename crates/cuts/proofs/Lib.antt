@@ -1,0 +1,11 @@
+pub mod Headed
+pub mod Choices
+pub mod Pendings
+pub mod Listed
+pub mod Commands
+pub mod Digits
+pub mod Seeking
+pub mod Sought
+pub mod Calls
+pub mod Testers
+pub mod Rows

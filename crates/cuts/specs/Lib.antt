@@ -1,0 +1,4 @@
+pub mod All
+pub mod Calls
+pub mod Says
+pub mod Products

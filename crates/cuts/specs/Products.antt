@@ -1,0 +1,37 @@
+-- What the code keeps count of instead of a list: the command met, the number of choices as a product, and where a cut stands.
+-- Assumes nothing.
+use Prim.Native.Nat.{ℕ, suc, _+_, _*_, _≤_, _<_}
+use mathlib.Core.Path.{_≡_}
+use mathlib.Core.Bool.{true, false}
+use mathlib.Core.List.{List, [], _∷_}
+use lib.ListN.{length, getD, take}
+use Rattle.device.specs.Tape.{Op, store, flush, malformed, decode}
+use Rattle.device.specs.Cut.{lineOf}
+use Rattle.cuts.specs.All.{pendings, headed, choicesAfter, cuts}
+use Rattle.cuts.specs.declared.Met.{Met}
+use Rattle.cuts.specs.declared.Place.{Place}
+
+-- a command by the line that it stores to or flushes, its bytes on the tape, and whether it stores
+abbrev pub Meets : Op → Met → Type 0
+Meets (store p vs) m = (m .line ≡ lineOf p) × (m .size ≡ 4 + length vs) × (m .stores ≡ true)
+Meets (flush l) m = (m .line ≡ l) × (m .size ≡ 4) × (m .stores ≡ false)
+Meets malformed m = ⊥
+
+-- the cuts of a tape over an image of so many lines
+abbrev pub cutsOver : ℕ → List ℕ → List (List ℕ)
+cutsOver lines tape = cuts lines (decode (64 * lines) tape)
+
+-- the number of choices for lines with so many pending stores
+unfoldable pub ways : List ℕ → ℕ
+ways [] = 1
+ways (m ∷ ms) = suc m * ways ms
+
+-- every line that has a number is among those named
+abbrev pub Names : List ℕ → List ℕ → Type 0
+Names named ms = (l : ℕ) → ((i : ℕ) → i < length named → getD named i 0 ≡ l → ⊥) → getD ms l 0 ≡ 0
+
+-- cut number r stands at p: so many cuts have fewer commands. If p is within the tape, ms are the pending stores of the lines there
+pub record Sought (lines : ℕ) (cs : List Op) (r : ℕ) (p : Place) (ms named : List ℕ) : Type 0 where
+  pub before : length (headed 0 (p .commands) (choicesAfter lines cs)) + p .rest ≡ r
+  pub atMost : p .commands ≤ suc (length cs)
+  pub found : p .commands ≤ length cs → (p .rest < ways ms) × (ms ≡ pendings 0 lines (take (p .commands) cs)) × Names (take (p .commands) named) ms

@@ -1,6 +1,6 @@
 -- What the code does with the place that it found: the cut that stands there, or none.
 -- Assumes nothing.
-use Prim.Native.Nat.{ℕ, zero, suc, _+_, _-_, _≤_, _<_}
+use Prim.Native.Nat.{ℕ, zero, suc, _+_, _-_, _*_, _≤_, _<_}
 use mathlib.Core.Path.{_≡_, refl, sym, ap, subst}
 use mathlib.Core.Bool.{Bool, true, false}
 use mathlib.Core.List.{List, []}
@@ -9,7 +9,7 @@ use lib.ListN.{length, getD, take, replicate, length-replicate}
 use lib.Seq.{length-take-le}
 use lib.Dec.{leb}
 use borrow.Author.Tests.{leb-true, leb-false}
-use Rattle.device.specs.Tape.{Op}
+use Rattle.device.specs.Tape.{Op, decode, wellFormed}
 use Rattle.cuts.specs.All.{pendings, headed, choicesUpTo, choicesAfter, cuts}
 use Rattle.cuts.specs.Products.{ways, Sought}
 use Rattle.cuts.specs.Says.{Listed}
@@ -21,12 +21,29 @@ use Rattle.cuts.proofs.Listed.{listed-at, few-cuts}
 pub front-length : (k n : ℕ) → k ≤ n → length (take k (replicate {A = ℕ} n 0)) ≡ k
 front-length k n h = length-take-le k (replicate n 0) (omega (arith, length-replicate {A = ℕ} n 0))
 
-pub front-zeros : (k n l : ℕ) → getD (take k (replicate {A = ℕ} n 0)) l 0 ≡ 0
+front-zeros : (k n l : ℕ) → getD (take k (replicate {A = ℕ} n 0)) l 0 ≡ 0
 front-zeros zero zero l = refl
 front-zeros zero (suc n) l = refl
 front-zeros (suc k) zero l = refl
 front-zeros (suc k) (suc n) zero = refl
 front-zeros (suc k) (suc n) (suc l) = front-zeros k n l
+
+-- the pending stores of so many lines are counted there
+module _ (lines : ℕ) (tape : List ℕ) (room : lines ≤ 1024) where
+  abbrev front : List ℕ
+  front = take lines (replicate 1024 0)
+
+  same : length front ≡ lines
+  same = front-length lines 1024 room
+
+  -- what `seek` asks of a small tape
+  pub front-asks : wellFormed (decode (64 * lines) tape) ≡ true → length (decode (64 * lines) tape) ≤ 12 →
+      ((l : ℕ) → getD front l 0 ≡ 0) × ((wellFormed (decode (64 * length front) tape) ≡ true) × (length (decode (64 * length front) tape) ≤ 12))
+  front-asks formed few = (front-zeros lines 1024, subst (λ (n : ℕ). (wellFormed (decode (64 * n) tape) ≡ true) × (length (decode (64 * n) tape) ≤ 12)) (sym same) (formed, few))
+
+  -- and what it gives
+  pub front-gives : (r : ℕ) (p : Place) (ms named : List ℕ) → Sought (length front) (decode (64 * length front) tape) r p ms named → Sought lines (decode (64 * lines) tape) r p ms named
+  front-gives r p ms named = subst (λ (n : ℕ). Sought n (decode (64 * n) tape) r p ms named) same
 
 -- ---- the place
 

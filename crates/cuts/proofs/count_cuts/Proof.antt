@@ -27,9 +27,10 @@ small c = small-is _ _ _ (sym (c .before .before .small-tape .ensures) ∙ c .en
 
 number-of-cuts-requires : tie.Need-number-of-cuts-requires
 number-of-cuts-requires c κs =
+    let s = c .before .before .before .before .before in
     let k = small c in
     let whole = whole-lines _ (k .size) in
-    (whole .1, (ap (λ (n : ℕ). wellFormed (decode n (c .before .before .before .before .before .args .tape .now))) (whole .0) ∙ k .formed, omega (arith, ap (λ (n : ℕ). length (decode n (c .before .before .before .before .before .args .tape .now))) (whole .0), k .few)))
+    (whole .1, (ap (λ (n : ℕ). wellFormed (decode n (s .args .tape .now))) (whole .0) ∙ k .formed, omega (arith, ap (λ (n : ℕ). length (decode n (s .args .tape .now))) (whole .0), k .few)))
 
 returns : tie.Need-returns
 returns c = sym (count-refuses _ _ _ (sym (c .before .before .before .small-tape .ensures) ∙ c .before .refusal .given .1))

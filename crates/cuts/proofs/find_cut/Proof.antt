@@ -2,18 +2,17 @@
 -- Assumes nothing.
 use Prim.Native.Nat.{ℕ, _*_, _≤_, _<_}
 use mathlib.Core.Path.{_≡_, refl, sym, ap, _∙_, subst}
-use mathlib.Core.Bool.{true}
 use mathlib.Core.List.{List, [], _++_}
 use native.Mathlib.Omega.{arith}
 use lib.ListN.{length, getD, take, drop, replicate, length-append}
 use lib.Seq.{length-take-le, take-at}
 use borrow.Author.Needs.{needs}
-use Rattle.device.specs.Tape.{decode, wellFormed}
+use Rattle.device.specs.Tape.{decode}
 use Rattle.cuts.specs.All.{choicesUpTo}
 use Rattle.cuts.specs.Products.{ways, Names, Sought}
 use Rattle.cuts.specs.declared.Counted.the-variants.{Refused}
 use Rattle.cuts.proofs.Calls.{found-cut, no-cut}
-use Rattle.cuts.proofs.Sought.{front-length, front-zeros, sought-listed, sought-past}
+use Rattle.cuts.proofs.Sought.{front-length, front-asks, front-gives, sought-listed, sought-past}
 use Rattle.cuts.proofs.find_cut.Statement.{statement}
 use Rattle.cuts.proofs.find_cut.Tie as tie
 
@@ -21,7 +20,9 @@ array-borrow-prefix-pending : tie.Need-array-borrow-prefix-pending
 array-borrow-prefix-pending c = search needs
 
 slice-aggregate-seek : tie.Need-slice-aggregate-seek
-slice-aggregate-seek c = sym (front-length (length (c .before .before .before .args .choices .now)) 1024 (c .before .before .before .pre .0))
+slice-aggregate-seek c =
+    let s = c .before .before .before in
+    sym (front-length (length (s .args .choices .now)) 1024 (s .pre .0))
 
 slice-aggregate-seek-2 : tie.Need-slice-aggregate-seek-2
 slice-aggregate-seek-2 c = search needs
@@ -29,23 +30,21 @@ slice-aggregate-seek-2 c = search needs
 seek-requires : tie.Need-seek-requires
 seek-requires c κs =
     let s = c .before .before .before .before in
-    let lines = length (s .args .choices .now) in
-    let e = front-length lines 1024 (s .pre .0) in
-    let few : length (decode (64 * lines) (s .args .tape .now)) ≤ 12 = omega (arith, s .pre .1) in
-    ((front-zeros lines 1024, refl), subst (λ (n : ℕ). (wellFormed (decode (64 * n) (s .args .tape .now)) ≡ true) × (length (decode (64 * n) (s .args .tape .now)) ≤ 12)) (sym e) (s .pre .1 .0, few))
+    let asks = front-asks (length (s .args .choices .now)) (s .args .tape .now) (s .pre .0) (s .pre .1 .0) (omega (arith, s .pre .1)) in
+    ((asks .0, refl), asks .1)
 
 of-requires : tie.Need-of-requires
 of-requires c κs = search needs
 
 -- the place found, over the lines of the choices
 found : (c : tie.After-seek) → Sought (length (c .before .before .before .before .before .args .choices .now)) (decode (64 * length (c .before .before .before .before .before .args .choices .now)) (c .before .before .before .before .before .args .tape .now)) (c .before .before .before .before .before .args .r) (c .seek .result) (c .seek .last .0) (c .seek .last .1 .0)
-found c =
-    let s = c .before .before .before .before .before in
-    subst (λ (n : ℕ). Sought n (decode (64 * n) (s .args .tape .now)) (s .args .r) (c .seek .result) (c .seek .last .0) (c .seek .last .1 .0)) (front-length (length (s .args .choices .now)) 1024 (s .pre .0)) (c .seek .ensures)
+found c = let s = c .before .before .before .before .before in front-gives (length (s .args .choices .now)) (s .args .tape .now) (s .pre .0) _ _ _ _ (c .seek .ensures)
 
 -- of the array lent, the front is what was left of the pending stores
 kept : (c : tie.After-seek) → length (c .seek .last .0) ≡ length (c .before .before .before .before .before .args .choices .now)
-kept c = c .seek .kept .0 ∙ front-length (length (c .before .before .before .before .before .args .choices .now)) 1024 (c .before .before .before .before .before .pre .0)
+kept c =
+    let s = c .before .before .before .before .before in
+    c .seek .kept .0 ∙ front-length (length (s .args .choices .now)) 1024 (s .pre .0)
 
 again : (c : tie.After-seek) → take (length (c .before .before .before .before .before .args .choices .now)) (c .seek .last .0 ++ drop (length (c .before .before .before .before .before .args .choices .now)) (replicate 1024 0)) ≡ c .seek .last .0
 again c = take-at _ _ _ (kept c)

@@ -46,8 +46,9 @@ loop-less c = omega arith
 
 loop-again : tie.Need-loop-again Inv-loop μ-loop
 loop-again c =
+    let s = c .before .before .before .before .before in
     let l = c .before .before .before .loop in
-    (omega arith, c .higher .ensures .1, below-next (c .before .before .before .before .before .args .named .now) (c .before .before .before .before .before .args .bound) (l .i) (l .found) (c .higher .result) (c .higher .ensures .0) (c .higher .ensures .2) (l .inv .2))
+    (omega arith, c .higher .ensures .1, below-next (s .args .named .now) (s .args .bound) (l .i) (l .found) (c .higher .result) (c .higher .ensures .0) (c .higher .ensures .2) (l .inv .2))
 
 returns : tie.Need-returns Inv-loop μ-loop
 returns c = (c .before .loop .inv .1, λ j h. c .before .loop .inv .2 j (omega arith))

@@ -1,13 +1,10 @@
 -- `number_of_cuts`: past all cuts, what a number has more than its rest is how many there are.
 -- Assumes nothing.
-use Prim.Native.Nat.{ℕ, _*_, _≤_}
-use mathlib.Core.Path.{_≡_, refl, sym, subst}
-use mathlib.Core.Bool.{true}
-use lib.ListN.{length}
+use Prim.Native.Nat.{_*_}
+use mathlib.Core.Path.{refl, sym}
 use borrow.Author.Needs.{needs}
-use Rattle.device.specs.Tape.{decode, wellFormed}
-use Rattle.cuts.specs.Products.{Sought}
-use Rattle.cuts.proofs.Sought.{front-length, front-zeros, all-passed}
+use Rattle.device.specs.Tape.{decode}
+use Rattle.cuts.proofs.Sought.{front-length, front-asks, front-gives, all-passed}
 use Rattle.cuts.proofs.number_of_cuts.Statement.{statement}
 use Rattle.cuts.proofs.number_of_cuts.Tie as tie
 
@@ -15,7 +12,9 @@ array-borrow-prefix-pending : tie.Need-array-borrow-prefix-pending
 array-borrow-prefix-pending c = search needs
 
 slice-aggregate-seek : tie.Need-slice-aggregate-seek
-slice-aggregate-seek c = sym (front-length (c .before .before .args .lines) 1024 (c .before .before .pre .0))
+slice-aggregate-seek c =
+    let s = c .before .before in
+    sym (front-length (s .args .lines) 1024 (s .pre .0))
 
 slice-aggregate-seek-2 : tie.Need-slice-aggregate-seek-2
 slice-aggregate-seek-2 c = search needs
@@ -23,8 +22,8 @@ slice-aggregate-seek-2 c = search needs
 seek-requires : tie.Need-seek-requires
 seek-requires c κs =
     let s = c .before .before .before in
-    let e = front-length (s .args .lines) 1024 (s .pre .0) in
-    ((front-zeros (s .args .lines) 1024, refl), subst (λ (n : ℕ). (wellFormed (decode (64 * n) (s .args .tape .now)) ≡ true) × (length (decode (64 * n) (s .args .tape .now)) ≤ 12)) (sym e) (s .pre .1))
+    let asks = front-asks (s .args .lines) (s .args .tape .now) (s .pre .0) (s .pre .1 .0) (s .pre .1 .1) in
+    ((asks .0, refl), asks .1)
 
 sub-result : tie.Need-sub-result
 sub-result c = search needs
@@ -32,8 +31,7 @@ sub-result c = search needs
 returns : tie.Need-returns
 returns c =
     let s = c .before .before .before .before .before .before .before in
-    let e = front-length (s .args .lines) 1024 (s .pre .0) in
-    let k = subst (λ (n : ℕ). Sought n (decode (64 * n) (s .args .tape .now)) 8191 (c .before .before .before .seek .result) (c .before .before .before .seek .last .0) (c .before .before .before .seek .last .1 .0)) e (c .before .before .before .seek .ensures) in
+    let k = front-gives (s .args .lines) (s .args .tape .now) (s .pre .0) _ _ _ _ (c .before .before .before .seek .ensures) in
     sym (all-passed (s .args .lines) (decode (64 * s .args .lines) (s .args .tape .now)) 8191 _ _ _ k (s .pre .1 .1) refl)
 
 pub number-of-cuts-spec : {M : Type 1} → statement M

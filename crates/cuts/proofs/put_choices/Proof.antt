@@ -26,10 +26,11 @@ line-below-requires c κs = tt
 
 loop-holds : tie.Need-loop-holds Inv-loop μ-loop
 loop-holds c =
+    let fill = c .before .before .before .fill in
     let s = c .before .before .before .before .before .before .before .before in
     let a = s .args in
-    let filled : c .before .before .before .fill .last .0 ≡ replicate (length (a .choices .now)) 0 = c .before .before .before .fill .ensures ∙ splice-over (a .choices .now) (replicate (length (a .choices .now)) 0) (length-replicate {A = ℕ} (length (a .choices .now)) 0) in
-    let long : length (c .before .before .before .fill .last .0) ≡ length (a .pending .now) = omega (arith, c .before .before .before .fill .kept .0, s .pre .0) in
+    let filled : fill .last .0 ≡ replicate (length (a .choices .now)) 0 = fill .ensures ∙ splice-over (a .choices .now) (replicate (length (a .choices .now)) 0) (length-replicate {A = ℕ} (length (a .choices .now)) 0) in
+    let long : length (fill .last .0) ≡ length (a .pending .now) = omega (arith, fill .kept .0, s .pre .0) in
     let low = c .line-below .ensures in
     digits-down (a .pending .now) (a .named .now) (s .pre .2) (a .r) (a .r) _ _ (length (a .pending .now)) (omega (arith, low .0, long)) (λ i h k. low .1 i h (omega (arith, long))) (digits-start (a .pending .now) (a .r) _ long (λ l. ap (λ (x : List ℕ). getD x l 0) filled ∙ zeros (length (a .choices .now)) l))
 
@@ -52,7 +53,9 @@ cast-choices : tie.Need-cast-choices Inv-loop μ-loop
 cast-choices c = omega (arith, c .wide .ensures .1, mod-lt (c .before .before .before .loop .left) {m = c .wide .result + 1} (omega arith))
 
 slice-write-choices : tie.Need-slice-write-choices Inv-loop μ-loop
-slice-write-choices c = omega (arith, c .before .before .before .loop .inv .inside, c .before .before .before .loop .inv .within .perLine)
+slice-write-choices c =
+    let loop = c .before .before .before .loop in
+    omega (arith, loop .inv .inside, loop .inv .within .perLine)
 
 div-left : tie.Need-div-left Inv-loop μ-loop
 div-left c = omega arith

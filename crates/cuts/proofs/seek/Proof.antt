@@ -61,7 +61,9 @@ slice-write-named : tie.Need-slice-write-named Inv-loop μ-loop
 slice-write-named c = omega (arith, room c .another, c .before .before .before .loop .inv .1)
 
 tally-requires : tie.Need-tally-requires Inv-loop μ-loop
-tally-requires c κs = let r = room (c .before) in ((omega (arith, r .inImage, c .before .before .before .before .loop .inv .0), r .pendingFew), (c .before .before .before .before .loop .inv .2 .choices, r .productFew))
+tally-requires c κs =
+    let loop = c .before .before .before .before .loop in
+    let r = room (c .before) in ((omega (arith, r .inImage, loop .inv .0), r .pendingFew), (loop .inv .2 .choices, r .productFew))
 
 add-at : tie.Need-add-at Inv-loop μ-loop
 add-at c = omega (arith, room (c .before .before .before .before .before) .inTape)
@@ -74,9 +76,10 @@ loop-less c = let r = room (c .before .before .before .before .before) in omega 
 
 loop-again : tie.Need-loop-again Inv-loop μ-loop
 loop-again c =
+    let tally = c .before .before .before .tally in
     let l = c .before .before .before .before .before .before .before .before .loop in
     let r = room (c .before .before .before .before .before) in
-    (omega (arith, c .before .before .before .tally .kept .0, l .inv .0), simp length-set (l .inv .1), walk-next _ _ _ _ _ _ _ _ _ (l .inv .2) (inside (c .before .before .before .before .before .before)) _ (met (c .before .before .before .before .before)) _ _ (c .before .before .before .before .before .before .before .loop-test .taken) (r .inTape) (omega (arith, r .another, l .inv .1)) (c .before .before .before .tally .ensures .1) (c .before .before .before .tally .ensures .0))
+    (omega (arith, tally .kept .0, l .inv .0), simp length-set (l .inv .1), walk-next _ _ _ _ _ _ _ _ _ (l .inv .2) (inside (c .before .before .before .before .before .before)) _ (met (c .before .before .before .before .before)) _ _ (c .before .before .before .before .before .before .before .loop-test .taken) (r .inTape) (omega (arith, r .another, l .inv .1)) (tally .ensures .1) (tally .ensures .0))
 
 same-length-3 : tie.Need-same-length-3 Inv-loop μ-loop
 same-length-3 c = c .before .loop .inv .0

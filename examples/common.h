@@ -17,7 +17,8 @@ static inline const char *words_of(uint8_t number)
         "the key is out of range", "the value is too long", "the key is there already",
         "the key is not there", "a 29th leaf is needed", "too few pages are free",
         "more than 15 headers change", "the tape is too short", "the tape is malformed",
-        "the cut is past the tape's end", "the choices have a wrong length"};
+        "the cut is past the tape's end", "the choices have a wrong length",
+        "the tape has more than 12 commands", "there is no cut of this number"};
     return number < sizeof words / sizeof *words ? words[number] : "no answer of the store";
 }
 

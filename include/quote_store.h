@@ -35,10 +35,11 @@
  *   the buffers afterwards are what the call's definition says; it reads and
  *   writes nothing else, and ends. Proved of the definitions: an accepted
  *   transaction makes exactly its edits, a preview shows the value that the
- *   table would hold after them, and no power failure leaves half of a
- *   transaction. docs/STATEMENTS.md has all of it. So each size, limit, kind,
- *   place and refusal below is one that the proofs speak of; that this file
- *   copies them right is tested (wrapper/c).
+ *   table would hold after them, no power failure leaves half of a transaction,
+ *   and of a small tape quote_nth_cut gives every cut, in order and none twice.
+ *   docs/STATEMENTS.md has all of it. So each size, limit, kind, place and refusal
+ *   below is one that the proofs speak of; that this file copies them right is
+ *   tested (wrapper/c).
  *   Not proved: QUOTE_TAPE_SIZE and the two sizes of a recovery's tape, which are
  *   argued below and tested, and the stack that a call takes, which is tested.
  *
@@ -52,8 +53,9 @@
  *   then holds what `work` does; if it is a copy, `work` is the next one. After
  *   a power failure the program calls quote_recover and does the same. Before a
  *   transaction, quote_preview shows what its edits would make of a quote.
- *   examples/quote.c and examples/crash.c are such programs; docs/USING.md says
- *   how long a call takes, and what to do when a store is full or damaged.
+ *   examples/quote.c and examples/crash.c are such programs; examples/all_cuts.c
+ *   tries every cut of a transaction. docs/USING.md says how long a call takes, and
+ *   what to do when a store is full or damaged.
  *
  * Which memory
  *   quote_transaction and quote_recover are for memory that writes a line of 64
@@ -157,6 +159,11 @@ enum quote_command {
 /* The length of `choices` for an image of so many pages: one byte a line. */
 #define QUOTE_CHOICES_SIZE(pages) ((size_t)(pages) * 16)
 
+/* The most commands of a tape whose cuts are counted and given; and the most cuts
+ * that such a tape has: 12 stores to 12 lines have so many. */
+#define QUOTE_MOST_CUT_COMMANDS 12
+#define QUOTE_MOST_CUTS 8191
+
 /* Why a call says no. */
 enum quote_answer {
     QUOTE_ACCEPTED = 0,
@@ -175,7 +182,9 @@ enum quote_answer {
     QUOTE_TAPE_SHORT = 13,      /* the tape has too few bytes */
     QUOTE_BAD_TAPE = 14,        /* the tape has a malformed command, or a place outside the image */
     QUOTE_PAST_END = 15,        /* the cut comes after more commands than the tape has */
-    QUOTE_BAD_CHOICES = 16      /* the choices are not one byte a line */
+    QUOTE_BAD_CHOICES = 16,     /* the choices are not one byte a line */
+    QUOTE_LONG_TAPE = 17,       /* the tape has more than 12 commands */
+    QUOTE_NO_SUCH_CUT = 18      /* the cut's number is not below the number of cuts */
 };
 
 /* Where a transaction commits. */
@@ -223,6 +232,14 @@ enum quote_recover_answer {
     QUOTE_RECOVER_BYTES,   /* of the tape that are used */
     QUOTE_RECOVER_FLUSHES, /* among the commands */
     QUOTE_RECOVER_NUMBERS
+};
+enum quote_count_cuts_answer {
+    QUOTE_COUNT_CUTS_CUTS, /* of the tape */
+    QUOTE_COUNT_CUTS_NUMBERS
+};
+enum quote_nth_cut_answer {
+    QUOTE_NTH_CUT_COMMANDS, /* before the cut: the c of quote_cut */
+    QUOTE_NTH_CUT_NUMBERS
 };
 
 /*
@@ -399,6 +416,41 @@ uint8_t quote_run(const uint8_t *image, size_t image_length, uint8_t *work,
 uint8_t quote_cut(const uint8_t *image, size_t image_length, uint8_t *work,
                   size_t work_length, const uint8_t *tape, size_t tape_length,
                   size_t c, const uint8_t *choices, size_t choices_length);
+
+/*
+ * Count cuts: how many cuts a tape of at most 12 commands has (document 02 (e)). A
+ * cut is a count c of commands and a choice for each line, which is not above the
+ * line's pending stores: of the first c commands, the stores to it after its last
+ * flush. The call looks at nothing of the image but its length.
+ *   image   read.
+ *   tape    read, whole, as in quote_run.
+ *   answer  one number: how many cuts there are, 1 to QUOTE_MOST_CUTS. Refused: as
+ *           it was.
+ *   refuses IMAGE_SIZE_WRONG; BAD_TAPE; LONG_TAPE.
+ */
+uint8_t quote_count_cuts(const uint8_t *image, size_t image_length,
+                         const uint8_t *tape, size_t tape_length,
+                         uint64_t *answer, size_t answer_length);
+
+/*
+ * Nth cut: cut number r of the same tape, from 0, ready for quote_cut. Cuts rise by
+ * the count of commands, then by the choice bytes compared line by line, line 0
+ * first. Every cut is given and none twice, though two may leave the same image.
+ * Whatever quote_cut leaves of the tape, for any c and choices, it leaves for one
+ * of these.
+ *   image   read, as in quote_count_cuts.
+ *   tape    read, whole, as in quote_run.
+ *   choices a byte for each line of the image (QUOTE_CHOICES_SIZE). Accepted: the
+ *           cut's choices, all of them, 0 for a line without pending stores.
+ *           Refused: as it was.
+ *   answer  one number: the count of commands. Refused: as it was.
+ *   refuses IMAGE_SIZE_WRONG; BAD_TAPE; LONG_TAPE; BAD_CHOICES; NO_SUCH_CUT if r is
+ *           not below the number of cuts, so that r may be raised until then.
+ */
+uint8_t quote_nth_cut(const uint8_t *image, size_t image_length,
+                      const uint8_t *tape, size_t tape_length, size_t r,
+                      uint8_t *choices, size_t choices_length, uint64_t *answer,
+                      size_t answer_length);
 
 #ifdef __cplusplus
 }

@@ -1,9 +1,9 @@
 //! Run and cut: the check that the three agree, and their rows.
 
+use bench::measure::timed;
 use bench::{lean, measure};
 use cases::random::Random;
 use cases::tapes::{any_call, commands, DeviceCall, Mix};
-use std::hint::black_box;
 
 const SEED: u64 = 20_240_602;
 const CHECKED: usize = 20_000;
@@ -144,9 +144,4 @@ fn medians(ways: [Way; 3], call: &DeviceCall) -> [f64; 3] {
         &mut || timed(ways[1], proved),
         &mut || timed(ways[2], reference),
     ])
-}
-
-fn timed(way: Way, call: &mut DeviceCall) {
-    let answer = way(black_box(call));
-    assert_eq!(answer, 0, "a timed call was refused");
 }

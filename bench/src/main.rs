@@ -2,6 +2,7 @@
 //! optimised by hand and not verified: the floor of cost when nothing is
 //! wasted. All three must first agree on random calls.
 
+mod cuts;
 mod device;
 mod image;
 mod preview;
@@ -11,6 +12,7 @@ use bench::measure;
 
 fn main() {
     device::check();
+    cuts::check();
     image::check();
     preview::check();
     transaction::check();
@@ -21,6 +23,7 @@ fn main() {
     );
     println!("the three taking turns; all buffers warm, work not cleared before a call.");
     device::measure();
+    cuts::measure();
     image::measure();
     preview::measure();
     transaction::measure();

@@ -1,5 +1,6 @@
 //! Medians of interleaved repetitions, and the table's rows.
 
+use std::hint::black_box;
 use std::time::Instant;
 
 pub const REPETITIONS: usize = 301;
@@ -27,6 +28,12 @@ pub fn agreed<C: Clone + PartialEq>(
         "proved and reference differ on call {which}, seed {seed}"
     );
     reference
+}
+
+/// Makes a call whose time is taken.
+pub fn timed<C>(way: fn(&mut C) -> u8, call: &mut C) {
+    let answer = way(black_box(call));
+    assert_eq!(answer, 0, "a timed call was refused");
 }
 
 /// Gives work another place, if a copy of the image to it would be slow there.

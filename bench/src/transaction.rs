@@ -1,6 +1,7 @@
 //! Transaction and recovery: the check that the three agree, and their rows.
 
 use bench::books::{book, delete, insert, key, neighbours, one, spread, update, updates};
+use bench::measure::timed;
 use bench::{lean, measure};
 use cases::images::Built;
 use cases::lists::any_list;
@@ -12,7 +13,6 @@ use reference::image::table;
 use reference::numbers::{of_recovery, of_transaction};
 use reference::recovery::recover_words;
 use reference::transaction::transaction_words;
-use std::hint::black_box;
 
 const SEED: u64 = 20_240_607;
 const CHECKED: usize = 30_000;
@@ -307,9 +307,4 @@ fn placed<const N: usize>(mut calls: [Call; N]) -> [Call; N] {
         measure::place_apart(&call.image, &mut call.work);
     }
     calls
-}
-
-fn timed(way: Way, call: &mut Call) {
-    let answer = way(black_box(call));
-    assert_eq!(answer, 0, "a timed call was refused");
 }

@@ -630,6 +630,115 @@ static void cut_keeps_what_was_flushed(void)
     give_back(choices);
 }
 
+static uint8_t nth_cut(struct bytes image, struct bytes tape, size_t r, struct bytes choices,
+                       uint64_t *answer, size_t numbers)
+{
+    return quote_nth_cut(image.at, image.length, tape.at, tape.length, r, choices.at,
+                         choices.length, answer, numbers);
+}
+
+/* A store to word 0 of each of the first lines. */
+static struct bytes stores_to_lines(size_t lines)
+{
+    struct bytes tape = lend_filled(12 * lines, 'w');
+    for (size_t line = 0; line < lines; line += 1) {
+        const uint8_t head[] = {QUOTE_WORD_STORE, 0, (uint8_t)(8 * line), 0};
+        memcpy(tape.at + 12 * line, head, QUOTE_COMMAND_HEAD);
+    }
+    return tape;
+}
+
+/* Line 1 stored to twice, then line 0, then line 1 flushed: all cuts, as the count
+ * of commands and the choices of these two lines. */
+static const uint64_t cuts_by_hand[][3] = {
+    {0, 0, 0}, {1, 0, 0}, {1, 0, 1}, {2, 0, 0}, {2, 0, 1}, {2, 0, 2}, {3, 0, 0},
+    {3, 0, 1}, {3, 0, 2}, {3, 1, 0}, {3, 1, 1}, {3, 1, 2}, {4, 0, 0}, {4, 1, 0}};
+
+static void cuts_are_given_in_order(void)
+{
+    static const char text[] = "\1\0\10\0aaaaaaaa\1\0\17\0bbbbbbbb\1\0\0\0cccccccc\3\0\1\0";
+    size_t number = sizeof cuts_by_hand / sizeof *cuts_by_hand;
+    uint64_t answer[2] = {7, 7};
+    struct bytes image = lend_filled(8192, 1), work = lend(8192), choices = lend_filled(128, 77);
+    struct bytes tape = lend_copy((const uint8_t *)text, 40);
+    EXPECT(quote_count_cuts(image.at, 8192, tape.at, 40, answer, 0) == QUOTE_ACCEPTED);
+    EXPECT(answer[0] == 7);
+    EXPECT(quote_count_cuts(image.at, 8192, tape.at, 40, answer, 2) == QUOTE_ACCEPTED);
+    EXPECT(answer[QUOTE_COUNT_CUTS_CUTS] == number && answer[QUOTE_COUNT_CUTS_NUMBERS] == 7);
+    for (size_t r = 0; r < number; r += 1) {
+        EXPECT(nth_cut(image, tape, r, choices, answer, 2) == QUOTE_ACCEPTED);
+        EXPECT(answer[QUOTE_NTH_CUT_COMMANDS] == cuts_by_hand[r][0]);
+        EXPECT(choices.at[0] == cuts_by_hand[r][1] && choices.at[1] == cuts_by_hand[r][2]);
+        struct bytes others = {choices.at + 2, 126};
+        EXPECT(all_are(others, 0) && answer[QUOTE_NTH_CUT_NUMBERS] == 7);
+        EXPECT(quote_cut(image.at, 8192, work.at, 8192, tape.at, 40, answer[0], choices.at,
+                         128) == QUOTE_ACCEPTED);
+        memset(choices.at, 77, 128);
+    }
+    EXPECT(nth_cut(image, tape, number, choices, answer, 2) == QUOTE_NO_SUCH_CUT);
+    EXPECT(answer[0] == 4 && all_are(choices, 77));
+    EXPECT(nth_cut(image, tape, 0, choices, answer, 0) == QUOTE_ACCEPTED);
+    EXPECT(answer[0] == 4 && all_are(choices, 0));
+    give_back(image);
+    give_back(work);
+    give_back(choices);
+    give_back(tape);
+}
+
+/* The most that there are, on the smallest image and the largest; one command more
+ * is refused. */
+static void most_cuts(size_t pages)
+{
+    uint64_t answer[1] = {7};
+    struct bytes image = lend_filled(QUOTE_IMAGE_SIZE(pages), 1);
+    struct bytes choices = lend(QUOTE_CHOICES_SIZE(pages));
+    struct bytes tape = stores_to_lines(QUOTE_MOST_CUT_COMMANDS);
+    struct bytes longer = stores_to_lines(QUOTE_MOST_CUT_COMMANDS + 1);
+    EXPECT(quote_count_cuts(image.at, image.length, tape.at, tape.length, answer, 1) ==
+           QUOTE_ACCEPTED);
+    EXPECT(answer[QUOTE_COUNT_CUTS_CUTS] == QUOTE_MOST_CUTS);
+    EXPECT(nth_cut(image, tape, QUOTE_MOST_CUTS - 1, choices, answer, 1) == QUOTE_ACCEPTED);
+    EXPECT(answer[QUOTE_NTH_CUT_COMMANDS] == QUOTE_MOST_CUT_COMMANDS);
+    for (size_t line = 0; line < choices.length; line += 1)
+        EXPECT(choices.at[line] == (line < QUOTE_MOST_CUT_COMMANDS));
+    EXPECT(nth_cut(image, tape, QUOTE_MOST_CUTS, choices, answer, 1) == QUOTE_NO_SUCH_CUT);
+    EXPECT(nth_cut(image, longer, 0, choices, answer, 1) == QUOTE_LONG_TAPE);
+    EXPECT(quote_count_cuts(image.at, image.length, longer.at, longer.length, answer, 1) ==
+           QUOTE_LONG_TAPE);
+    give_back(image);
+    give_back(choices);
+    give_back(tape);
+    give_back(longer);
+}
+
+/* Each ground for a refusal before those after it; answer and choices stay. */
+static void cuts_are_refused(void)
+{
+    uint64_t answer[1] = {7};
+    struct bytes image = lend_filled(8192, 1), choices = lend_filled(127, 77);
+    struct bytes tape = stores_to_lines(13);
+#define COUNT quote_count_cuts(image.at, image.length, tape.at, tape.length, answer, 1)
+#define LAST nth_cut(image, tape, SIZE_MAX, choices, answer, 1)
+    tape.at[12 * 12 + 3] = 4; /* word 1,024 + 96 of the last command: outside */
+    image.length -= 1;
+    EXPECT(COUNT == QUOTE_IMAGE_SIZE_WRONG && LAST == QUOTE_IMAGE_SIZE_WRONG);
+    image.length += 1;
+    EXPECT(COUNT == QUOTE_BAD_TAPE && LAST == QUOTE_BAD_TAPE);
+    tape.at[12 * 12 + 3] = 0;
+    EXPECT(COUNT == QUOTE_LONG_TAPE && LAST == QUOTE_LONG_TAPE);
+    tape.length -= 1;
+    EXPECT(COUNT == QUOTE_BAD_TAPE && LAST == QUOTE_BAD_TAPE);
+    EXPECT(answer[0] == 7);
+    tape.length -= 11;
+    EXPECT(COUNT == QUOTE_ACCEPTED && LAST == QUOTE_BAD_CHOICES);
+    EXPECT(answer[QUOTE_COUNT_CUTS_CUTS] == QUOTE_MOST_CUTS && all_are(choices, 77));
+#undef COUNT
+#undef LAST
+    give_back(image);
+    give_back(choices);
+    give_back(tape);
+}
+
 int main(void)
 {
     format_refuses_other_lengths();
@@ -656,6 +765,10 @@ int main(void)
     }
     run_carries_out();
     cut_keeps_what_was_flushed();
+    cuts_are_given_in_order();
+    most_cuts(QUOTE_LEAST_PAGES);
+    most_cuts(QUOTE_MOST_PAGES);
+    cuts_are_refused();
     puts("calls: every call answers as its header says");
     return 0;
 }

@@ -62,14 +62,16 @@ static struct bytes any_image(struct bytes store)
 #define RECOVER_SAYS (SIZES_SAY | BIT(QUOTE_UNSOUND) | BIT(QUOTE_TAPE_SHORT))
 #define RUN_SAYS (SIZES_SAY | BIT(QUOTE_BAD_TAPE))
 #define CUT_SAYS (RUN_SAYS | BIT(QUOTE_PAST_END) | BIT(QUOTE_BAD_CHOICES))
+#define COUNT_CUTS_SAYS (FORMAT_SAYS | BIT(QUOTE_BAD_TAPE) | BIT(QUOTE_LONG_TAPE))
+#define NTH_CUT_SAYS (COUNT_CUTS_SAYS | BIT(QUOTE_BAD_CHOICES) | BIT(QUOTE_NO_SUCH_CUT))
 
-/* The answers that came, of all calls together and of previews; and where the
- * values were that these showed. */
-static unsigned came = 0, previews = 0, places = 0;
+/* The answers that came, of all calls together, of previews and of nth cuts; and
+ * where the values were that previews showed. */
+static unsigned came = 0, previews = 0, nth_cuts = 0, places = 0;
 
 static void expect_known(uint8_t number, unsigned known)
 {
-    EXPECT(number <= QUOTE_BAD_CHOICES && (known & BIT(number)) != 0);
+    EXPECT(number <= QUOTE_NO_SUCH_CUT && (known & BIT(number)) != 0);
     came |= BIT(number);
 }
 
@@ -98,16 +100,54 @@ static void transaction_and_recovery(transaction_call *transaction, recover_call
     give_back(tape);
 }
 
+/* Noise, or up to 14 good commands in lines 0 to 7. */
+static struct bytes any_tape(void)
+{
+    uint8_t room[14 * (QUOTE_COMMAND_HEAD + QUOTE_WORD_SIZE)] = {0}, *end = room;
+    if (below(2) == 0)
+        return noise(below(3) == 0 ? below(100) : 4 * below(3));
+    for (size_t i = below(15); i > 0; i -= 1) {
+        int flush = below(3) == 0;
+        end[0] = flush ? QUOTE_FLUSH : QUOTE_WORD_STORE;
+        end[2] = (uint8_t)below(flush ? 8 : 64);
+        end += QUOTE_COMMAND_HEAD + (flush ? 0 : QUOTE_WORD_SIZE);
+    }
+    return lend_copy(room, (size_t)(end - room));
+}
+
+/* A cut that is given is one that quote_cut takes. */
+static void all_cuts(struct bytes image, struct bytes tape, struct bytes choices)
+{
+    size_t numbers = below(3), r = below(9) == 0 ? SIZE_MAX - below(3) : below(60);
+    uint64_t *answer = (uint64_t *)malloc(8 * numbers);
+    expect_known(quote_count_cuts(image.at, image.length, tape.at, tape.length, answer, numbers),
+                 COUNT_CUTS_SAYS);
+    uint8_t number = quote_nth_cut(image.at, image.length, tape.at, tape.length, r, choices.at,
+                                   choices.length, answer, numbers);
+    expect_known(number, NTH_CUT_SAYS);
+    nth_cuts |= BIT(number);
+    if (number == QUOTE_ACCEPTED && numbers > 0) {
+        struct bytes work = lend(image.length);
+        EXPECT(answer[QUOTE_NTH_CUT_COMMANDS] <= QUOTE_MOST_CUT_COMMANDS);
+        EXPECT(quote_cut(image.at, image.length, work.at, work.length, tape.at, tape.length,
+                         answer[QUOTE_NTH_CUT_COMMANDS], choices.at,
+                         choices.length) == QUOTE_ACCEPTED);
+        give_back(work);
+    }
+    free(answer);
+}
+
 static void device(struct bytes image)
 {
     struct bytes work = lend(below(12) == 0 ? below(9000) : image.length);
-    struct bytes tape = noise(below(3) == 0 ? below(100) : 4 * below(3));
+    struct bytes tape = any_tape();
     struct bytes choices = noise(below(6) == 0 ? below(200) : image.length / 64);
     expect_known(quote_run(image.at, image.length, work.at, work.length, tape.at, tape.length),
                  RUN_SAYS);
     expect_known(quote_cut(image.at, image.length, work.at, work.length, tape.at, tape.length,
                            below(4), choices.at, choices.length),
                  CUT_SAYS);
+    all_cuts(image, tape, choices);
     give_back(work);
     give_back(tape);
     give_back(choices);
@@ -158,13 +198,13 @@ static void looking(struct bytes image)
 static void every_answer_came(void)
 {
     printf("fuzz: %d rounds, seed %d; answers that came:", ROUNDS, SEED);
-    for (int number = 0; number <= QUOTE_BAD_CHOICES; number += 1)
+    for (int number = 0; number <= QUOTE_NO_SUCH_CUT; number += 1)
         if (came & BIT(number))
             printf(" %d", number);
     puts("");
     /* Stores of 12 pages have neither 28 leaves nor 16 headers to change. */
-    EXPECT((came | BIT(QUOTE_INDEX_FULL) | BIT(QUOTE_LOG_FULL)) == BIT(QUOTE_BAD_CHOICES + 1) - 1);
-    EXPECT(previews == PREVIEW_SAYS);
+    EXPECT((came | BIT(QUOTE_INDEX_FULL) | BIT(QUOTE_LOG_FULL)) == BIT(QUOTE_NO_SUCH_CUT + 1) - 1);
+    EXPECT(previews == PREVIEW_SAYS && nth_cuts == NTH_CUT_SAYS);
     EXPECT(places == (BIT(QUOTE_NOWHERE) | BIT(QUOTE_IN_LIST) | BIT(QUOTE_IN_IMAGE)));
 }
 

@@ -10,8 +10,12 @@
 //! bytes whole ([`Device::Lines`](crate::Device::Lines)), [`transaction_words`]
 //! and [`recover_words`] for one that writes only words of 8 bytes whole
 //! ([`Device::Words`](crate::Device::Words)). The other calls are for both.
+//!
+//! [`run`] and [`cut`] are a device, simulated; [`count_cuts`] and [`nth_cut`] give
+//! every cut of a small tape. [`cuts`], which goes through them by these two, is no
+//! call of the library: it allocates the choices of each.
 
-use crate::{Commit, Preview, Recovery, Refusal};
+use crate::{Commit, Cuts, Preview, Recovery, Refusal};
 use quote_store_sys as sys;
 use std::ops::Range;
 
@@ -19,7 +23,7 @@ use std::ops::Range;
 fn judged(number: u8, edit: u64) -> Result<(), Refusal> {
     match number {
         0 => Ok(()),
-        _ => Err(Refusal::of(number, edit as usize).expect("refusals are 1 to 16")),
+        _ => Err(Refusal::of(number, edit as usize).expect("refusals are 1 to 18")),
     }
 }
 
@@ -444,4 +448,100 @@ pub fn cut(
         )
     };
     judged(number, 0)
+}
+
+/// How many cuts a tape has, of at most
+/// [`MOST_CUT_COMMANDS`](crate::MOST_CUT_COMMANDS) commands. A cut is a count of
+/// commands and a choice for each line, which is not above the line's pending
+/// stores: those since its last flush. Of the image only the length matters.
+///
+/// ```
+/// use quote_store::{calls, Refusal};
+///
+/// let image = [0; 8192];
+/// let store_word_2 = [1, 0, 2, 0, 11, 12, 13, 14, 15, 16, 17, 18];
+/// // Before the store; after it, where line 0 keeps none, or one.
+/// assert_eq!(calls::count_cuts(&image, &store_word_2), Ok(3));
+/// assert_eq!(calls::count_cuts(&image, &[]), Ok(1));
+/// assert_eq!(calls::count_cuts(&image, &store_word_2.repeat(13)), Err(Refusal::LongTape));
+/// ```
+pub fn count_cuts(image: &[u8], tape: &[u8]) -> Result<usize, Refusal> {
+    let mut answer = [0; 1];
+    // Sound: each pointer is lent with its own length; image and tape are only
+    // read.
+    let number = unsafe {
+        sys::quote_count_cuts(
+            image.as_ptr(),
+            image.len(),
+            tape.as_ptr(),
+            tape.len(),
+            answer.as_mut_ptr(),
+            answer.len(),
+        )
+    };
+    judged(number, 0)?;
+    Ok(answer[0] as usize)
+}
+
+/// Cut number r of the same tape, from 0: the count of commands, and in `choices`
+/// those of the lines, ready for [`cut`]. Cuts rise by the count of commands, then
+/// by the choices compared line by line, line 0 first. Every one is given and none
+/// twice; what [`cut`] leaves of the tape for any other choices, it leaves for one of
+/// these too. `r` may be raised until [`Refusal::NoSuchCut`]; [`cuts`] does so.
+///
+/// ```
+/// use quote_store::{calls, Refusal};
+///
+/// let (image, mut choices) = ([0; 8192], [9; 128]);
+/// let store_word_2 = [1, 0, 2, 0, 11, 12, 13, 14, 15, 16, 17, 18];
+/// assert_eq!(calls::nth_cut(&image, &store_word_2, 2, &mut choices), Ok(1));
+/// assert_eq!((choices[0], &choices[1..]), (1, &[0; 127][..]));
+/// let none = calls::nth_cut(&image, &store_word_2, 3, &mut choices);
+/// assert_eq!(none, Err(Refusal::NoSuchCut));
+/// ```
+pub fn nth_cut(image: &[u8], tape: &[u8], r: usize, choices: &mut [u8]) -> Result<usize, Refusal> {
+    let mut answer = [0; 1];
+    // Sound: each pointer is lent with its own length; image and tape are only
+    // read, and choices overlap no other buffer.
+    let number = unsafe {
+        sys::quote_nth_cut(
+            image.as_ptr(),
+            image.len(),
+            tape.as_ptr(),
+            tape.len(),
+            r,
+            choices.as_mut_ptr(),
+            choices.len(),
+            answer.as_mut_ptr(),
+            answer.len(),
+        )
+    };
+    judged(number, 0)?;
+    Ok(answer[0] as usize)
+}
+
+/// Every cut of such a tape, in order, by [`count_cuts`] and [`nth_cut`].
+///
+/// ```
+/// use quote_store::{calls, Edit, Store};
+///
+/// let mut store = Store::fresh(8)?;
+/// let before = store.image().to_vec();
+/// store.apply(&[Edit::Insert { key: 101, value: b"101.25" }])?;
+/// let tape = store.take_tape();
+///
+/// // Wherever the power fails, the quote is there or it is not.
+/// let (mut device, mut times) = (before.clone(), [0, 0]);
+/// for cut in calls::cuts(&before, &tape)? {
+///     calls::cut(&before, &mut device, &tape, cut.commands, &cut.choices)?;
+///     let found = Store::open(&device)?;
+///     let there = found.get(101) == Some(&b"101.25"[..]);
+///     assert!(there || found.iter().count() == 0);
+///     times[usize::from(there)] += 1;
+/// }
+/// assert_eq!(times, [12, 2]);
+/// # Ok::<(), quote_store::Refusal>(())
+/// ```
+pub fn cuts<'a>(image: &'a [u8], tape: &'a [u8]) -> Result<Cuts<'a>, Refusal> {
+    Cuts::of(image, tape)
 }

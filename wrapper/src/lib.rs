@@ -6,6 +6,8 @@
 //! [`calls`] has each call of the proved library on buffers that the program
 //! lends, for a program whose image is the persistent memory itself.
 //! [`Device`] says what the memory writes whole, a line or only a word.
+//! [`calls::cuts`] is for tests: every way in which a power failure may cut a
+//! small tape.
 //! docs/USING.md in the repository says what a device must do with the commands
 //! and how long calls take; its README has the limits and the words.
 //!
@@ -58,6 +60,7 @@
 
 pub mod calls;
 mod commit;
+mod cuts;
 mod device;
 mod edit;
 mod preview;
@@ -65,6 +68,7 @@ mod refusal;
 mod store;
 
 pub use commit::{Commit, CommitPlace, Recovery};
+pub use cuts::{Cut, Cuts};
 pub use device::Device;
 pub use edit::{encode, Edit};
 pub use preview::Preview;
@@ -133,3 +137,18 @@ pub const fn tape_length(image_length: usize) -> usize {
 /// # Ok::<(), quote_store::Refusal>(())
 /// ```
 pub const LINE: usize = 64;
+
+/// The most commands of a tape whose cuts [`calls::count_cuts`] counts and
+/// [`calls::nth_cut`] gives; it then has 8,191 cuts at most.
+///
+/// ```
+/// use quote_store::{calls, Refusal, MOST_CUT_COMMANDS, PAGE};
+///
+/// let image = [0; 8 * PAGE];
+/// let flush_line_0 = [3, 0, 0, 0];
+/// let most = flush_line_0.repeat(MOST_CUT_COMMANDS);
+/// assert_eq!(calls::count_cuts(&image, &most), Ok(13));
+/// let more = [&most[..], &flush_line_0].concat();
+/// assert_eq!(calls::count_cuts(&image, &more), Err(Refusal::LongTape));
+/// ```
+pub const MOST_CUT_COMMANDS: usize = 12;

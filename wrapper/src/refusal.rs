@@ -65,6 +65,11 @@ pub enum Refusal {
     PastEnd,
     /// 16: the choices are not one byte for each line of the image.
     BadChoices,
+    /// 17: the tape has more than [`MOST_CUT_COMMANDS`](crate::MOST_CUT_COMMANDS)
+    /// commands, too many for all of its cuts to be given.
+    LongTape,
+    /// 18: the cut's number is not below the number of cuts.
+    NoSuchCut,
 }
 
 impl Refusal {
@@ -75,7 +80,7 @@ impl Refusal {
     ///
     /// assert_eq!(Refusal::of(8, 3), Some(Refusal::KeyPresent { edit: 3 }));
     /// assert_eq!(Refusal::of(13, 0), Some(Refusal::TapeShort));
-    /// assert_eq!(Refusal::of(17, 0), None);
+    /// assert_eq!(Refusal::of(19, 0), None);
     /// ```
     pub fn of(number: u8, edit: usize) -> Option<Refusal> {
         Some(match number {
@@ -95,11 +100,13 @@ impl Refusal {
             14 => Refusal::BadTape,
             15 => Refusal::PastEnd,
             16 => Refusal::BadChoices,
+            17 => Refusal::LongTape,
+            18 => Refusal::NoSuchCut,
             _ => return None,
         })
     }
 
-    /// Document 01's number, 1 to 16.
+    /// Its number in documents 01 and 02, 1 to 18.
     ///
     /// ```
     /// assert_eq!(quote_store::Refusal::Unsound.number(), 4);
@@ -122,6 +129,8 @@ impl Refusal {
             Refusal::BadTape => 14,
             Refusal::PastEnd => 15,
             Refusal::BadChoices => 16,
+            Refusal::LongTape => 17,
+            Refusal::NoSuchCut => 18,
         }
     }
 
@@ -174,6 +183,8 @@ impl Refusal {
             Refusal::BadTape => "the tape has a malformed command or a place outside the image",
             Refusal::PastEnd => "the cut comes after more commands than the tape has",
             Refusal::BadChoices => "the choices are not one byte for each line of the image",
+            Refusal::LongTape => "the tape has more than 12 commands",
+            Refusal::NoSuchCut => "the cut's number is not below the number of cuts",
         }
     }
 }

@@ -274,7 +274,7 @@ fn unsound_images_are_refused() {
 #[test]
 fn every_refusal_says_why() {
     let mut words = std::collections::BTreeSet::new();
-    for number in 1..=16 {
+    for number in 1..=18 {
         let refusal = Refusal::of(number, 3).unwrap();
         let names_edit = (5..=11).contains(&number);
         assert_eq!(refusal.number(), number);
@@ -282,5 +282,5 @@ fn every_refusal_says_why() {
         assert_eq!(refusal.to_string().starts_with("edit 3: "), names_edit);
         assert!(words.insert(refusal.to_string()));
     }
-    assert_eq!((Refusal::of(0, 0), Refusal::of(17, 0)), (None, None));
+    assert_eq!((Refusal::of(0, 0), Refusal::of(19, 0)), (None, None));
 }

@@ -9,7 +9,7 @@ use std::mem::MaybeUninit;
 use std::ptr::copy_nonoverlapping;
 
 /// The most lines of an image.
-const LINES: usize = 1024;
+pub(super) const LINES: usize = 1024;
 
 pub fn run(image: &[u8], work: &mut [u8], tape: &[u8]) -> u8 {
     let length = image.len();
@@ -89,7 +89,7 @@ unsafe fn cut_lines(image: &[u8], work: &mut [u8], tape: &[u8], c: usize, choice
 /// Whether all commands from `at` to `end` are good. Calls `each` with every
 /// command's line and 1 if it is a store, 0 if it is a flush.
 #[inline(always)]
-unsafe fn judge(
+pub(super) unsafe fn judge(
     mut at: *const u8,
     end: *const u8,
     length: usize,

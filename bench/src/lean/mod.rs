@@ -2,6 +2,7 @@
 //! number (0 is accepted) and the same buffers as the proved one.
 
 mod commit;
+pub mod cuts;
 pub mod device;
 mod edits;
 pub mod image;

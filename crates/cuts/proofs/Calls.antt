@@ -17,7 +17,7 @@ use Rattle.device.proofs.Calls.{image-size-le}
 use Rattle.cuts.specs.All.{cuts}
 use Rattle.cuts.specs.Calls.{unless, mostCommands, smallTape, cutsOf, countCall, nthOf, Given, withCut, nthCall}
 use Rattle.cuts.specs.Products.{cutsOver}
-use Rattle.cuts.specs.Says.{Small, NotSmall, bad-size, bad-tape, long-tape, CountSays, count-refused, count-given, NthSays, nth-refused, bad-choices, no-such-cut, nth-given, Listed}
+use Rattle.cuts.specs.Says.{Small, NotSmall, bad-size, bad-tape, long-tape, CountSays, count-refused, count-given, NthSays, nth-refused, bad-choices, no-such-cut, nth-given}
 use Rattle.cuts.specs.declared.Counted.{Counted}
 use Rattle.cuts.specs.declared.Counted.the-variants.{Number, Refused}
 use Rattle.cuts.proofs.Listed.{listed-some}

@@ -1,10 +1,10 @@
 -- The choices for lines with so many pending stores: as many as the product of the lines' numbers, each at its own place, rising.
 -- Assumes nothing.
-use Prim.Native.Nat.{ℕ, zero, suc, _+_, _*_, _/_, _%_, _≤_, _<_}
+use Prim.Native.Nat.{ℕ, zero, suc, _+_, _*_, _≤_, _<_}
 use mathlib.Core.Path.{_≡_, refl, sym, ap, _∙_}
 use mathlib.Core.List.{List, [], _∷_}
 use native.Mathlib.Omega.{arith}
-use native.Mathlib.Nat.{mul-assoc, mul-left-comm, mul-le-mul-right, suc-mul, add-mul, one-mul, zero-add, le-of-suc-le-suc, not-suc-le-zero, mul-pos}
+use native.Mathlib.Nat.{mul-left-comm, mul-le-mul-right, suc-mul, one-mul, zero-add, le-of-suc-le-suc, not-suc-le-zero, mul-pos}
 use lib.ListN.{length, getD, set}
 use lib.Seq.{set-getD}
 use Rattle.codec.specs.Lists.{All}

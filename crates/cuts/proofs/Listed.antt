@@ -1,9 +1,9 @@
 -- The list of all cuts: every cut is in it, nothing else is, none twice, and they rise.
 -- Assumes nothing.
-use Prim.Native.Nat.{ℕ, zero, suc, _+_, _^_, _≤_, _<_}
-use mathlib.Core.Path.{_≡_, refl, sym, ap, _∙_, subst}
+use Prim.Native.Nat.{ℕ, suc, _+_, _^_, _≤_, _<_}
+use mathlib.Core.Path.{_≡_, refl, sym, _∙_, subst}
 use mathlib.Core.Bool.{Bool, true, false}
-use mathlib.Core.Logic.{_⊎_, inl, inr}
+use mathlib.Core.Logic.{inl, inr}
 use mathlib.Core.List.{List, [], _∷_}
 use native.Mathlib.Omega.{arith}
 use native.Mathlib.Nat.{pow-le-pow-right}
@@ -12,10 +12,10 @@ use lib.Dec.{ltb, eqb}
 use borrow.Author.Tests.{ltb-true, ltb-false, eqb-true, eqb-false}
 use Rattle.codec.specs.Lists.{All}
 use Rattle.device.specs.Tape.{Op}
-use Rattle.cuts.specs.All.{pendings, headed, choicesUpTo, choicesAfter, cuts}
+use Rattle.cuts.specs.All.{pendings, headed, choicesAfter, cuts}
 use Rattle.cuts.specs.Says.{IsCut, Before, Stands, Listed}
 use Rattle.cuts.specs.Products.{ways}
-use Rattle.cuts.proofs.Headed.{Rises, all-at, rises-at, headed-at, headed-below, headed-all, headed-rises}
+use Rattle.cuts.proofs.Headed.{all-at, rises-at, headed-at, headed-below, headed-all, headed-rises}
 use Rattle.cuts.proofs.Choices.{Within, choices-rise, choices-within, length-choices, rank, rank-below, rank-at}
 use Rattle.cuts.proofs.Pendings.{length-pendings, getD-pendings, before-bound}
 

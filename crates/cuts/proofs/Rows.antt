@@ -3,7 +3,7 @@
 use Prim.Native.Nat.{ℕ}
 use mathlib.Core.Path.{_≡_, refl}
 use mathlib.Core.List.{List, [], _∷_}
-use Rattle.device.specs.Tape.{Op, store, flush}
+use Rattle.device.specs.Tape.{store, flush}
 use Rattle.device.specs.Cut.{durable, stores, ofLine, settled, pending}
 use Rattle.cuts.specs.All.{pendings, headed, choicesUpTo, cuts}
 

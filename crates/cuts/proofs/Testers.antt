@@ -1,9 +1,9 @@
--- What the list is for: `cut` takes each cut given, and whatever it can leave is left by one of them.
+-- What the list is for: `cut` takes each cut given, every cut is given, and whatever `cut` can leave is left by one of them.
 -- Assumes nothing.
 use Prim.Native.Nat.{ℕ, zero, suc, _/_, _≤_, _<_}
 use mathlib.Core.Path.{_≡_, refl, sym, ap, _∙_, subst}
 use mathlib.Core.Bool.{Bool, true, false}
-use mathlib.Core.Logic.{_⊎_, inl, inr}
+use mathlib.Core.Logic.{inl, inr}
 use mathlib.Core.List.{List, [], _∷_}
 use native.Mathlib.Omega.{arith}
 use native.Mathlib.Nat.{not-suc-le-zero, le-of-suc-le-suc}
@@ -15,12 +15,12 @@ use Rattle.device.specs.Tape.{Op, decode}
 use Rattle.device.specs.Cut.{pending, cutImage}
 use Rattle.device.specs.Calls.{Ran, accepted, cutCall}
 use Rattle.device.specs.declared.Answer.the-variants.{Accepted}
-use Rattle.device.proofs.Calls.{Cuttable, cut-accepts, cut-accepted}
+use Rattle.device.proofs.Calls.{cut-accepts, cut-accepted}
 use Rattle.device.proofs.Pending.{Alike, cut-alike}
-use Rattle.cuts.specs.All.{pendings, cuts}
+use Rattle.cuts.specs.All.{pendings}
 use Rattle.cuts.specs.Calls.{Given, nthCall}
-use Rattle.cuts.specs.Says.{IsCut, Listed, Small, NthSays, nth-refused, bad-choices, no-such-cut, nth-given, Serves}
-use Rattle.cuts.specs.declared.Counted.the-variants.{Number, Refused}
+use Rattle.cuts.specs.Says.{IsCut, Small, NthSays, nth-refused, bad-choices, no-such-cut, nth-given, Gives, Serves}
+use Rattle.cuts.specs.declared.Counted.the-variants.{Number}
 use Rattle.cuts.proofs.Pendings.{length-pendings, getD-pendings}
 use Rattle.cuts.proofs.Listed.{every-cut, only-cuts}
 use Rattle.cuts.proofs.Calls.{says-nth, nth-says}
@@ -39,6 +39,17 @@ module _ (image work tape room : List ℕ) (r c : ℕ) (same : length work ≡ l
 
   pub given-accepted : nthCall image tape r room .answer ≡ Number c → cutCall image work tape c (nthCall image tape r room .choices) .answer ≡ Accepted
   given-accepted = accepts (nthCall image tape r room) (nth-says image tape r room)
+
+-- ---- every cut is given
+
+pub every-given : (image tape room : List ℕ) (c : ℕ) (bytes : List ℕ) → Small image tape → length room ≡ length image / 64 → IsCut (length image / 64) (decode (length image) tape) c bytes → Gives image tape room c bytes
+every-given image tape room c bytes s fits is =
+    let at = every-cut (length image / 64) (decode (length image) tape) c bytes is in
+    record {
+      number = at .number;
+      below = at .listed .below;
+      gives = says-nth image tape (at .number) room _ (nth-given s fits (at .listed .below) c bytes (at .listed .is));
+    }
 
 -- ---- any other choices leave what some cut of the list leaves
 
@@ -100,15 +111,12 @@ any-cut image work tape choices room c e few fits =
     let k = cut-accepted image work tape choices c e in
     let own = clip (pendings 0 lines (take c cs)) choices in
     let is : IsCut lines cs c own = clipped lines cs c choices (k .bytes) (k .few) in
-    let at = every-cut lines cs c own is in
-    let s : Small image tape = record { size = k .size; formed = k .formed; few = few } in
-    let call : nthCall image tape (at .number) room ≡ record { answer = Number c; choices = own } =
-    says-nth image tape (at .number) room _ (nth-given s fits (at .listed .below) c own (at .listed .is)) in
+    let it = every-given image tape room c own (record { size = k .size; formed = k .formed; few = few }) fits is in
     let image-same : cutImage image (λ l. getD own l 0) c cs ≡ cutImage image (λ l. getD choices l 0) c cs = sym (cut-alike image (λ l. getD choices l 0) (λ l. getD own l 0) c cs (clip-alike lines cs c choices (k .bytes))) in
     record {
-      number = at .number;
-      answers = ap (λ (g : Given). g .answer) call;
-      same = ap (λ (g : Given). cutCall image work tape c (g .choices)) call
+      number = it .number;
+      answers = ap (λ (g : Given). g .answer) (it .gives);
+      same = ap (λ (g : Given). cutCall image work tape c (g .choices)) (it .gives)
           ∙ cut-accepts image work tape own c (k .size) (k .same) (is .perLine) (k .formed) (k .few)
           ∙ ap accepted image-same
           ∙ sym (cut-accepts image work tape choices c (k .size) (k .same) (k .bytes) (k .formed) (k .few));

@@ -67,6 +67,12 @@ pub data NthSays (image tape : List ℕ) (r : ℕ) (room : List ℕ) : Given →
 
 -- ---- what it is for
 
+-- a number for which the call gives this cut
+pub record Gives (image tape : List ℕ) (room : List ℕ) (c : ℕ) (bytes : List ℕ) : Type 0 where
+  pub number : ℕ
+  pub below : number < length (cutsOf image tape)
+  pub gives : nthCall image tape number room ≡ record { answer = Number c; choices = bytes }
+
 -- a cut of the list for which `cut` answers and leaves the same as for these choices
 pub record Serves (image work tape : List ℕ) (c : ℕ) (choices room : List ℕ) : Type 0 where
   pub number : ℕ

@@ -169,7 +169,8 @@ fn put_choices(choices: &mut [u8], pending: &[u8], named: &[usize], r: usize)
     }
 }
 
-// The number of cuts of a small tape over an image of so many lines: what a number past them all has more than its rest.
+// The number of cuts of a small tape over an image of so many lines. No small tape has a cut number 8,191, so the search for it passes all cuts, and
+// what it took off on the way is their number.
 fn number_of_cuts(tape: &[u8], lines: usize) -> usize
     requires { ⌜ lines ≤ 1024 ⌝ }
     requires { ⌜ (wellFormed (decode (64 * lines) (now tape)) ≡ true) × (length (decode (64 * lines) (now tape)) ≤ 12) ⌝ }

@@ -2,6 +2,7 @@
 //! builders that know the formats of documents 01 and 02 by themselves, apart
 //! from the reference, so that a slip in the reference can't hide here.
 
+pub mod cuts;
 pub mod damage;
 pub mod harms;
 pub mod images;

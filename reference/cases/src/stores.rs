@@ -53,6 +53,16 @@ fn few_leaves(random: &mut Random) -> Built {
     build(random, shape)
 }
 
+/// A few leaves, and no room in any page, or hardly any: most edits move the root.
+pub fn full(random: &mut Random) -> Built {
+    let mut built = few_leaves(random);
+    fill_up_index(random, &mut built);
+    for leaf in &built.leaves {
+        lower_start(random, &mut built.image, leaf.page);
+    }
+    built
+}
+
 /// "At most 28 records" in the index, or nearly as many.
 pub fn many_leaves(random: &mut Random) -> Built {
     let mut shape = any_shape(random);

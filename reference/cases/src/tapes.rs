@@ -76,7 +76,7 @@ pub fn commands(random: &mut Random, mix: Mix, lines: usize, count: usize) -> Ve
 }
 
 /// Mostly 8 pages, which keeps many calls quick.
-fn image_length(random: &mut Random) -> usize {
+pub(crate) fn image_length(random: &mut Random) -> usize {
     match random.below(40) {
         0..=3 => random.pick(&LENGTHS),
         4 => random.between(8, 64) * 1024,
@@ -101,7 +101,24 @@ fn work_length(random: &mut Random, image_length: usize) -> usize {
 
 /// Good commands for an image of this length, often many on a few lines.
 fn any_commands(random: &mut Random, image_length: usize) -> Vec<Vec<u8>> {
-    let lines = (image_length / 64).clamp(1, 1024);
+    let lines = lines_of(image_length);
+    let places = any_lines(random, lines);
+    let count = match random.below(60) {
+        0 => 0,
+        1 => return long_commands(random, lines),
+        _ => random.between(1, 40),
+    };
+    let mix = any_mix(random);
+    (0..count).map(|_| command(random, mix, &places)).collect()
+}
+
+/// How many lines commands are made for: some also where the image has none.
+pub(crate) fn lines_of(image_length: usize) -> usize {
+    (image_length / 64).clamp(1, 1024)
+}
+
+/// The lines that commands are to be on: mostly a few, and some more than once.
+pub(crate) fn any_lines(random: &mut Random, lines: usize) -> Vec<usize> {
     let few = match random.below(8) {
         0 => lines,
         1 => 1,
@@ -114,20 +131,18 @@ fn any_commands(random: &mut Random, image_length: usize) -> Vec<Vec<u8>> {
         places.push(lines - 1);
         places.push(0);
     }
-    let count = match random.below(60) {
-        0 => 0,
-        1 => return long_commands(random, lines),
-        _ => random.between(1, 40),
-    };
-    let mix = random.pick(&[
+    places
+}
+
+pub(crate) fn any_mix(random: &mut Random) -> Mix {
+    random.pick(&[
         Mix::All,
         Mix::All,
         Mix::All,
         Mix::Words,
         Mix::Lines,
         Mix::Flushes,
-    ]);
-    (0..count).map(|_| command(random, mix, &places)).collect()
+    ])
 }
 
 /// More stores pending on one line than a choice byte can count.
@@ -144,7 +159,7 @@ fn long_commands(random: &mut Random, lines: usize) -> Vec<Vec<u8>> {
 }
 
 /// One good command on one of these lines.
-fn command(random: &mut Random, mix: Mix, lines: &[usize]) -> Vec<u8> {
+pub(crate) fn command(random: &mut Random, mix: Mix, lines: &[usize]) -> Vec<u8> {
     let line = random.pick(lines);
     let kind = match mix {
         Mix::Words => 1,
@@ -163,7 +178,7 @@ fn command(random: &mut Random, mix: Mix, lines: &[usize]) -> Vec<u8> {
 }
 
 /// The commands end to end; one tape in three is damaged.
-fn any_tape(random: &mut Random, commands: &[Vec<u8>], image_length: usize) -> Vec<u8> {
+pub(crate) fn any_tape(random: &mut Random, commands: &[Vec<u8>], image_length: usize) -> Vec<u8> {
     if !random.one_in(3) {
         return commands.concat();
     }
@@ -225,7 +240,8 @@ fn any_count(random: &mut Random, commands: usize) -> usize {
     }
 }
 
-fn any_choices(random: &mut Random, lines: usize) -> Vec<u8> {
+/// Mostly one byte a line, of few stores or many.
+pub fn any_choices(random: &mut Random, lines: usize) -> Vec<u8> {
     let length = match random.below(60) {
         0 => 0,
         1 => lines.saturating_sub(1),

@@ -42,6 +42,49 @@ pub fn cut(image: &mut [u8], work: &mut [u8], tape: &mut [u8], c: usize, choices
     }
 }
 
+/// The answer is one number: how many cuts the tape has. It stays as it was on a
+/// refusal, or without room for one.
+#[inline]
+pub fn count_cuts(image: &mut [u8], tape: &mut [u8], answer: &mut [u64]) -> u8 {
+    // Sound: each pointer is lent with its own length, for this call alone.
+    unsafe {
+        interface::quote_count_cuts(
+            image.as_mut_ptr(),
+            image.len(),
+            tape.as_mut_ptr(),
+            tape.len(),
+            answer.as_mut_ptr(),
+            answer.len(),
+        )
+    }
+}
+
+/// The answer is one number: after how many commands the cut comes. It stays as
+/// it was on a refusal, or without room for one.
+#[inline]
+pub fn nth_cut(
+    image: &mut [u8],
+    tape: &mut [u8],
+    r: usize,
+    choices: &mut [u8],
+    answer: &mut [u64],
+) -> u8 {
+    // Sound: each pointer is lent with its own length, for this call alone.
+    unsafe {
+        interface::quote_nth_cut(
+            image.as_mut_ptr(),
+            image.len(),
+            tape.as_mut_ptr(),
+            tape.len(),
+            r,
+            choices.as_mut_ptr(),
+            choices.len(),
+            answer.as_mut_ptr(),
+            answer.len(),
+        )
+    }
+}
+
 #[inline]
 pub fn format(image: &mut [u8]) -> u8 {
     // Sound: the pointer is lent with its own length, for this call alone.

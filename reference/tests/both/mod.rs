@@ -4,6 +4,8 @@
 // Each test uses some of these.
 #![allow(dead_code)]
 
+pub mod cuts;
+
 use reference::image as plain;
 use reference::numbers::of_preview;
 use reference::preview::{preview, Preview};

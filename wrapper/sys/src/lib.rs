@@ -25,6 +25,25 @@ extern "C" {
         choices: *const u8,
         choices_length: usize,
     ) -> u8;
+    pub fn quote_count_cuts(
+        image: *const u8,
+        image_length: usize,
+        tape: *const u8,
+        tape_length: usize,
+        answer: *mut u64,
+        answer_length: usize,
+    ) -> u8;
+    pub fn quote_nth_cut(
+        image: *const u8,
+        image_length: usize,
+        tape: *const u8,
+        tape_length: usize,
+        r: usize,
+        choices: *mut u8,
+        choices_length: usize,
+        answer: *mut u64,
+        answer_length: usize,
+    ) -> u8;
     pub fn quote_format(image: *mut u8, image_length: usize) -> u8;
     pub fn quote_check(image: *const u8, image_length: usize) -> u8;
     pub fn quote_lookup(

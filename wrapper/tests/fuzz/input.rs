@@ -1,11 +1,14 @@
 //! Buffers of every length and content: random, of real stores, of stores
 //! damaged.
 
+use cases::cuts::{any_cut_number, any_small_tape, SmallTape};
 use cases::damage::{damage, other_length, FIELDS};
 use cases::images::{Built, LAST_KEY};
 use cases::lists::any_list;
 use cases::random::Random;
+use cases::tapes::any_choices;
 use cases::{logs, stores};
+use quote_store::calls;
 
 /// What the calls of one round are lent.
 #[derive(Clone)]
@@ -17,6 +20,7 @@ pub struct Input {
     pub choices: Vec<u8>,
     pub answer: Vec<u64>,
     pub key: u64,
+    /// Of cut the count of commands, of nth cut the number.
     pub c: usize,
 }
 
@@ -43,6 +47,20 @@ pub fn any_input(random: &mut Random) -> Input {
         c: any_count(random),
         edits,
         image,
+    }
+}
+
+/// The input with a small tape instead, and the number of one of its cuts or one
+/// past their end.
+pub fn with_small_tape(random: &mut Random, input: &Input) -> Input {
+    let SmallTape { image, tape } = any_small_tape(random);
+    let cuts = calls::count_cuts(&image, &tape).unwrap_or(0);
+    Input {
+        choices: any_choices(random, image.len() / 64),
+        c: any_cut_number(random, cuts),
+        image,
+        tape,
+        ..input.clone()
     }
 }
 

@@ -8,11 +8,11 @@ mod lent;
 mod rules;
 
 use cases::random::Random;
-use input::{any_input, Input};
+use input::{any_input, with_small_tape, Input};
 use quote_store::{calls, tape_length, Commit, CommitPlace, Preview, Refusal};
 use rules::{
-    Buffers, Call, CHECK, CUT, FORMAT, LOOKUP, NEXT_KEY, PREVIEW, RECOVER, RECOVER_WORDS, RUN,
-    TRANSACTION, TRANSACTION_WORDS,
+    Buffers, Call, CHECK, COUNT_CUTS, CUT, FORMAT, LOOKUP, NEXT_KEY, NTH_CUT, PREVIEW, RECOVER,
+    RECOVER_WORDS, RUN, TRANSACTION, TRANSACTION_WORDS,
 };
 use std::collections::BTreeMap;
 
@@ -36,6 +36,9 @@ fn round(random: &mut Random, tally: &mut Tally) {
         try_one(random, call, &input, tally);
     }
     reads(random, &input, tally);
+    cuts(random, &input, tally);
+    let small = with_small_tape(random, &input);
+    cuts(random, &small, tally);
     let look = try_one(random, &PREVIEW, &input, tally);
     let made = [TRANSACTION, TRANSACTION_WORDS].map(|call| try_one(random, &call, &input, tally));
     let redone = [RECOVER, RECOVER_WORDS].map(|call| try_one(random, &call, &input, tally));
@@ -78,6 +81,42 @@ fn reads(random: &mut Random, input: &Input, tally: &mut Tally) {
     }
 }
 
+/// The calls that give all cuts of a tape.
+fn cuts(random: &mut Random, input: &Input, tally: &mut Tally) {
+    let (counted, all) = try_one(random, &COUNT_CUTS, input, tally);
+    let (given, one) = try_one(random, &NTH_CUT, input, tally);
+    for buffers in [&all, &one] {
+        assert!(buffers.tape.stayed() && buffers.work.stayed());
+    }
+    let number = calls::count_cuts(&input.image, &input.tape);
+    answers_as_safe((counted, &all), number);
+    // "The counting call has only the first three."
+    let wanted = match number {
+        Err(refusal) => refusal.number(),
+        Ok(_) if input.choices.len() != input.image.len() / 64 => 16,
+        Ok(number) if input.c >= number => 18,
+        Ok(_) => 0,
+    };
+    assert_eq!(given, wanted, "{number:?} cuts, number {}", input.c);
+    let mut choices = input.choices.clone();
+    let commands = calls::nth_cut(&input.image, &input.tape, input.c, &mut choices);
+    answers_as_safe((given, &one), commands);
+    assert!(choices == one.choices.after());
+    if let Ok(c) = commands {
+        let mut work = vec![0; input.image.len()];
+        let cut = calls::cut(&input.image, &mut work, &input.tape, c, &choices);
+        assert_eq!(cut, Ok(()));
+    }
+}
+
+/// The safe function answers as the raw call does, which has one number.
+fn answers_as_safe((number, buffers): (u8, &Buffers), safe: Result<usize, Refusal>) {
+    assert_eq!(safe.map_or_else(Refusal::number, |_| 0), number);
+    if let (Ok(value), Some(first)) = (safe, buffers.answer.after().first()) {
+        assert_eq!(value as u64, *first);
+    }
+}
+
 /// What is answered where check says 4: damage in a leaf that a call does not
 /// read is nothing to it.
 const BESIDE: [&str; 3] = ["lookup, check 4", "next key, check 4", "preview, check 4"];
@@ -98,6 +137,7 @@ fn play(
     };
     try_one(random, &RUN, &input, tally);
     try_one(random, &CUT, &input, tally);
+    cuts(random, &input, tally);
 }
 
 /// Document 02 (d), of a call and the same for a device without line stores:
@@ -237,6 +277,8 @@ fn bad_input_gets_its_refusal() {
         RECOVER_WORDS,
         RUN,
         CUT,
+        COUNT_CUTS,
+        NTH_CUT,
     ] {
         every_answer_came(call.name, call.known, &tally);
     }

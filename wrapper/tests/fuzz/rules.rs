@@ -116,6 +116,23 @@ pub const CUT: Call = call(
     0,
 );
 
+pub const COUNT_CUTS: Call = call(
+    "count cuts",
+    |b| proved::count_cuts(b.image.lend(), b.tape.lend(), b.answer.lend()),
+    &[0, 1, 14, 17],
+    1,
+);
+
+pub const NTH_CUT: Call = call(
+    "nth cut",
+    |b| {
+        let (image, tape, choices) = (b.image.lend(), b.tape.lend(), b.choices.lend());
+        proved::nth_cut(image, tape, b.c, choices, b.answer.lend())
+    },
+    &[0, 1, 14, 16, 17, 18],
+    1,
+);
+
 pub const FORMAT: Call = call("format", |b| proved::format(b.image.lend()), &[0, 1], 0);
 
 pub const CHECK: Call = call("check", |b| proved::check(b.image.lend()), &[0, 1, 3, 4], 0);
@@ -154,7 +171,11 @@ impl Call {
         let image_written = name == "format" && number == 0;
         assert!(image_written || buffers.image.stayed(), "image of {name}");
         assert!(buffers.edits.stayed(), "edits of {name}");
-        assert!(buffers.choices.stayed(), "choices of {name}");
+        let choices_written = name == "nth cut" && number == 0;
+        assert!(
+            choices_written || buffers.choices.stayed(),
+            "choices of {name}"
+        );
         if number != 0 {
             self.refused(number, buffers);
         }

@@ -17,58 +17,39 @@ use Rattle.device.proofs.Segments.{durable-append}
 -- ---- their number
 
 module _ (l : ℕ) where
-  -- the stores to the line
-  abbrev all : List Op → ℕ
-  all cs = length (stores (ofLine l cs))
-
-  all-store : (p : ℕ) (vs : List ℕ) (cs : List Op) → all (store p vs ∷ cs) ≡ pick (eqb (lineOf p) l) 1 0 + all cs
-  unfolding stores ofLine
-  all-store p vs cs = go (eqb (lineOf p) l)
-    where
-      go : (b : Bool) → length (stores (consIf b (store p vs) (ofLine l cs))) ≡ pick b 1 0 + length (stores (ofLine l cs))
-      go true = omega arith
-      go false = omega arith
-
-  all-flush : (m : ℕ) (cs : List Op) → all (flush m ∷ cs) ≡ all cs
-  unfolding stores ofLine
-  all-flush m cs = go (eqb m l)
-    where
-      go : (b : Bool) → length (stores (consIf b (flush m) (ofLine l cs))) ≡ length (stores (ofLine l cs))
-      go true = refl
-      go false = refl
-
-  all-malformed : (cs : List Op) → all (malformed ∷ cs) ≡ all cs
-  unfolding stores ofLine
-  all-malformed cs = refl
-
-  -- a store of the line is durable or not
-  either : (b d : Bool) → pick b 1 0 ≡ pick (b && d) 1 0 + pick (b && not d) 1 0
-  either true true = refl
-  either true false = refl
-  either false d = refl
-
-  settled-le : (cs : List Op) → settled l cs ≤ all cs
-  unfolding settled
-  settled-le [] = omega arith
-  settled-le (store p vs ∷ cs) = omega (arith, settled-le cs, all-store p vs cs, either (eqb (lineOf p) l) (durable l cs))
-  settled-le (flush m ∷ cs) = omega (arith, settled-le cs, all-flush m cs)
-  settled-le (malformed ∷ cs) = omega (arith, settled-le cs, all-malformed cs)
-
   pub pending-nil : pending l [] ≡ 0
-  unfolding pending stores ofLine settled
-  pending-nil = omega arith
+  unfolding pending
+  pending-nil = refl
 
   pending-store : (p : ℕ) (vs : List ℕ) (cs : List Op) → pending l (store p vs ∷ cs) ≡ pick (eqb (lineOf p) l && not (durable l cs)) 1 0 + pending l cs
-  unfolding pending settled
-  pending-store p vs cs = omega (arith, settled-le cs, all-store p vs cs, either (eqb (lineOf p) l) (durable l cs))
+  unfolding pending
+  pending-store p vs cs = refl
 
   pending-flush : (m : ℕ) (cs : List Op) → pending l (flush m ∷ cs) ≡ pending l cs
-  unfolding pending settled
-  pending-flush m cs = ap (λ (k : ℕ). k - settled l cs) (all-flush m cs)
+  unfolding pending
+  pending-flush m cs = refl
 
   pending-malformed : (cs : List Op) → pending l (malformed ∷ cs) ≡ pending l cs
-  unfolding pending settled
-  pending-malformed cs = ap (λ (k : ℕ). k - settled l cs) (all-malformed cs)
+  unfolding pending
+  pending-malformed cs = refl
+
+  -- every store to the line is durable or pending
+  pub settled-pending : (cs : List Op) → length (stores (ofLine l cs)) ≡ settled l cs + pending l cs
+  unfolding stores ofLine settled
+  settled-pending [] = omega (arith, pending-nil)
+  settled-pending (store p vs ∷ cs) = go (eqb (lineOf p) l) (durable l cs) (pending-store p vs cs) (settled-pending cs)
+    where
+      go : (b d : Bool) → pending l (store p vs ∷ cs) ≡ pick (b && not d) 1 0 + pending l cs → length (stores (ofLine l cs)) ≡ settled l cs + pending l cs →
+          length (stores (consIf b (store p vs) (ofLine l cs))) ≡ pick (b && d) 1 0 + settled l cs + pending l (store p vs ∷ cs)
+      go true true e h = omega arith
+      go true false e h = omega arith
+      go false d e h = omega arith
+  settled-pending (flush m ∷ cs) = go (eqb m l) (settled-pending cs)
+    where
+      go : (b : Bool) → length (stores (ofLine l cs)) ≡ settled l cs + pending l cs → length (stores (consIf b (flush m) (ofLine l cs))) ≡ settled l cs + pending l (flush m ∷ cs)
+      go true h = omega (arith, pending-flush m cs, h)
+      go false h = omega (arith, pending-flush m cs, h)
+  settled-pending (malformed ∷ cs) = omega (arith, pending-malformed cs, settled-pending cs)
 
   -- what comes later makes all of them durable, or none, and adds its own
   pending-append : (a b : List Op) → pending l (a ++ b) ≡ pick (durable l b) 0 (pending l a) + pending l b

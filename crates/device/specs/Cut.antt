@@ -2,7 +2,7 @@
 -- Assumes nothing.
 use Prim.Native.Nat.{ℕ, _+_, _-_, _/_, _≤_}
 use mathlib.Core.Path.{_≡_}
-use mathlib.Core.Bool.{Bool, true, false, _&&_, _||_}
+use mathlib.Core.Bool.{Bool, true, false, not, _&&_, _||_}
 use mathlib.Core.List.{List, [], _∷_}
 use lib.ListN.{length, take}
 use lib.Seq.{sets}
@@ -112,9 +112,12 @@ settled l (store p vs ∷ cs) = pick (eqb (lineOf p) l && durable l cs) 1 0 + se
 settled l (flush m ∷ cs) = settled l cs
 settled l (malformed ∷ cs) = settled l cs
 
--- "A store is pending until its line is flushed": how many of the stores to line l are not durable then
+-- "A store is pending until its line is flushed": how many of the stores to line l are not durable once all these commands are done
 unfoldable pub pending : ℕ → List Op → ℕ
-pending l cs = length (stores (ofLine l cs)) - settled l cs
+pending l [] = 0
+pending l (store p vs ∷ cs) = pick (eqb (lineOf p) l && not (durable l cs)) 1 0 + pending l cs
+pending l (flush m ∷ cs) = pending l cs
+pending l (malformed ∷ cs) = pending l cs
 
 -- a store to line l
 abbrev pub To : ℕ → Op → Type 0

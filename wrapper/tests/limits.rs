@@ -1,8 +1,8 @@
-//! What the README ('Limits') and docs/USING.md ('When a store is full') say of
-//! limits, held to the store.
+//! What the README ('Limits') and docs/USING.md ('When a store is full', 'To test
+//! what a power failure leaves') say of limits, held to the store.
 
 use cases::random::Random;
-use quote_store::{Edit, Refusal, Store};
+use quote_store::{calls, Edit, Refusal, Store, LINE};
 
 const SEED: u64 = 20_241_116;
 
@@ -145,14 +145,25 @@ fn longer_update_needs_a_leaf() {
     assert_eq!(store.apply(&[update(1000, 200)]), Err(INDEX_FULL));
 }
 
+/// The first key of a leaf: 15 quotes a leaf, where they came by rising keys.
+fn first_in_leaf(i: u64) -> u64 {
+    1000 * (1 + 15 * i)
+}
+
+/// A delete in each of the first leaves.
+fn deletes(leaves: u64) -> Vec<Edit<'static>> {
+    let delete = |i| Edit::Delete {
+        key: first_in_leaf(i),
+    };
+    (0..leaves).map(delete).collect()
+}
+
 /// 16 quotes in 16 leaves are refused with 12, 15 are not; so are deletes.
 #[test]
 fn fifteen_headers() {
     let (mut store, _) = fill(64, 8, rising());
-    // 15 quotes a leaf
-    let key = |i: u64| 1000 * (1 + 15 * i);
-    let deletes: Vec<Edit> = (0..16).map(|i| Edit::Delete { key: key(i) }).collect();
-    let updates: Vec<Edit> = (0..16).map(|i| update(key(i), 8)).collect();
+    let updates: Vec<Edit> = (0..16).map(|i| update(first_in_leaf(i), 8)).collect();
+    let deletes = deletes(16);
     for edits in [updates, deletes] {
         assert_eq!(store.apply(&edits), Err(Refusal::LogFull));
         store.apply(&edits[1..]).unwrap();
@@ -175,5 +186,51 @@ fn moving_fills_leaves() {
         }
         assert!(to.iter().eq(from.iter()));
         assert_eq!(fill(64, length, keys.into_iter()).1, INDEX_FULL);
+    }
+}
+
+/// Makes the edits; whether all cuts of their tape are given.
+fn has_all_cuts(store: &mut Store, edits: &[Edit]) -> bool {
+    let before = store.image().to_vec();
+    store.apply(edits).unwrap();
+    calls::count_cuts(&before, &store.take_tape()).is_ok()
+}
+
+/// "One insert or update of a value of up to 48 bytes that its leaf has room for",
+/// wherever its record comes to lie; "one delete"; "two such deletes in two leaves".
+#[test]
+fn transactions_with_all_cuts() {
+    for length in 0..=56 {
+        let mut store = Store::fresh(8).unwrap();
+        for key in 1..=6 {
+            for edit in [insert(key, length), update(key, length)] {
+                assert_eq!(has_all_cuts(&mut store, &[edit]), length <= 48);
+            }
+        }
+        assert!(has_all_cuts(&mut store, &[Edit::Delete { key: 1 }]));
+    }
+    for leaves in 1..=3 {
+        let (mut store, _) = fill(64, 8, rising());
+        let _ = store.take_tape();
+        assert_eq!(has_all_cuts(&mut store, &deletes(leaves)), leaves <= 2);
+    }
+}
+
+/// "A recovery of up to four headers"; five, too, if the root stays.
+#[test]
+fn recoveries_with_all_cuts() {
+    for leaves in 2..=6 {
+        let (mut store, _) = fill(64, 8, rising());
+        let _ = store.take_tape();
+        let before = store.image().to_vec();
+        store.apply(&deletes(leaves)).unwrap();
+        let tape = store.take_tape();
+        // The log and its flushes, the mark and its flush.
+        let (c, mut device) = (2 * leaves as usize + 2, before.clone());
+        let choices = vec![0; before.len() / LINE];
+        calls::cut(&before, &mut device, &tape, c, &choices).unwrap();
+        let redo = Store::open(&device).unwrap().take_tape();
+        assert!(!redo.is_empty());
+        assert_eq!(calls::count_cuts(&device, &redo).is_ok(), leaves <= 5);
     }
 }

@@ -40,8 +40,8 @@ module _ (all : List (List ℕ)) (r : ℕ) where
   unfolding nthOf unless
   no-cut h = rw (le-ltb r (length all) h)
 
-  -- a refusal has no cut to give
-  pub with-answer : (room : List ℕ) (a : Counted) → withCut all r room a .answer ≡ a
+  -- the answer stays, with a cut beside it or without
+  with-answer : (room : List ℕ) (a : Counted) → withCut all r room a .answer ≡ a
   with-answer room (Number c) = refl
   with-answer room (Refused k) = refl
 
@@ -115,7 +115,7 @@ module _ (image tape : List ℕ) where
     nth-refuses k e = rw e
 
     -- with a small tape and the right room, the cut decides
-    pub nth-decides : Small image tape → length room ≡ length image / 64 → nthCall image tape r room ≡ withCut (cutsOf image tape) r room (nthOf (cutsOf image tape) r)
+    nth-decides : Small image tape → length room ≡ length image / 64 → nthCall image tape r room ≡ withCut (cutsOf image tape) r room (nthOf (cutsOf image tape) r)
     unfolding nthCall unless
     nth-decides s e = rw (is-small s, eq-eqb (length room) (length image / 64) e)
 
@@ -133,7 +133,7 @@ module _ (image tape : List ℕ) where
     says-nth g (nth-refused k f) = nth-refuses (refusal k) (not-small k f)
     says-nth g (bad-choices s h) = rw (is-small s, ne-eqb (length room) (length image / 64) h)
     says-nth g (no-such-cut s e h) = nth-decides s e ∙ rw (no-cut (cutsOf image tape) r h)
-    says-nth g (nth-given s e h c bytes l) = nth-decides s e ∙ rw (found-cut (cutsOf image tape) r c bytes h l, l)
+    says-nth g (nth-given s e c bytes l) = nth-decides s e ∙ rw (found-cut (cutsOf image tape) r c bytes (l .below) (l .is), l .is)
 
     pub nth-says : NthSays image tape r room (nthCall image tape r room)
     nth-says = go either
@@ -150,4 +150,4 @@ module _ (image tape : List ℕ) where
             sized true e false f = told _ (no-such-cut s (eqb-true (length room) (length image / 64) e) (ltb-false r (length (cutsOf image tape)) f))
             sized true e true f =
                 let it = listed-some (length image / 64) (decode (length image) tape) r (ltb-true r (length (cutsOf image tape)) f) in
-                told _ (nth-given s (eqb-true (length room) (length image / 64) e) (it .2 .below) (it .0) (it .1) (it .2 .is))
+                told _ (nth-given s (eqb-true (length room) (length image / 64) e) (it .0) (it .1) (it .2))

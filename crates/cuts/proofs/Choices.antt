@@ -14,11 +14,6 @@ use Rattle.cuts.proofs.Headed.{Rises, headed-at, headed-all, headed-ris
 
 -- ---- the product
 
-pub ways-some : (ms : List ℕ) → 0 < ways ms
-unfolding ways
-ways-some [] = omega arith
-ways-some (m ∷ ms) = mul-pos (omega arith) (ways-some ms)
-
 -- a line's number is a factor
 pub ways-set : (ms : List ℕ) (l v : ℕ) → l < length ms → ways (set ms l v) ≡ suc v * ways (set ms l 0)
 unfolding ways

@@ -32,9 +32,9 @@ module _ (image work tape room : List ℕ) (r c : ℕ) (same : length work ≡ l
   accepts g (nth-refused k f) e = let z : _≡_ {A = ℕ} 0 1 = cc in absurd (omega arith)
   accepts g (bad-choices s h) e = let z : _≡_ {A = ℕ} 0 1 = cc in absurd (omega arith)
   accepts g (no-such-cut s n h) e = let z : _≡_ {A = ℕ} 0 1 = cc in absurd (omega arith)
-  accepts g (nth-given s n h d bytes l) e =
+  accepts g (nth-given s n d bytes l) e =
       let count : d ≡ c = cc in
-      let is = only-cuts (length image / 64) (decode (length image) tape) r d bytes (record { below = h; is = l }) in
+      let is = only-cuts (length image / 64) (decode (length image) tape) r d bytes l in
       ap (λ (x : Ran). x .answer) (cut-accepts image work tape bytes c (s .size) same (is .perLine) (s .formed) (omega (arith, is .within, count)))
 
   pub given-accepted : nthCall image tape r room .answer ≡ Number c → cutCall image work tape c (nthCall image tape r room .choices) .answer ≡ Accepted
@@ -48,7 +48,7 @@ every-given image tape room c bytes s fits is =
     record {
       number = at .number;
       below = at .listed .below;
-      gives = says-nth image tape (at .number) room _ (nth-given s fits (at .listed .below) c bytes (at .listed .is));
+      gives = says-nth image tape (at .number) room _ (nth-given s fits c bytes (at .listed));
     }
 
 -- ---- any other choices leave what some cut of the list leaves
@@ -111,13 +111,11 @@ any-cut image work tape choices room c e few fits =
     let k = cut-accepted image work tape choices c e in
     let own = clip (pendings 0 lines (take c cs)) choices in
     let is : IsCut lines cs c own = clipped lines cs c choices (k .bytes) (k .few) in
-    let it = every-given image tape room c own (record { size = k .size; formed = k .formed; few = few }) fits is in
     let image-same : cutImage image (λ l. getD own l 0) c cs ≡ cutImage image (λ l. getD choices l 0) c cs = sym (cut-alike image (λ l. getD choices l 0) (λ l. getD own l 0) c cs (clip-alike lines cs c choices (k .bytes))) in
     record {
-      number = it .number;
-      answers = ap (λ (g : Given). g .answer) (it .gives);
-      same = ap (λ (g : Given). cutCall image work tape c (g .choices)) (it .gives)
-          ∙ cut-accepts image work tape own c (k .size) (k .same) (is .perLine) (k .formed) (k .few)
+      bytes = own;
+      isGiven = every-given image tape room c own (record { size = k .size; formed = k .formed; few = few }) fits is;
+      same = cut-accepts image work tape own c (k .size) (k .same) (is .perLine) (k .formed) (k .few)
           ∙ ap accepted image-same
           ∙ sym (cut-accepts image work tape choices c (k .size) (k .same) (k .bytes) (k .formed) (k .few));
     }

@@ -2,6 +2,7 @@
 -- Assumes nothing.
 use Prim.Native.Nat.{ℕ, suc, _+_, _*_, _≤_, _<_}
 use mathlib.Core.Path.{_≡_}
+use mathlib.Core.Logic.{_⊎_}
 use mathlib.Core.Bool.{true, false}
 use mathlib.Core.List.{List, [], _∷_}
 use lib.ListN.{length, getD, take}
@@ -29,6 +30,12 @@ ways (m ∷ ms) = suc m * ways ms
 -- every line that has a number is among those named
 abbrev pub Names : List ℕ → List ℕ → Type 0
 Names named ms = (l : ℕ) → ((i : ℕ) → i < length named → getD named i 0 ≡ l → ⊥) → getD ms l 0 ≡ 0
+
+-- of the first lines named, so many of them, r is the number after the highest one below the bound; 0 if there is none
+pub record Highest (named : List ℕ) (count bound r : ℕ) : Type 0 where
+  pub within : r ≤ bound
+  pub above : (i : ℕ) → i < count → getD named i 0 < bound → getD named i 0 < r
+  pub isOne : (r ≡ 0) ⊎ ((i : ℕ) × (i < count) × (getD named i 0 + 1 ≡ r))
 
 -- cut number r stands at p: so many cuts have fewer commands. If p is within the tape, ms are the pending stores of the lines there
 pub record Sought (lines : ℕ) (cs : List Op) (r : ℕ) (p : Place) (ms named : List ℕ) : Type 0 where

@@ -62,19 +62,19 @@ pub data NthSays (image tape : List ℕ) (r : ℕ) (room : List ℕ) : Given →
   nth-refused : (k : ℕ) → NotSmall image tape k → NthSays image tape r room (record { answer = Refused (refusal k); choices = room })
   bad-choices : Small image tape → (length room ≡ length image / 64 → ⊥) → NthSays image tape r room (record { answer = Refused (refusal 16); choices = room })
   no-such-cut : Small image tape → length room ≡ length image / 64 → length (cutsOf image tape) ≤ r → NthSays image tape r room (record { answer = Refused (refusal 18); choices = room })
-  nth-given : Small image tape → length room ≡ length image / 64 → r < length (cutsOf image tape) → (c : ℕ) (bytes : List ℕ) → getD (cutsOf image tape) r [] ≡ c ∷ bytes →
+  nth-given : Small image tape → length room ≡ length image / 64 → (c : ℕ) (bytes : List ℕ) → Listed (length image / 64) (decode (length image) tape) r c bytes →
       NthSays image tape r room (record { answer = Number c; choices = bytes })
 
 -- ---- what it is for
 
 -- a number for which the call gives this cut
-pub record Gives (image tape : List ℕ) (room : List ℕ) (c : ℕ) (bytes : List ℕ) : Type 0 where
+pub record Gives (image tape room : List ℕ) (c : ℕ) (bytes : List ℕ) : Type 0 where
   pub number : ℕ
   pub below : number < length (cutsOf image tape)
   pub gives : nthCall image tape number room ≡ record { answer = Number c; choices = bytes }
 
--- a cut of the list for which `cut` answers and leaves the same as for these choices
+-- a cut that the call gives, for which `cut` answers and leaves the same as for these choices
 pub record Serves (image work tape : List ℕ) (c : ℕ) (choices room : List ℕ) : Type 0 where
-  pub number : ℕ
-  pub answers : nthCall image tape number room .answer ≡ Number c
-  pub same : cutCall image work tape c (nthCall image tape number room .choices) ≡ cutCall image work tape c choices
+  pub bytes : List ℕ
+  pub isGiven : Gives image tape room c bytes
+  pub same : cutCall image work tape c bytes ≡ cutCall image work tape c choices

@@ -2,6 +2,7 @@
 use device::Refusal;
 use device::Scan;
 ghost use mathlib.Core.Path.{_≡_};
+ghost use mathlib.Core.Logic.{_⊎_};
 ghost use mathlib.Core.Bool.{true};
 ghost use mathlib.Core.List.{[]};
 ghost use Prim.Native.Nat.{ℕ, _+_, _*_, _≤_, _<_};
@@ -9,7 +10,7 @@ ghost use lib.ListN.{length, drop, getD, set};
 ghost use Rattle.codec.specs.Lists.{pick};
 ghost use Rattle.device.specs.Tape.{isCommand, front, decode, wellFormed};
 ghost use Rattle.cuts.specs.All.{choicesUpTo};
-ghost use Rattle.cuts.specs.Products.{Meets, cutsOver, ways, Names, Sought};
+ghost use Rattle.cuts.specs.Products.{Meets, cutsOver, ways, Names, Highest, Sought};
 ghost use Rattle.cuts.specs.Calls.{smallTape, countCall, nthOf, withCut, nthCall};
 
 // What the calls answer: the number of cuts, or a cut's count of commands.
@@ -125,10 +126,10 @@ fn seek(pending: &mut [u8], named: &mut [usize], tape: &[u8], r: usize) -> Place
     Place { commands, rest }
 }
 
-// The higher of two lines below the bound, each told by the number after it; 0 is none.
+// What is found so far, or the line if it is higher and below the bound; both by the number after the line, 0 for none.
 fn higher(found: usize, line: usize, bound: usize) -> usize
     requires { ⌜ found ≤ bound ⌝ }
-    ensures { λ r. ⌜ (found ≤ r) × (r ≤ bound) × (line < bound → line < r) ⌝ }
+    ensures { λ r. ⌜ (found ≤ r) × (r ≤ bound) × (line < bound → line < r) × ((r ≡ found) ⊎ (r ≡ line + 1)) ⌝ }
 {
     if bound <= line {
         return found;
@@ -141,7 +142,7 @@ fn higher(found: usize, line: usize, bound: usize) -> usize
 
 // The number after the highest named line below the bound; 0 if there is none.
 fn line_below(named: &[usize], bound: usize) -> usize
-    ensures { λ r. ⌜ (r ≤ bound) × ((i : ℕ) → i < length (now (named .entry)) → getD (now (named .entry)) i 0 < bound → getD (now (named .entry)) i 0 < r) ⌝ }
+    ensures { λ r. ⌜ Highest (now (named .entry)) (length (now (named .entry))) bound r ⌝ }
 {
     let mut found = 0;
     let mut i = 0;

@@ -122,14 +122,11 @@ one-less : (k a b : ℕ) → Alike (suc k) a b → Alike k (a - 1) (b - 1)
 one-less k a b (inl e) = inl (ap (λ (x : ℕ). x - 1) e)
 one-less k a b (inr s) = inr (omega arith, omega arith)
 
--- after a pending store to line m
+-- after a pending store
 less-alike : (f g : ℕ → ℕ) (p : ℕ) (vs : List ℕ) (cs : List Op) → durable (lineOf p) cs ≡ false → ((l : ℕ) → Alike (pending l (store p vs ∷ cs)) (f l) (g l)) → (l : ℕ) →
     Alike (pending l cs) (less f (lineOf p) l) (less g (lineOf p) l)
 less-alike f g p vs cs d h l = go (eqb l (lineOf p)) refl
   where
-    m : ℕ
-    m = lineOf p
-
     go : (b : Bool) → eqb l (lineOf p) ≡ b → Alike (pending l cs) (pick b (f l - 1) (f l)) (pick b (g l - 1) (g l))
     go true e =
         let s : l ≡ lineOf p = eqb-true l (lineOf p) e in

@@ -32,7 +32,7 @@ loop-holds c =
     let filled : fill .last .0 ≡ replicate (length (a .choices .now)) 0 = fill .ensures ∙ splice-over (a .choices .now) (replicate (length (a .choices .now)) 0) (length-replicate {A = ℕ} (length (a .choices .now)) 0) in
     let long : length (fill .last .0) ≡ length (a .pending .now) = omega (arith, fill .kept .0, s .pre .0) in
     let low = c .line-below .ensures in
-    digits-down (a .pending .now) (a .named .now) (s .pre .2) (a .r) (a .r) _ _ (length (a .pending .now)) (omega (arith, low .0, long)) (λ i h k. low .1 i h (omega (arith, long))) (digits-start (a .pending .now) (a .r) _ long (λ l. ap (λ (x : List ℕ). getD x l 0) filled ∙ zeros (length (a .choices .now)) l))
+    digits-down (a .pending .now) (a .named .now) (s .pre .2) (a .r) (a .r) _ _ (length (a .pending .now)) (omega (arith, low .within, long)) (λ i h k. low .above i h (omega (arith, long))) (digits-start (a .pending .now) (a .r) _ long (λ l. ap (λ (x : List ℕ). getD x l 0) filled ∙ zeros (length (a .choices .now)) l))
 
 sub-line : tie.Need-sub-line Inv-loop μ-loop
 sub-line c = omega arith
@@ -64,7 +64,7 @@ line-below-requires-2 : tie.Need-line-below-requires-2 Inv-loop μ-loop
 line-below-requires-2 c κs = tt
 
 loop-less : tie.Need-loop-less Inv-loop μ-loop
-loop-less c = omega (arith, c .line-below2 .ensures .0)
+loop-less c = omega (arith, c .line-below2 .ensures .within)
 
 loop-again : tie.Need-loop-again Inv-loop μ-loop
 loop-again c =
@@ -72,7 +72,7 @@ loop-again c =
     let a = s .args in
     let l = c .before .before .before .before .loop in
     let low = c .line-below2 .ensures in
-    digits-down (a .pending .now) (a .named .now) (s .pre .2) (a .r) _ _ _ (l .bound - 1) (low .0) (low .1) (digits-put (a .pending .now) (a .r) (l .left) (l .bound) _ (l .choices) (c .before .before .before .loop-test .taken) (omega (arith, c .before .wide .ensures .0)) (l .inv))
+    digits-down (a .pending .now) (a .named .now) (s .pre .2) (a .r) _ _ _ (l .bound - 1) (low .within) (low .above) (digits-put (a .pending .now) (a .r) (l .left) (l .bound) _ (l .choices) (c .before .before .before .loop-test .taken) (omega (arith, c .before .wide .ensures .0)) (l .inv))
 
 same-length : tie.Need-same-length Inv-loop μ-loop
 same-length c = omega (arith, c .before .loop .inv .within .perLine, c .before .before .before .before .before .before .before .before .before .before .pre .0)

@@ -6,7 +6,7 @@ mod crashes;
 
 use cases::random::Random;
 use cases::stores;
-use crashes::{caught, Cuttable, Phase, Sent, Test, SEED};
+use crashes::{caught, Cuttable, Phase, Sent, Test, OUTCOMES, SEED};
 use reference::cuts::MOST_COMMANDS;
 use reference::device::{Command, Device};
 use reference::ledger::Ledger;
@@ -174,14 +174,7 @@ fn every_cut_recovers(device: Device, places: &[&str]) {
     test.tally.print();
     assert_eq!(answer, Ok(()));
     test.tally.came(places);
-    test.tally.came(&[
-        "before the commit, old",
-        "commit pending, old",
-        "commit pending, new",
-        "commit flushed, new",
-        "recovery cut",
-        "recovery of the other device",
-    ]);
+    test.tally.came(&OUTCOMES);
     let transactions: usize = places.iter().map(|place| test.tally.times[place]).sum();
     println!("{transactions} transactions with a small tape");
     assert!(transactions > CUTS / 20);

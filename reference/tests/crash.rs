@@ -7,7 +7,7 @@ mod crashes;
 
 use cases::random::Random;
 use cases::stores::any_store;
-use crashes::{calls, caught, Cuttable, Phase, Sent, Test, SEED};
+use crashes::{calls, caught, Cuttable, Phase, Sent, Test, OUTCOMES, SEED};
 use reference::device::{Command, Device};
 use reference::ledger::Ledger;
 use reference::transaction::Fault;
@@ -266,17 +266,12 @@ fn every_cut_recovers(device: Device, places: &[&str]) {
         "commit by the root word",
         "commit by the log",
         "commit by a full log",
-        "before the commit, old",
-        "commit pending, old",
-        "commit pending, new",
-        "commit flushed, new",
-        "recovery cut",
-        "recovery of the other device",
         "recovery refused 13",
         "recovery with a log",
         "recovery without a log",
     ]);
     test.tally.came(places);
+    test.tally.came(&OUTCOMES);
     assert!(test.tally.refused[5..].iter().all(|&times| times > 0));
 }
 

@@ -4,7 +4,7 @@ use Prim.Native.Nat.{ℕ, zero, suc, _+_, _*_, _≤_, _<_}
 use mathlib.Core.Path.{_≡_, refl, sym, ap, _∙_}
 use mathlib.Core.List.{List, [], _∷_}
 use native.Mathlib.Omega.{arith}
-use native.Mathlib.Nat.{mul-left-comm, mul-le-mul-right, suc-mul, one-mul, zero-add, le-of-suc-le-suc, not-suc-le-zero, mul-pos}
+use native.Mathlib.Nat.{mul-left-comm, mul-le-mul-right, suc-mul, one-mul, zero-add, le-of-suc-le-suc, not-suc-le-zero}
 use lib.ListN.{length, getD, set}
 use lib.Seq.{set-getD}
 use Rattle.codec.specs.Lists.{All}

@@ -15,8 +15,8 @@ use Rattle.device.specs.Tape.{Op, store, flush, malformed}
 use Rattle.device.specs.Cut.{lineOf, pending}
 use Rattle.device.proofs.Pending.{pending-nil, pending-stored, pending-flushed, pending-broken}
 use Rattle.cuts.specs.All.{pendings, headed, choicesAfter}
-use Rattle.cuts.specs.Products.{Meets, ways}
-use Rattle.cuts.specs.declared.Met.{Met}
+use Rattle.cuts.specs.Products.{Describes, ways}
+use Rattle.cuts.specs.declared.Command.{Command}
 use Rattle.cuts.proofs.Headed.{length-none, length-next}
 use Rattle.cuts.proofs.Choices.{ways-set, ways-factor, length-choices}
 
@@ -42,11 +42,11 @@ pendings-none lines zs n h = ext-getD 0 zs (pendings 0 lines []) (n ∙ sym (len
 
 -- ---- after one more command
 
--- what the met command makes of its line's number
-abbrev pub counted : Met → ℕ → ℕ
+-- what a command makes of its line's number
+abbrev pub counted : Command → ℕ → ℕ
 counted m k = pick (m .stores) (k + 1) 0
 
-pending-next : (o : Op) (m : Met) → Meets o m → (xs : List Op) (l : ℕ) → pending l (xs ++ o ∷ []) ≡ pick (eqb (m .line) l) (counted m (pending l xs)) (pending l xs)
+pending-next : (o : Op) (m : Command) → Describes o m → (xs : List Op) (l : ℕ) → pending l (xs ++ o ∷ []) ≡ pick (eqb (m .line) l) (counted m (pending l xs)) (pending l xs)
 pending-next (store p vs) m k xs l = pending-stored l xs p vs ∙ rw (k .0, k .2) (go (eqb (lineOf p) l))
   where
     go : (b : Bool) → pick b 1 0 + pending l xs ≡ pick b (pending l xs + 1) (pending l xs)
@@ -55,7 +55,7 @@ pending-next (store p vs) m k xs l = pending-stored l xs p vs ∙ rw (k .0, k .2
 pending-next (flush n) m k xs l = pending-flushed l xs n ∙ rw (k .0, k .2)
 pending-next malformed m k xs l = absurd k
 
-pub pendings-next : (lines : ℕ) (o : Op) (m : Met) → Meets o m → (xs : List Op) →
+pub pendings-next : (lines : ℕ) (o : Op) (m : Command) → Describes o m → (xs : List Op) →
     set (pendings 0 lines xs) (m .line) (counted m (getD (pendings 0 lines xs) (m .line) 0)) ≡ pendings 0 lines (xs ++ o ∷ [])
 pendings-next lines o m k xs =
     ext-getD 0 (set ps (m .line) v) (pendings 0 lines (xs ++ o ∷ [])) (length-set ps (m .line) v ∙ long xs ∙ sym (long (xs ++ o ∷ []))) (λ l h. at l (omega (arith, length-set ps (m .line) v, long xs)))
@@ -92,8 +92,8 @@ ways-none (suc k) l = rw (pending-nil l, ways-none k (suc l))
 
 module _ (lines : ℕ) where
   -- a store or flush at most doubles them
-  met-doubles : (o : Op) (m : Met) → Meets o m → (xs : List Op) → ways (pendings 0 lines (xs ++ o ∷ [])) ≤ 2 * ways (pendings 0 lines xs)
-  met-doubles o m k xs = subst (λ (ps : List ℕ). ways ps ≤ 2 * ways old) (pendings-next lines o m k xs) (go (ltb (m .line) lines) refl)
+  command-doubles : (o : Op) (m : Command) → Describes o m → (xs : List Op) → ways (pendings 0 lines (xs ++ o ∷ [])) ≤ 2 * ways (pendings 0 lines xs)
+  command-doubles o m k xs = subst (λ (ps : List ℕ). ways ps ≤ 2 * ways old) (pendings-next lines o m k xs) (go (ltb (m .line) lines) refl)
     where
       old : List ℕ
       old = pendings 0 lines xs
@@ -115,8 +115,8 @@ module _ (lines : ℕ) where
       go false e = let out : set old (m .line) new ≡ old = set-out old (m .line) new (omega (arith, ltb-false (m .line) lines e, length-pendings lines 0 xs)) in rw out (omega arith)
 
   doubles : (o : Op) (xs : List Op) → ways (pendings 0 lines (xs ++ o ∷ [])) ≤ 2 * ways (pendings 0 lines xs)
-  doubles (store p vs) xs = met-doubles (store p vs) (record { line = lineOf p; size = 4 + length vs; stores = true }) (refl, refl, refl) xs
-  doubles (flush l) xs = met-doubles (flush l) (record { line = l; size = 4; stores = false }) (refl, refl, refl) xs
+  doubles (store p vs) xs = command-doubles (store p vs) (record { line = lineOf p; size = 4 + length vs; stores = true }) (refl, refl, refl) xs
+  doubles (flush l) xs = command-doubles (flush l) (record { line = l; size = 4; stores = false }) (refl, refl, refl) xs
   doubles malformed xs = let same = same-pending lines 0 (xs ++ malformed ∷ []) xs (λ l. pending-broken l xs) in rw same (omega arith)
 
   pub ways-bound : (cs : List Op) (c : ℕ) → c ≤ length cs → ways (pendings 0 lines (take c cs)) ≤ 2 ^ c

@@ -13,8 +13,8 @@ use Rattle.device.specs.Cut.{pending}
 use Rattle.device.proofs.Pending.{pending-le}
 use Rattle.device.proofs.Decode.{next-at, decode-end, wellFormed-next, good-command}
 use Rattle.cuts.specs.All.{pendings, headed, choicesAfter}
-use Rattle.cuts.specs.Products.{Meets, ways, Names, Sought}
-use Rattle.cuts.specs.declared.Met.{Met}
+use Rattle.cuts.specs.Products.{Describes, ways, Names, Sought}
+use Rattle.cuts.specs.declared.Command.{Command}
 use Rattle.cuts.specs.declared.Place.{Place}
 use Rattle.cuts.proofs.Headed.{length-none, length-next}
 use Rattle.cuts.proofs.Choices.{length-choices}
@@ -52,13 +52,13 @@ module _ (named : List ℕ) (c line : ℕ) (room : c < length named) where
 
 -- ---- the walk
 
-met-size : (o : Op) (m : Met) → Meets o m → (m .size ≡ extent o) × (0 < extent o)
-met-size (store p vs) m q = (q .1, omega arith)
-met-size (flush l) m q = (q .1, omega arith)
-met-size malformed m q = absurd q
+command-size : (o : Op) (m : Command) → Describes o m → (m .size ≡ extent o) × (0 < extent o)
+command-size (store p vs) m q = (q .1, omega arith)
+command-size (flush l) m q = (q .1, omega arith)
+command-size malformed m q = absurd q
 
--- the command met lies in the tape and in the image; its line's number and the product are small
-pub record Room (lines : ℕ) (tape : List ℕ) (at c product : ℕ) (ms : List ℕ) (m : Met) : Type 0 where
+-- the command lies in the tape and in the image; its line's number and the product are small
+pub record Room (lines : ℕ) (tape : List ℕ) (at c product : ℕ) (ms : List ℕ) (m : Command) : Type 0 where
   pub some : 0 < m .size
   pub inTape : at + m .size ≤ length tape
   pub inImage : m .line < lines
@@ -107,12 +107,12 @@ module _ (lines : ℕ) (tape : List ℕ) (r at c rest product : ℕ) (ms named :
   pub walk-command : at < length tape → isCommand (64 * lines) (drop at tape) ≡ true
   walk-command h = good-command (64 * lines) at tape h (k .good)
 
-  module _ (h : at < length tape) (m : Met) (is : Meets (front (64 * lines) (drop at tape)) m) where
+  module _ (h : at < length tape) (m : Command) (is : Describes (front (64 * lines) (drop at tape)) m) where
     abbrev o : Op
     o = front (64 * lines) (drop at tape)
 
     next : decode (64 * lines) (drop at tape) ≡ o ∷ decode (64 * lines) (drop (at + m .size) tape)
-    next = next-at (64 * lines) at tape h o refl (met-size o m is .1) ∙ ap (λ (i : ℕ). o ∷ decode (64 * lines) (drop (at + i) tape)) (sym (met-size o m is .0))
+    next = next-at (64 * lines) at tape h o refl (command-size o m is .1) ∙ ap (λ (i : ℕ). o ∷ decode (64 * lines) (drop (at + i) tape)) (sym (command-size o m is .0))
 
     -- there is room for what the code then does
     pub walk-room : length cs ≤ 12 → Room lines tape at c product ms m
@@ -123,7 +123,7 @@ module _ (lines : ℕ) (tape : List ℕ) (r at c rest product : ℕ) (ms named :
         let own : getD ms (m .line) 0 ≡ pending (m .line) (take c cs) = ap (λ (x : List ℕ). getD x (m .line) 0) (k .counts) ∙ getD-pendings lines (m .line) (take c cs) (fits .1) in
         let most : 2 ^ c ≤ 2 ^ 12 = pow-le-pow-right (omega arith) {i = c} {j = 12} (omega arith) in
         record {
-          some = omega (arith, met-size o m is);
+          some = omega (arith, command-size o m is);
           inTape = fits .0;
           inImage = fits .1;
           another = omega arith;
@@ -137,7 +137,7 @@ module _ (lines : ℕ) (tape : List ℕ) (r at c rest product : ℕ) (ms named :
         let all = after-front cs c o _ (sym (k .left) ∙ next) in
         record {
           inTape = fits;
-          good = sym (ap wellFormed next ∙ wellFormed-next o _ (met-size o m is .1)) ∙ k .good;
+          good = sym (ap wellFormed next ∙ wellFormed-next o _ (command-size o m is .1)) ∙ k .good;
           left = sym (all .2);
           few = omega (arith, all .0);
           counts = e ∙ ap (λ (x : List ℕ). set x (m .line) (counted m (getD x (m .line) 0))) (k .counts) ∙ pendings-next lines o m is (take c cs) ∙ ap (pendings 0 lines) (sym (all .1));

@@ -1,4 +1,4 @@
--- What the code keeps count of instead of a list: the command met, the number of choices as a product, and where a cut stands.
+-- What the code keeps count of instead of a list: a command by its line, the number of choices as a product, and where a cut stands.
 -- Assumes nothing.
 use Prim.Native.Nat.{ℕ, suc, _+_, _*_, _≤_, _<_}
 use mathlib.Core.Path.{_≡_}
@@ -9,14 +9,14 @@ use lib.ListN.{length, getD, take}
 use Rattle.device.specs.Tape.{Op, store, flush, malformed, decode}
 use Rattle.device.specs.Cut.{lineOf}
 use Rattle.cuts.specs.All.{pendings, headed, choicesAfter, cuts}
-use Rattle.cuts.specs.declared.Met.{Met}
+use Rattle.cuts.specs.declared.Command.{Command}
 use Rattle.cuts.specs.declared.Place.{Place}
 
 -- a command by the line that it stores to or flushes, its bytes on the tape, and whether it stores
-abbrev pub Meets : Op → Met → Type 0
-Meets (store p vs) m = (m .line ≡ lineOf p) × (m .size ≡ 4 + length vs) × (m .stores ≡ true)
-Meets (flush l) m = (m .line ≡ l) × (m .size ≡ 4) × (m .stores ≡ false)
-Meets malformed m = ⊥
+abbrev pub Describes : Op → Command → Type 0
+Describes (store p vs) m = (m .line ≡ lineOf p) × (m .size ≡ 4 + length vs) × (m .stores ≡ true)
+Describes (flush l) m = (m .line ≡ l) × (m .size ≡ 4) × (m .stores ≡ false)
+Describes malformed m = ⊥
 
 -- the cuts of a tape over an image of so many lines
 abbrev pub cutsOver : ℕ → List ℕ → List (List ℕ)

@@ -10,7 +10,7 @@ ghost use lib.ListN.{length, drop, getD, set};
 ghost use Rattle.codec.specs.Lists.{pick};
 ghost use Rattle.device.specs.Tape.{isCommand, front, decode, wellFormed};
 ghost use Rattle.cuts.specs.All.{choicesUpTo};
-ghost use Rattle.cuts.specs.Products.{Meets, cutsOver, ways, Names, Highest, Sought};
+ghost use Rattle.cuts.specs.Products.{Describes, cutsOver, ways, Names, Highest, Sought};
 ghost use Rattle.cuts.specs.Calls.{smallTape, countCall, nthOf, withCut, nthCall};
 
 // What the calls answer: the number of cuts, or a cut's count of commands.
@@ -20,7 +20,7 @@ pub enum Counted {
 }
 
 // A command: the line that it stores to or flushes, its bytes on the tape, and whether it stores.
-pub struct Met {
+pub struct Command {
     pub line: usize,
     pub size: usize,
     pub stores: bool,
@@ -52,27 +52,27 @@ fn small_tape(image: &[u8], tape: &[u8]) -> Counted
 }
 
 // The command at `at` of the tape.
-fn command_at(tape: &[u8], at: usize) -> Met
+fn command_at(tape: &[u8], at: usize) -> Command
     requires { ⌜ at + 4 ≤ length (now tape) ⌝ }
-    ensures { λ r. ⌜ ((n : ℕ) → isCommand n (drop at (now (tape .entry))) ≡ true → Meets (front n (drop at (now (tape .entry)))) r) ⌝ }
+    ensures { λ r. ⌜ ((n : ℕ) → isCommand n (drop at (now (tape .entry))) ≡ true → Describes (front n (drop at (now (tape .entry)))) r) ⌝ }
 {
     let kind = tape[at];
     let place = codec::number_at(tape, at + 2);
     if kind == 1 {
-        return Met {
+        return Command {
             line: place / 8,
             size: 12,
             stores: true,
         };
     }
     if kind == 2 {
-        return Met {
+        return Command {
             line: place,
             size: 68,
             stores: true,
         };
     }
-    Met {
+    Command {
         line: place,
         size: 4,
         stores: false,
@@ -116,11 +116,11 @@ fn seek(pending: &mut [u8], named: &mut [usize], tape: &[u8], r: usize) -> Place
                 rest,
             };
         }
-        let met = command_at(tape, at);
-        let line = met.line;
+        let next = command_at(tape, at);
+        let line = next.line;
         named[commands] = line;
-        product = tally(pending, product, line, met.stores);
-        at = at + met.size;
+        product = tally(pending, product, line, next.stores);
+        at = at + next.size;
         commands = commands + 1;
     }
     Place { commands, rest }

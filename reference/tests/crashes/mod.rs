@@ -15,6 +15,17 @@ use std::collections::BTreeMap;
 
 pub const SEED: u64 = 20_240_605;
 
+/// What must come on every device: a cut in each phase with each table that it may
+/// hold, and recoveries that are cut, of either device.
+pub const OUTCOMES: [&str; 6] = [
+    "before the commit, old",
+    "commit pending, old",
+    "commit pending, new",
+    "commit flushed, new",
+    "recovery cut",
+    "recovery of the other device",
+];
+
 /// The calls under test, with the numbers of their answers.
 pub mod calls {
     use reference::device::Device;

@@ -2,7 +2,7 @@
 -- Assumes nothing.
 use borrow.Author.Needs.{needs}
 use native.Mathlib.Omega.{arith}
-use Rattle.cuts.proofs.Commands.{meets-word, meets-line, meets-flush}
+use Rattle.cuts.proofs.Commands.{describes-word, describes-line, describes-flush}
 use Rattle.cuts.proofs.command_at.Statement.{statement}
 use Rattle.cuts.proofs.command_at.Tie as tie
 
@@ -16,13 +16,13 @@ number-at-requires : tie.Need-number-at-requires
 number-at-requires c κs = search needs
 
 returns : tie.Need-returns
-returns c n is = meets-word n (c .before .before .before .before .args .at) (c .before .before .before .before .args .tape .now) (omega arith) is _ (c .before .number-at .ensures .0) (c .if1 .taken)
+returns c n is = describes-word n (c .before .before .before .before .args .at) (c .before .before .before .before .args .tape .now) (omega arith) is _ (c .before .number-at .ensures .0) (c .if1 .taken)
 
 returns-2 : tie.Need-returns-2
-returns-2 c n is = meets-line n (c .before .before .before .before .before .args .at) (c .before .before .before .before .before .args .tape .now) (omega arith) is _ (c .before .before .number-at .ensures .0) (c .if2 .taken)
+returns-2 c n is = describes-line n (c .before .before .before .before .before .args .at) (c .before .before .before .before .before .args .tape .now) (omega arith) is _ (c .before .before .number-at .ensures .0) (c .if2 .taken)
 
 returns-3 : tie.Need-returns-3
-returns-3 c n is = meets-flush n (c .before .before .before .before .before .args .at) (c .before .before .before .before .before .args .tape .now) (omega arith) is _ (c .before .before .number-at .ensures .0) (c .before .if1 .left) (c .if2 .left)
+returns-3 c n is = describes-flush n (c .before .before .before .before .before .args .at) (c .before .before .before .before .before .args .tape .now) (omega arith) is _ (c .before .before .number-at .ensures .0) (c .before .if1 .left) (c .if2 .left)
 
 pub command-at-spec : {M : Type 1} → statement M
 command-at-spec =

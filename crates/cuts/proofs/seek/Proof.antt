@@ -7,7 +7,7 @@ use native.Mathlib.Omega.{arith}
 use lib.ListN.{length, drop, length-set}
 use Rattle.device.specs.Tape.{isCommand, front}
 use Rattle.device.proofs.Decode.{head-at}
-use Rattle.cuts.specs.Products.{Meets}
+use Rattle.cuts.specs.Products.{Describes}
 use Rattle.cuts.proofs.Seeking.{Walk, Room, walk-start, walk-command, walk-room, walk-next, walk-past, walk-found}
 use Rattle.cuts.proofs.seek.Statement.{statement}
 use Rattle.cuts.proofs.seek.Tie as tie
@@ -26,12 +26,12 @@ inside c = omega (arith, c .before .before .loop .inv .2 .inTape, c .if1 .left)
 here : (c : tie.Else1 Inv-loop μ-loop) → isCommand (64 * length (c .before .before .before .before .before .before .args .pending .now)) (drop (c .before .before .loop .at) (c .before .before .before .before .before .before .args .tape .now)) ≡ true
 here c = walk-command _ _ _ _ _ _ _ _ _ (c .before .before .loop .inv .2) (inside c)
 
--- what is met of it
-met : (c : tie.After-command-at Inv-loop μ-loop) → Meets (front (64 * length (c .before .before .before .before .before .before .before .args .pending .now)) (drop (c .before .before .before .loop .at) (c .before .before .before .before .before .before .before .args .tape .now))) (c .command-at .result)
-met c = c .command-at .ensures (64 * length (c .before .before .before .before .before .before .before .args .pending .now)) (here (c .before))
+-- what it is
+described : (c : tie.After-command-at Inv-loop μ-loop) → Describes (front (64 * length (c .before .before .before .before .before .before .before .args .pending .now)) (drop (c .before .before .before .loop .at) (c .before .before .before .before .before .before .before .args .tape .now))) (c .command-at .result)
+described c = c .command-at .ensures (64 * length (c .before .before .before .before .before .before .before .args .pending .now)) (here (c .before))
 
 room : (c : tie.After-command-at Inv-loop μ-loop) → Room (length (c .before .before .before .before .before .before .before .args .pending .now)) (c .before .before .before .before .before .before .before .args .tape .now) (c .before .before .before .loop .at) (c .before .before .before .loop .commands) (c .before .before .before .loop .product) (c .before .before .before .loop .pending) (c .command-at .result)
-room c = walk-room _ _ _ _ _ _ _ _ _ (c .before .before .before .loop .inv .2) (inside (c .before)) _ (met c) (c .before .before .before .before .before .before .before .pre .1 .1)
+room c = walk-room _ _ _ _ _ _ _ _ _ (c .before .before .before .loop .inv .2) (inside (c .before)) _ (described c) (c .before .before .before .before .before .before .before .pre .1 .1)
 
 loop-holds : tie.Need-loop-holds Inv-loop μ-loop
 loop-holds c =
@@ -79,7 +79,7 @@ loop-again c =
     let tally = c .before .before .before .tally in
     let l = c .before .before .before .before .before .before .before .before .loop in
     let r = room (c .before .before .before .before .before) in
-    (omega (arith, tally .kept .0, l .inv .0), simp length-set (l .inv .1), walk-next _ _ _ _ _ _ _ _ _ (l .inv .2) (inside (c .before .before .before .before .before .before)) _ (met (c .before .before .before .before .before)) _ _ (c .before .before .before .before .before .before .before .loop-test .taken) (r .inTape) (omega (arith, r .another, l .inv .1)) (tally .ensures .1) (tally .ensures .0))
+    (omega (arith, tally .kept .0, l .inv .0), simp length-set (l .inv .1), walk-next _ _ _ _ _ _ _ _ _ (l .inv .2) (inside (c .before .before .before .before .before .before)) _ (described (c .before .before .before .before .before)) _ _ (c .before .before .before .before .before .before .before .loop-test .taken) (r .inTape) (omega (arith, r .another, l .inv .1)) (tally .ensures .1) (tally .ensures .0))
 
 same-length-3 : tie.Need-same-length-3 Inv-loop μ-loop
 same-length-3 c = c .before .loop .inv .0

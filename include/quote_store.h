@@ -36,12 +36,12 @@
  *   writes nothing else, and ends. Proved of the definitions: an accepted
  *   transaction makes exactly its edits, a preview shows the value that the
  *   table would hold after them, no power failure leaves half of a transaction,
- *   and of a small tape quote_nth_cut gives every cut, in order and none twice.
- *   docs/STATEMENTS.md has all of it. So each size, limit, kind, place and refusal
- *   below is one that the proofs speak of; that this file copies them right is
- *   tested (wrapper/c).
- *   Not proved: QUOTE_TAPE_SIZE and the two sizes of a recovery's tape, which are
- *   argued below and tested, and the stack that a call takes, which is tested.
+ *   of a small tape quote_nth_cut gives every cut, in order and none twice, a
+ *   tape of QUOTE_TAPE_SIZE bytes is never too short, and what one quote costs
+ *   (at quote_transaction). docs/STATEMENTS.md has all of it. So each size, limit,
+ *   kind, place and refusal below is one that the proofs speak of; that this file
+ *   copies them right is tested (wrapper/c).
+ *   Not proved: the stack that a call takes, which is tested.
  *
  * How a program goes on
  *   The image is the persistent memory, or a copy of it. No call but
@@ -137,22 +137,15 @@ enum quote_command {
 
 /*
  * A tape of this size is never too short, for either transaction on so many
- * pages: 100 bytes a line, 16 lines a page. It is not proved. Why it is so: the
- * tape first stores words of pages 1 to N-1, each at most once (12 bytes), and
- * flushes each line so stored once (4 bytes), so at most 8 * 12 + 4 = 100 bytes
- * for each of those 16 * (N-1) lines. Then it commits. Without the log that is
- * at most 72 bytes. With k headers logged, each header takes 2 * (68 + 4) = 144
- * bytes, the mark, its clearing and their flushes 32, the root word 12. A logged
- * header's line is not among those first stored, so these 144 replace 100, and
- * 44 * k + 44 is left, with k of 15 at most: 704 bytes. Without line stores a
- * header takes 2 * (8 * 12 + 4) = 200 bytes, and 100 * k + 44 is left: 1,544 bytes.
- * The 1,600 bytes counted for page 0, which is not first stored either, hold each
- * of these.
+ * pages: TAPE_SHORT is not answered (tape-suffices), and no more bytes are used
+ * (tape-used). 100 bytes a line, 16 lines a page: 8 word stores of 12 bytes and a
+ * flush of 4 for each line of pages 1 to N-1; page 0's share holds the commit,
+ * and the header lines that go through the log are not stored before it.
  */
 #define QUOTE_TAPE_SIZE(pages) ((size_t)(pages) * 1600)
 
-/* The same for a recovery, not proved either: 72 bytes a header, for 15, then 28;
- * without line stores 100 bytes a header. */
+/* The same for a recovery (redo-suffices, redo-used): 72 bytes a header, for 15,
+ * then 28; without line stores 100 bytes a header. */
 #define QUOTE_RECOVERY_TAPE_SIZE 1108
 #define QUOTE_RECOVERY_WORDS_TAPE_SIZE 1528
 
@@ -337,6 +330,12 @@ uint8_t quote_preview(const uint8_t *image, size_t image_length,
  *           value is cut short, KEY_RANGE; then, the edits made one after the
  *           other, for the first that fails KEY_PRESENT, KEY_MISSING,
  *           INDEX_FULL, PAGES_OUT; then LOG_FULL; TAPE_SHORT.
+ * The cost of one quote. A list of one insert or update whose record fits below
+ * the content start of the leaf that its key belongs to, an insert finding fewer
+ * than 28 records there, takes at most 6 flushes, commits by the leaf's header,
+ * and stores at most 27 words besides it (quote-cost). A list of one delete that
+ * leaves its leaf with a record takes one flush and stores the header alone
+ * (delete-cost).
  */
 uint8_t quote_transaction(const uint8_t *image, size_t image_length,
                           uint8_t *work, size_t work_length, uint8_t *tape,

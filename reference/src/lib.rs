@@ -2,6 +2,7 @@
 //! plainest way. It is no part of the proved store: the proved one is compared
 //! with it.
 
+pub mod cost;
 pub mod cuts;
 pub mod device;
 pub mod edits;

@@ -2,7 +2,8 @@
 //! the proved library are those of the reference. Stores are edited until
 //! their pages run out; lists, images, logs and buffers are good or damaged;
 //! the images to recover are cuts of these transactions, or made apart. All of
-//! it on a device with line stores, and on one without (document 02 (d)).
+//! it on a device with line stores, and on one without (document 02 (d)). Tapes
+//! have the size that suffices, unless they are to be too short.
 
 mod writes;
 
@@ -18,7 +19,7 @@ use reference::page::LAST_KEY;
 use reference::recovery::recover;
 use std::cmp::Ordering;
 use std::collections::BTreeMap;
-use writes::{compare_recovery, compare_transaction, Call, BEFORE};
+use writes::{compare_recovery, compare_transaction, recovery_tape_size, tape_size, Call, BEFORE};
 
 const SEED: u64 = 20_240_606;
 
@@ -28,6 +29,8 @@ struct Tally {
     times: BTreeMap<String, usize>,
     calls: usize,
     lengths: Vec<usize>,
+    /// The largest part of a tape's size that was used, in percent.
+    fullest: usize,
 }
 
 impl Tally {
@@ -37,6 +40,7 @@ impl Tally {
             times: BTreeMap::new(),
             calls: 0,
             lengths: vec![0; 201],
+            fullest: 0,
         }
     }
 
@@ -70,9 +74,11 @@ fn send(call: &Call, tally: &mut Tally) -> (u8, Call) {
 
 /// What the accepted lists and their transactions are like.
 fn count_accepted(call: &Call, after: &Call, tally: &mut Tally) {
-    if let Some(kind) = after.answer.get(1).filter(|_| after.answer.len() >= 5) {
-        let place = ["", "a header", "the root word", "the log"][*kind as usize];
+    if let [_, kind, _, bytes, _, ..] = after.answer[..] {
+        let place = ["", "a header", "the root word", "the log"][kind as usize];
         tally.count(format!("commit by {place}"));
+        let share = 100 * bytes as usize / tape_size(&call.image);
+        tally.fullest = tally.fullest.max(share);
     }
     let edits = parse(&call.edits).unwrap();
     tally.count(format!("accepted lists of {:>2}", edits.len()));
@@ -318,9 +324,9 @@ fn send_recovery(call: &Call, tally: &mut Tally) -> (u8, Call) {
     (number, after)
 }
 
-fn recovery_call(random: &mut Random, image: &[u8]) -> Call {
+fn recovery_call(random: &mut Random, image: &[u8], device: Device) -> Call {
     let mut call = Call::new(random, image, Vec::new());
-    call.tape.truncate(1600);
+    call.tape.truncate(recovery_tape_size(device));
     call.answer.truncate(2);
     call
 }
@@ -328,7 +334,7 @@ fn recovery_call(random: &mut Random, image: &[u8]) -> Call {
 /// Recoveries, the accepted one's tape cut and recovered again.
 fn recoveries(random: &mut Random, mut image: Vec<u8>, tally: &mut Tally) {
     for _ in 0..3 {
-        let call = recovery_call(random, &image);
+        let call = recovery_call(random, &image, tally.device);
         let (number, after) = send_recovery(&call, tally);
         if number != 0 {
             break;
@@ -338,6 +344,9 @@ fn recoveries(random: &mut Random, mut image: Vec<u8>, tally: &mut Tally) {
         };
         let headers = flushes.saturating_sub(1);
         tally.count(format!("recovery of {headers:>2} headers"));
+        if bytes as usize == call.tape.len() {
+            tally.count(WITH_THE_LONGEST_TAPE);
+        }
         if bytes == 0 {
             break;
         }
@@ -367,7 +376,7 @@ fn spoiled_recovery(random: &mut Random, call: &Call, bytes: usize, tally: &mut 
 fn log_damaged(random: &mut Random, mut image: Vec<u8>, tally: &mut Tally) {
     let field = random.below(logs::FIELDS.len());
     logs::damage(random, &mut image, field);
-    let call = recovery_call(random, &image);
+    let call = recovery_call(random, &image, tally.device);
     let (number, _) = send_recovery(&call, tally);
     if number == 4 {
         tally.count(format!("log with wrong {}", logs::FIELDS[field]));
@@ -422,6 +431,9 @@ fn compared(device: Device, calls: usize) -> Tally {
     let least = tally.lengths.iter().min().unwrap();
     println!("{:<40}{least:>8}", "accepted values, least of a length");
     assert!(*least > 20);
+    let fullest = tally.fullest;
+    println!("{:<40}{fullest:>8}", "percent of a tape used, at most");
+    assert!(fullest > 33);
     everything_came(&tally);
     tally
 }
@@ -470,6 +482,7 @@ fn everything_came(tally: &Tally) {
 }
 
 const BY_A_HEADER: &str = "commit by a header";
+const WITH_THE_LONGEST_TAPE: &str = "recovery with the longest tape";
 
 fn wanted_of_transactions() -> Vec<String> {
     let answers = (0..=13).map(|number| format!("transaction, answer {number:>2}"));
@@ -507,5 +520,6 @@ fn wanted_of_recoveries() -> Vec<String> {
     (answers.into_iter().chain(headers))
         .chain(points)
         .chain(fields)
+        .chain([WITH_THE_LONGEST_TAPE.into()])
         .collect()
 }

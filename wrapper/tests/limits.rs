@@ -52,6 +52,21 @@ fn fullest(pages: usize, length: usize) -> Store {
     store
 }
 
+/// One quote that its leaf has room for: six flushes are reached, by a record in five
+/// lines. A delete that leaves the leaf a quote takes one; a split takes more than six.
+#[test]
+fn flushes_of_one_quote() {
+    let mut store = Store::fresh(8).unwrap();
+    let mut flushes = |edit| store.apply(&[edit]).unwrap().flushes;
+    assert_eq!(flushes(insert(1, 32)), 2);
+    assert_eq!(flushes(insert(2, 200)), 6);
+    assert_eq!(flushes(Edit::Delete { key: 1 }), 1);
+    for key in 3..=5 {
+        assert!(flushes(insert(key, 200)) <= 6);
+    }
+    assert!(flushes(insert(6, 200)) > 6);
+}
+
 /// How many quotes fit: by rising keys, by falling keys, at most.
 #[test]
 fn quotes_that_fit() {

@@ -19,3 +19,4 @@ pub mod Rising
 pub mod Order
 pub mod Stated
 pub mod Devices
+pub mod Cost

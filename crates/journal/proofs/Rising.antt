@@ -34,7 +34,7 @@ changed-rising a w = rises-lower 0 1 (changedPages a w) (omega arith) (from-one 
 
 -- ---- stage A: "in rising order; then a flush of each line so stored, rising"
 
-walk-rises : (rs a w : List ℕ) (n k : ℕ) → RisesFrom (wordSize * k) (storePlaces (walk rs a w n k))
+pub walk-rises : (rs a w : List ℕ) (n k : ℕ) → RisesFrom (wordSize * k) (storePlaces (walk rs a w n k))
 unfolding storePlaces
 walk-rises rs a w =
     walk-all rs a w (λ n k cs. RisesFrom (wordSize * k) (storePlaces cs)) (λ k. tt) (λ n k cs q h. rises-lower (wordSize * k) (wordSize * suc k) (storePlaces cs) (omega arith) h)

@@ -8,3 +8,4 @@ pub mod Commit
 pub mod Holds
 pub mod Safe
 pub mod Order
+pub mod Cost

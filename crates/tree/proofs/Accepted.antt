@@ -8,7 +8,7 @@ use mathlib.Core.Bool.{Bool, true, false, _&&_, _||_, not, false≢true}
 use mathlib.Core.List.{List, [], _∷_, _++_}
 use native.Mathlib.Omega.{arith}
 use lib.ListN.{length, getD, drop, replicate, List·getD-eq-default}
-use lib.Seq.{drop-at, getD-drop}
+use lib.Seq.{drop-at}
 use lib.Dec.{leb, ltb}
 use borrow.Author.Tests.{leb-true, ltb-true, ltb-false, le-ltb}
 use Rattle.codec.specs.Lists.{part, All}
@@ -40,7 +40,7 @@ use Rattle.tree.specs.State.{State, begin}
 use Rattle.tree.specs.Whole.{finished, editsOn, editedImage}
 use Rattle.tree.specs.Grounds.{tableOf}
 use Rattle.tree.specs.Good.{count, inside}
-use Rattle.tree.proofs.General.{byte-part}
+use Rattle.tree.proofs.General.{byte-part, byte-past}
 use Rattle.tree.proofs.Counts.{hit-self, inside-most, inside-range, inside-page, count-among, among-count}
 use Rattle.tree.proofs.Pages.{Old}
 use Rattle.tree.proofs.Tree.{good-tree, reached-laid}
@@ -191,15 +191,7 @@ module _ (a : List ℕ) (h : sound a ≡ true) (es : List Edit) (st : State) (R 
 
       go : (pageOf w q ≡ pageOf (st .image) q) ⊎ (pageOf w q ≡ pageOf a q) → getD (pageOf w q) o 0 ≡ getD (pageOf a q) o 0
       go (inr z) = ap (λ (p : List ℕ). getD p o 0) z
-      go (inl z) =
-          let s = readHead (pageOf a q) .start in
-          let f : s + (o - s) ≡ o = omega arith in
-          ap (λ (p : List ℕ). getD p o 0) z
-          ∙ ap (λ (k : ℕ). getD (pageOf (st .image) q) k 0) (sym f)
-          ∙ sym (getD-drop s (pageOf (st .image) q) (o - s) 0)
-          ∙ ap (λ (p : List ℕ). getD p (o - s) 0) (old .above)
-          ∙ getD-drop s (pageOf a q) (o - s) 0
-          ∙ ap (λ (k : ℕ). getD (pageOf a q) k 0) f
+      go (inl z) = ap (λ (p : List ℕ). getD p o 0) z ∙ byte-past (pageOf (st .image) q) (pageOf a q) (readHead (pageOf a q) .start) o (old .above) k
 
   live-kept : (i : ℕ) → live a i ≡ true → freeWord (reached a (rootOf a)) (i / wordSize) ≡ true → (j : ℕ) → j / wordSize ≡ i / wordSize → getD w j 0 ≡ getD a j 0
   unfolding live liveIn freeWord begin

@@ -35,7 +35,7 @@ use Rattle.tree.proofs.Accepted.{reached-page, reached-are, root-is}
 
 -- ---- a header that has sunk is another header
 
-line-page : (img : List ℕ) (p : ℕ) → headerLine img p ≡ part (pageOf img p) 0 lineSize
+pub line-page : (img : List ℕ) (p : ℕ) → headerLine img p ≡ part (pageOf img p) 0 lineSize
 unfolding headerLine pageOf part
 line-page img p = sym (take-take lineSize pageSize (drop (pageSize * p) img) (omega arith))
 
@@ -46,7 +46,7 @@ line-start p = ap number (sym (part-part p 0 lineSize 2 2 (omega arith)))
 line-count : (p : List ℕ) → length (records p) ≡ number (part (part p 0 lineSize) 0 2)
 line-count p = sym (ap number (part-part p 0 lineSize 0 2 (omega arith)) ∙ count-at p)
 
-lower-differs : (p q : List ℕ) → Lower p q → part p 0 lineSize ≡ part q 0 lineSize → ⊥
+pub lower-differs : (p q : List ℕ) → Lower p q → part p 0 lineSize ≡ part q 0 lineSize → ⊥
 lower-differs p q l e =
     let start : readHead p .start ≡ readHead q .start = line-start p ∙ ap (λ (x : List ℕ). number (part x 2 2)) e ∙ sym (line-start q) in
     let few : length (records p) ≡ length (records q) = line-count p ∙ ap (λ (x : List ℕ). number (part x 0 2)) e ∙ sym (line-count q) in
@@ -77,7 +77,7 @@ changed-some before after a w (suc n) p x low high b f d = go (eqb x p) refl (λ
         by-test (λ (l : List ℕ). 1 ≤ length l) (among p before && among p after) (λ c. by-test (λ (l : List ℕ). 1 ≤ length l) (eqs (headerLine a p) (headerLine w p)) (λ c. r) (λ c. omega arith)) (λ c. r)
 
 -- an index that is the same reaches the same pages
-reached-same : (a w : List ℕ) {r s : ℕ} → s ≡ r → pageOf w r ≡ pageOf a r → reached w s ≡ reached a r
+pub reached-same : (a w : List ℕ) {r s : ℕ} → s ≡ r → pageOf w r ≡ pageOf a r → reached w s ≡ reached a r
 unfolding reached children
 reached-same a w {r} z e = ap (reached w) z ∙ ap (λ (p : List ℕ). r ∷ map childOf (records p)) e
 

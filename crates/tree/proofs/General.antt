@@ -1,10 +1,11 @@
--- Laws in general that codec's lack: an element put in or taken out at a seam, and parts of a list of bytes.
+-- Laws in general that codec's lack: an element at a seam, put in or taken out there, and parts of a list of bytes.
 -- Assumes nothing.
 use Prim.Native.Nat.{ℕ, suc, _+_, _-_, _≤_, _<_}
 use mathlib.Core.Path.{_≡_, refl, sym, ap, _∙_}
 use mathlib.Core.List.{List, [], _∷_, _++_}
 use native.Mathlib.Omega.{arith}
-use lib.ListN.{length, getD}
+use lib.ListN.{length, getD, drop}
+use lib.Seq.{getD-drop}
 use Rattle.codec.specs.Lists.{part, insertAt, removeAt}
 use Rattle.codec.proofs.Lists.{getD-part}
 
@@ -21,6 +22,10 @@ module _ {A : Type 0} where
   removeAt-seam [] y post = refl
   removeAt-seam (x ∷ pre) y post = ap (λ (l : List A). x ∷ l) (removeAt-seam pre y post)
 
+  pub getD-seam : (pre : List A) (y : A) (post : List A) (z : A) → getD (pre ++ y ∷ post) (length pre) z ≡ y
+  getD-seam [] y post z = refl
+  getD-seam (x ∷ pre) y post z = getD-seam pre y post z
+
 -- ---- parts
 
 -- a byte of parts that are equal
@@ -32,4 +37,14 @@ byte-part x y o n i e low high =
     ∙ sym (getD-part x o n (i - o) k)
     ∙ ap (λ (l : List ℕ). getD l (i - o) 0) e
     ∙ getD-part y o n (i - o) k
+    ∙ ap (λ (m : ℕ). getD y m 0) f
+
+-- a byte past the first s, where the rest is equal
+pub byte-past : (x y : List ℕ) (s i : ℕ) → drop s x ≡ drop s y → s ≤ i → getD x i 0 ≡ getD y i 0
+byte-past x y s i e low =
+    let f : s + (i - s) ≡ i = omega arith in
+    ap (λ (m : ℕ). getD x m 0) (sym f)
+    ∙ sym (getD-drop s x (i - s) 0)
+    ∙ ap (λ (l : List ℕ). getD l (i - s) 0) e
+    ∙ getD-drop s y (i - s) 0
     ∙ ap (λ (m : ℕ). getD y m 0) f

@@ -22,3 +22,4 @@ pub mod Changed
 pub mod Reasons
 pub mod Numbers
 pub mod Keys
+pub mod OneLeaf

@@ -1,5 +1,5 @@
--- What an edit in place, a delete and a fill leave of a page: kind, number, content start and records, and where the records lie; and that an edit leaves the
--- bytes from the content start on.
+-- What an edit in place, a delete and a fill leave of a page: kind, number, content start and records, and where the records lie; and which bytes an edit
+-- leaves: those from the content start on, and those from the header line to the new content start.
 -- Assumes nothing.
 use Prim.Native.Nat.{ℕ, _+_, _-_, _≤_, _<_}
 use mathlib.Core.Path.{_≡_, refl, sym, ap, _∙_, subst}
@@ -7,19 +7,20 @@ use mathlib.Core.Logic.{_⊎_, inl, inr}
 use mathlib.Core.Bool.{Bool, true, false, _&&_, _||_, or-true}
 use mathlib.Core.List.{List, [], _∷_, map}
 use native.Mathlib.Omega.{arith}
-use lib.ListN.{length, set, drop}
+use lib.ListN.{length, getD, set, drop}
 use lib.Seq.{drop-drop}
 use lib.Dec.{ltb, leb}
 use borrow.Author.Tests.{ltb-true, ltb-false, lt-ltb, le-ltb, leb-true, leb-false, le-leb, lt-leb}
-use Rattle.codec.specs.Lists.{insertAt, removeAt, All}
-use Rattle.codec.proofs.Lists.{drop-splice, length-removeAt}
+use Rattle.codec.specs.Lists.{part, insertAt, removeAt, All}
+use Rattle.codec.proofs.Lists.{drop-splice, part-splice-below, length-removeAt}
+use Rattle.codec.proofs.Agree.{agree-part}
 use Rattle.codec.proofs.Tests.{first, second}
 use Rattle.page.specs.Layout.{pageSize, lineSize, slotCount, Rec, size, recordBytes, Head, readHead, unusedHead}
 use Rattle.page.specs.Page.{records, laidOut, pageOk, RecOk, Page, Entry}
 use Rattle.page.specs.Operations.{seal, written, insertHead, updateHead, deleteHead, insert, update, delete, fillHead, fill, placed, sizes, made}
 use Rattle.page.proofs.Records.{length-recordBytes, size-least}
 use Rattle.page.proofs.Facts.{ok-is, pageOk-true}
-use Rattle.page.proofs.Writes.{drop-seal}
+use Rattle.page.proofs.Writes.{drop-seal, part-seal}
 use Rattle.page.proofs.Operations.{insert-page, update-page, delete-page, fill-is, fill-page, fill-kind, fill-own, fill-start}
 use Rattle.edit.proofs.General.{neither, not-both}
 use Rattle.tree.specs.Edits.{isFull, inPlace}
@@ -27,6 +28,7 @@ use Rattle.tree.specs.Grounds.{entrySize}
 use Rattle.tree.specs.Good.{Entries, Shows}
 use Rattle.tree.specs.Reasons.{Full, NotFull}
 use Rattle.tree.specs.Moved.{downFrom}
+use Rattle.tree.proofs.General.{byte-past}
 use Rattle.tree.proofs.Sizes.{size-entry}
 
 -- ---- what a page shows
@@ -165,16 +167,32 @@ module _ (p : List ℕ) (laid : laidOut p ≡ true) (i : ℕ) (r : Rec) (good : 
     pub place-lower : Lower p (inPlace ins i r p)
     place-lower = inl (omega (arith, place-shows .start, size-least r))
 
+    few-slots : length (place-page ins few .0 .slots) ≤ slotCount
+    few-slots =
+        let t = place-page ins few in
+        subst (λ (h : Head). length (h .slots) ≤ slotCount) (t .1 .head) (ok-is (inPlace ins i r p) (t .1 .ok) .body .head .few)
+
     pub place-old : Old p (inPlace ins i r p)
     place-old =
         let t = place-page ins few in
-        let slots : length (t .0 .slots) ≤ slotCount =
-        subst (λ (h : Head). length (h .slots) ≤ slotCount) (t .1 .head) (ok-is (inPlace ins i r p) (t .1 .ok) .body .head .few) in
         record {
           falls = omega (arith, place-shows .start);
-          above = ap (drop (readHead p .start)) (t .5) ∙ above-seal (t .0) slots;
+          above = ap (drop (readHead p .start)) (t .5) ∙ above-seal (t .0) few-slots;
           sinks = inr place-lower;
         }
+
+    -- "just below start": the bytes from 64 to the new start stay
+    pub place-below : (o : ℕ) → lineSize ≤ o → o < readHead p .start - size r → getD (inPlace ins i r p) o 0 ≡ getD p o 0
+    unfolding written
+    place-below o low high =
+        let s = readHead p .start in
+        let t = place-page ins few in
+        let n : ℕ = s - size r - lineSize in
+        let fits : s - size r + length (recordBytes r) ≤ length p = omega (arith, length-recordBytes r, laid-length p laid, ok-is p laid .body .head .high) in
+        agree-part p (inPlace ins i r p) lineSize n
+        (ap (λ (x : List ℕ). part x lineSize n) (t .5)
+        ∙ part-seal (t .0) (written s p r) lineSize n few-slots (omega arith)
+        ∙ part-splice-below p (s - size r) (recordBytes r) fits lineSize n (omega arith)) o low (omega arith)
 
 -- ---- a record dropped
 
@@ -186,17 +204,20 @@ module _ (p : List ℕ) (laid : laidOut p ≡ true) (i : ℕ) where
   pub delete-lower : i < length (records p) → Lower p (delete p i)
   delete-lower h = inr (delete-shows .start, omega (arith, ap length (delete-shows .recs), length-removeAt i (records p) h))
 
-  pub delete-old : i < length (records p) → Old p (delete p i)
+  -- the bytes past the header line stay
+  delete-rest : (o : ℕ) → lineSize ≤ o → drop o (delete p i) ≡ drop o p
   unfolding delete
-  delete-old h =
+  delete-rest o low =
       let t = delete-page p laid i in
       let slots : length (deleteHead (readHead p) i .slots) ≤ slotCount =
       subst (λ (x : Head). length (x .slots) ≤ slotCount) (t .head) (ok-is (delete p i) (t .ok) .body .head .few) in
-      record {
-        falls = omega (arith, delete-shows .start);
-        above = drop-seal (deleteHead (readHead p) i) p (readHead p .start) slots (laid-start p laid);
-        sinks = inr (delete-lower h);
-      }
+      drop-seal (deleteHead (readHead p) i) p o slots low
+
+  pub delete-old : i < length (records p) → Old p (delete p i)
+  delete-old h = record { falls = omega (arith, delete-shows .start); above = delete-rest (readHead p .start) (laid-start p laid); sinks = inr (delete-lower h) }
+
+  pub delete-past : (o : ℕ) → lineSize ≤ o → getD (delete p i) o 0 ≡ getD p o 0
+  delete-past o low = byte-past (delete p i) p lineSize o (delete-rest lineSize (omega arith)) low
 
 -- ---- a new page
 

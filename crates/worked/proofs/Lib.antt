@@ -2,3 +2,4 @@ pub mod Open
 pub mod Short
 pub mod Updates
 pub mod Claim
+pub mod Costs

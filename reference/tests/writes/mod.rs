@@ -1,6 +1,12 @@
 //! Transaction and recovery by the reference and by the proved library, on
 //! either device: the answer and every buffer are the same. Those without line
-//! stores are also held to the others, as document 02 (d) says.
+//! stores are also held to the others, as document 02 (d) says. A tape of the
+//! size that is said to suffice is never too short.
+
+// Each test uses some of these.
+#![allow(dead_code)]
+
+pub mod by_hand;
 
 use cases::random::Random;
 use reference::device::{decode, Command, Device};
@@ -25,18 +31,29 @@ pub struct Call {
 impl Call {
     /// A call with buffers as they should be, of any content.
     pub fn new(random: &mut Random, image: &[u8], edits: Vec<u8>) -> Call {
-        let tape = if image.len() > 20 * 1024 {
-            65_536
-        } else {
-            16_384
-        };
         Call {
             image: image.to_vec(),
             work: vec![random.byte(); image.len()],
-            tape: vec![random.byte(); tape],
+            tape: vec![random.byte(); tape_size(image)],
             edits,
             answer: vec![BEFORE; 5],
         }
+    }
+}
+
+/// QUOTE_TAPE_SIZE of the C header: a tape of so many bytes is never too short for
+/// a transaction on either device. 1,600 a page: for each of its 16 lines eight
+/// word stores of 12 and a flush of 4.
+pub fn tape_size(image: &[u8]) -> usize {
+    image.len() / 1024 * 1600
+}
+
+/// The same for a recovery: 15 headers of 68 bytes, by words 96, each with a flush
+/// of 4; root word and mark of 12; a flush.
+pub fn recovery_tape_size(device: Device) -> usize {
+    match device {
+        Device::Lines => 1108,
+        Device::Words => 1528,
     }
 }
 
@@ -100,6 +117,11 @@ fn write<const N: usize>(answer: &mut [u64], numbers: [u64; N]) {
 pub fn compare_transaction(device: Device, which: usize, call: &Call) -> (u8, Call) {
     let name = format!("call {which}, transaction");
     let (number, after) = compare(&name, TRANSACTION, device, call);
+    let used = match after.answer[..] {
+        [_, _, _, bytes, _, ..] => bytes,
+        _ => 0,
+    };
+    suffices(tape_size(&call.image), call, number, used);
     if device == Device::Words {
         beside_lines(TRANSACTION, call, number, &after);
         if let (0, &[_, kind, _, bytes, flushes]) = (number, &after.answer[..]) {
@@ -114,6 +136,11 @@ pub fn compare_transaction(device: Device, which: usize, call: &Call) -> (u8, Ca
 pub fn compare_recovery(device: Device, which: usize, call: &Call) -> (u8, Call) {
     let name = format!("call {which}, recovery");
     let (number, after) = compare(&name, RECOVERY, device, call);
+    let used = match after.answer[..] {
+        [bytes, _, ..] => bytes,
+        _ => 0,
+    };
+    suffices(recovery_tape_size(device), call, number, used);
     if device == Device::Words {
         beside_lines(RECOVERY, call, number, &after);
         if let (0, &[bytes, flushes]) = (number, &after.answer[..]) {
@@ -143,6 +170,14 @@ fn compare(name: &str, ways: Ways, device: Device, call: &Call) -> (u8, Call) {
         assert!(left.work == *work && left.tape == call.tape);
     }
     (wanted, left)
+}
+
+/// Where a tape of this size is lent, "13 tape too short" never comes; and an
+/// accepted call uses no more of a longer one.
+fn suffices(size: usize, call: &Call, number: u8, used: u64) {
+    let lent = call.tape.len();
+    assert!(number != 13 || lent < size, "13 with {lent} bytes");
+    assert!(number != 0 || used <= size as u64, "{used} bytes used");
 }
 
 /// Document 02 (d): "After an accepted call, work matches the line-store

@@ -18,13 +18,13 @@ use Rattle.journal.specs.declared.Commit.{Commit}
 use Rattle.transaction.specs.Calls.{commandsOn, transactionCall}
 use Rattle.transaction.specs.declared.Transacted.the-variants.{Accepted}
 
--- the transaction of a list of the one edit e is accepted with the answer c; the leaf that the key of e belongs to
+-- the transaction of a list of the one edit e is accepted with the answer c; the leaf that the key of e belongs to, as each key does to one
 pub record OneEdit (a work tape bytes : List ℕ) (e : Edit) (c : Commit) : Type 0 where
   pub isAccepted : transactionCall ByLine a work tape bytes .answer ≡ Accepted c
   pub only : editList bytes ≡ listed (e ∷ [])
   pub leaf : Belongs (keyOf e) (children a (rootOf a))
 
--- the page of that leaf, and its number
+-- that leaf's page number, and the page
 abbrev pub leafNumber : {a work tape bytes : List ℕ} {e : Edit} {c : Commit} → OneEdit a work tape bytes e c → ℕ
 leafNumber o = childOf (o .leaf .own)
 

@@ -3,7 +3,7 @@
 -- Assumes nothing.
 use Prim.Native.Nat.{ℕ, zero, suc, _+_, _-_, _*_, _/_, _%_, _≤_, _<_}
 use mathlib.Core.Path.{_≡_, refl, sym, ap, _∙_}
-use mathlib.Core.Logic.{_⊎_, inl, inr}
+use mathlib.Core.Logic.{inl, inr}
 use mathlib.Core.Bool.{Bool, true, false, _&&_, _||_, not, true≢false}
 use mathlib.Core.List.{List, [], _∷_, _++_}
 use native.Mathlib.Decide.{decLt}
@@ -29,7 +29,7 @@ use Rattle.journal.specs.Way.{IsWord}
 use Rattle.journal.specs.Tape.{byHeader, oneHeader, choose, takenFor}
 use Rattle.journal.specs.Edited.{Edited}
 use Rattle.journal.specs.Order.{RisesFrom, storePlaces}
-use Rattle.journal.specs.Cost.{OneLeaf, linesBetween, Costs}
+use Rattle.journal.specs.Cost.{Span, Elsewhere, OneLeaf, linesBetween, Costs}
 use Rattle.journal.specs.declared.Way.the-variants.{ByLine}
 use Rattle.journal.proofs.StageA.{flushing-of, wordAt, walk, walk-all}
 use Rattle.journal.proofs.Changed.{reached-page}
@@ -129,7 +129,8 @@ module _ (before after a w : List ℕ) (q : ℕ) (same : (p : ℕ) → (p ≡ q 
 -- ---- one leaf
 
 module _ (a w : List ℕ) (s : sound a ≡ true) (d : Edited a w) (q from to : ℕ) (O : OneLeaf a w q from to) where
-  open OneLeaf O using (low, order, high, evenFrom, evenTo)
+  open OneLeaf O using (span)
+  open Span span using (low, order, high, evenFrom, evenTo)
 
   abbrev rs : List ℕ
   rs = reached a (rootOf a)
@@ -138,7 +139,7 @@ module _ (a w : List ℕ) (s : sound a ≡ true) (d : Edited a w) (q from to : �
   past-zero = isPage-true (pageCount a) q (reached-page a s q (O .was))
 
   -- bytes of both images that lie elsewhere
-  kept : (o n : ℕ) → ((i : ℕ) → o ≤ i → i < o + n → (i < pageSize * q) ⊎ ((pageSize * q + lineSize ≤ i) × ((i < pageSize * q + from) ⊎ (pageSize * q + to ≤ i)))) → part a o n ≡ part w o n
+  kept : (o n : ℕ) → ((i : ℕ) → o ≤ i → i < o + n → Elsewhere q from to i) → part a o n ≡ part w o n
   kept o n h = part-agree w a o n (d .sameLength) (λ i l u. O .elsewhere i (h i l u))
 
   in-header : (k : ℕ) → pageSize * q ≤ wordSize * k → wordSize * k < pageSize * q + lineSize → freeWord rs k ≡ false
@@ -166,8 +167,7 @@ module _ (a w : List ℕ) (s : sound a ≡ true) (d : Edited a w) (q from to : �
   unfolding headerLine
   same-header p other = kept (pageSize * p) lineSize (λ i l h. go i l h (decLt p q))
     where
-      go : (i : ℕ) → pageSize * p ≤ i → i < pageSize * p + lineSize → Dec (p < q) →
-          (i < pageSize * q) ⊎ ((pageSize * q + lineSize ≤ i) × ((i < pageSize * q + from) ⊎ (pageSize * q + to ≤ i)))
+      go : (i : ℕ) → pageSize * p ≤ i → i < pageSize * p + lineSize → Dec (p < q) → Elsewhere q from to i
       go i l h (yes below) = inl (omega arith)
       go i l h (no above) = let past : q < p = omega (arith, other) in inr (omega arith, inr (omega arith))
 

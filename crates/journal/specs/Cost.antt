@@ -17,18 +17,25 @@ use Rattle.journal.specs.Way.{IsWord}
 use Rattle.journal.specs.declared.CommitPlace.{CommitPlace}
 use Rattle.journal.specs.declared.CommitPlace.the-variants.{Header}
 
--- from the image a to the edited image w nothing differs but page q, reached before and after: its header does, and words of it from the
--- offset `from` on and below `to` may
-pub record OneLeaf (a w : List ℕ) (q from to : ℕ) : Type 0 where
-  pub was : among q (reached a (rootOf a)) ≡ true
-  pub stays : among q (reached w (rootOf w)) ≡ true
-  pub header : headerLine a q ≡ headerLine w q → ⊥
-  pub elsewhere : (i : ℕ) → (i < pageSize * q) ⊎ ((pageSize * q + lineSize ≤ i) × ((i < pageSize * q + from) ⊎ (pageSize * q + to ≤ i))) → getD w i 0 ≡ getD a i 0
+-- words of a page past its header, from the offset `from` on and below `to`
+pub record Span (from to : ℕ) : Type 0 where
   pub low : lineSize ≤ from
   pub order : from ≤ to
   pub high : to ≤ pageSize
   pub evenFrom : from % wordSize ≡ 0
   pub evenTo : to % wordSize ≡ 0
+
+-- byte i lies neither there, in page q, nor in the header of page q
+abbrev pub Elsewhere : ℕ → ℕ → ℕ → ℕ → Type 0
+Elsewhere q from to i = (i < pageSize * q) ⊎ ((pageSize * q + lineSize ≤ i) × ((i < pageSize * q + from) ⊎ (pageSize * q + to ≤ i)))
+
+-- from the image a to the edited image w nothing differs but page q, reached before and after: its header does, and these words may
+pub record OneLeaf (a w : List ℕ) (q from to : ℕ) : Type 0 where
+  pub span : Span from to
+  pub was : among q (reached a (rootOf a)) ≡ true
+  pub stays : among q (reached w (rootOf w)) ≡ true
+  pub header : headerLine a q ≡ headerLine w q → ⊥
+  pub elsewhere : (i : ℕ) → Elsewhere q from to i → getD w i 0 ≡ getD a i 0
 
 -- how many lines the bytes from the offset `from` on and below `to` lie in
 abbrev pub linesBetween : ℕ → ℕ → ℕ

@@ -34,7 +34,7 @@ use Rattle.edit.specs.EditList as edits
 use Rattle.edit.specs.Reads.{Proper}
 use Rattle.edit.proofs.Places.{search-there}
 use Rattle.journal.specs.Edited.{Edited}
-use Rattle.journal.specs.Cost.{OneLeaf}
+use Rattle.journal.specs.Cost.{Span, Elsewhere, OneLeaf}
 use Rattle.tree.specs.State.{State, Step, done, refused, begin, withPage}
 use Rattle.tree.specs.Edits.{isFull, inPlace, put, dropped, editAt, edited}
 use Rattle.tree.specs.Whole.{finished, onward, editsFrom, editsOn, editedImage}
@@ -120,11 +120,7 @@ record Rewrites (p g : List ℕ) (from to : ℕ) : Type 0 where
   whole : length g ≡ pageSize
   lower : Lower p g
   past : (o : ℕ) → lineSize ≤ o → (o < from) ⊎ (to ≤ o) → getD g o 0 ≡ getD p o 0
-  low : lineSize ≤ from
-  order : from ≤ to
-  high : to ≤ pageSize
-  evenFrom : from % 8 ≡ 0
-  evenTo : to % 8 ≡ 0
+  span : Span from to
 
 module _ (p : List ℕ) (laid : laidOut p ≡ true) (j : ℕ) where
   -- "Insert and update write a new record of size s just below start"
@@ -136,11 +132,7 @@ module _ (p : List ℕ) (laid : laidOut p ≡ true) (j : ℕ) where
         whole = laid-length (inPlace ins j r p) (place-shows p laid j r ok fits ins (room .1) .laid);
         lower = place-lower p laid j r ok fits ins (room .1);
         past = past fits;
-        low = omega arith;
-        order = omega arith;
-        high = head .high;
-        evenFrom = omega (arith, head .even, size-even r);
-        evenTo = head .even;
+        span = record { low = omega arith; order = omega arith; high = head .high; evenFrom = omega (arith, head .even, size-even r); evenTo = head .even };
       }
     where
       past : lineSize + size r ≤ readHead p .start → (o : ℕ) → lineSize ≤ o → (o < readHead p .start - size r) ⊎ (readHead p .start ≤ o) → getD (inPlace ins j r p) o 0 ≡ getD p o 0
@@ -154,11 +146,7 @@ module _ (p : List ℕ) (laid : laidOut p ≡ true) (j : ℕ) where
         whole = laid-length (delete p j) (delete-shows p laid j .laid);
         lower = delete-lower p laid j inside;
         past = λ o low h. delete-past p laid j o low;
-        low = omega arith;
-        order = omega arith;
-        high = omega arith;
-        evenFrom = refl;
-        evenTo = refl;
+        span = record { low = omega arith; order = omega arith; high = omega arith; evenFrom = refl; evenTo = refl };
       }
 
 -- ---- the edited image
@@ -246,7 +234,7 @@ module _ (a : List ℕ) (h : sound a ≡ true) (e : Edit) (P : Proper e) (st : S
         go (no l) (no m) = D .pageZeroKept i k (inr (omega arith))
         go (no l) (yes m) = byte-part w a 8 56 i words (omega arith) (omega arith)
 
-    elsewhere : (i : ℕ) → (i < pageSize * q) ⊎ ((pageSize * q + lineSize ≤ i) × ((i < pageSize * q + from) ⊎ (pageSize * q + to ≤ i))) → getD w i 0 ≡ getD a i 0
+    elsewhere : (i : ℕ) → Elsewhere q from to i → getD w i 0 ≡ getD a i 0
     elsewhere i off = go (decLt i pageSize) (among x (reached w (rootOf w))) refl (eqb x q) refl
       where
         x : ℕ
@@ -256,7 +244,7 @@ module _ (a : List ℕ) (h : sound a ≡ true) (e : Edit) (P : Proper e) (st : S
         alike z = byte-page w i ∙ ap (λ (l : List ℕ). getD l (i % pageSize) 0) z ∙ sym (byte-page a i)
 
         -- in the leaf itself
-        own : x ≡ q → (i < pageSize * q) ⊎ ((pageSize * q + lineSize ≤ i) × ((i < pageSize * q + from) ⊎ (pageSize * q + to ≤ i))) → getD w i 0 ≡ getD a i 0
+        own : x ≡ q → Elsewhere q from to i → getD w i 0 ≡ getD a i 0
         own z (inl k) = absurd (omega arith)
         own z (inr k) =
             byte-page w i
@@ -285,11 +273,7 @@ module _ (a : List ℕ) (h : sound a ≡ true) (e : Edit) (P : Proper e) (st : S
           stays = ap (among q) (reached-are a h (e ∷ []) st R) ∙ count-among q (reached (st .image) (st .root)) stays;
           header = λ z. lower-differs p g (W .lower) (sym (line-page a q) ∙ z ∙ line-page w q ∙ ap (λ (l : List ℕ). part l 0 lineSize) edited-page);
           elsewhere = elsewhere;
-          low = W .low;
-          order = W .order;
-          high = W .high;
-          evenFrom = W .evenFrom;
-          evenTo = W .evenTo;
+          span = W .span;
         }
 
   -- ---- what an insert or an update changes

@@ -39,7 +39,9 @@ pub struct Commit {
     pub place: CommitPlace,
     /// The tape bytes used.
     pub bytes: usize,
-    /// The flush commands on the tape.
+    /// The flush commands on the tape. With line stores a list of one insert or
+    /// update that its leaf has room for has 6 at most, and one of a delete that
+    /// leaves the leaf a quote has 1: this is proved.
     pub flushes: usize,
 }
 

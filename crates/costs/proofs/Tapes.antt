@@ -1,7 +1,7 @@
 -- The longest tapes: stage A's and what follows it, and a recovery's; so 13 does not come where so many bytes are lent.
 -- Assumes nothing.
 use Prim.Native.Nat.{ℕ, _+_, _-_, _*_, _≤_, _<_}
-use mathlib.Core.Path.{_≡_, refl, sym, ap}
+use mathlib.Core.Path.{_≡_, refl, sym, ap, _∙_}
 use mathlib.Core.Logic.{_⊎_, inl, inr}
 use mathlib.Core.Bool.{Bool, true, false, _&&_}
 use mathlib.Core.List.{List}
@@ -92,29 +92,29 @@ tape-used way a work tape bytes c e =
     let used : c .bytes ≡ length (tapeBytes (takenFor way a w .tape)) = ap (λ (x : Commit). x .bytes) (answer-is way a work tape bytes c e) in
     omega (arith, used, tape-most way a w (was-sound way a work tape bytes c e) (target-edited way a work tape bytes c e) (acceptance way a work tape bytes c e .few))
 
--- the numbers of the refusals before
-check-number : (a : List ℕ) (r : Refusal) → NotOpened a r ⊎ (record { number = 4; edit = 0 } ≡ r) → r .number ≤ 4
-check-number a _ (inl (image.bad-size s)) = omega arith
-check-number a _ (inl (image.wrong-zero s z)) = omega arith
-check-number a _ (inl (image.mark-waits s k root z)) = omega arith
-check-number a _ (inl (image.bad-index s root z i)) = omega arith
-check-number a r (inr e) = omega (arith, ap (λ (x : Refusal). x .number) e)
+-- the refusals before it have other numbers
+check-other : (a : List ℕ) (r : Refusal) → NotOpened a r ⊎ (record { number = 4; edit = 0 } ≡ r) → r .number ≡ 13 → ⊥
+check-other a _ (inl (image.bad-size s)) e = omega arith
+check-other a _ (inl (image.wrong-zero s z)) e = omega arith
+check-other a _ (inl (image.mark-waits s k root z)) e = omega arith
+check-other a _ (inl (image.bad-index s root z i)) e = omega arith
+check-other a r (inr four) e = omega (arith, ap (λ (x : Refusal). x .number) four)
 
-fault-number : (t : List ℕ) (k : ℕ) → Fault t k → k ≤ 7
-fault-number t _ (head-short _) = omega arith
-fault-number t _ (unknown-kind _ _) = omega arith
-fault-number t _ (delete-long _ _ _) = omega arith
-fault-number t _ (long-value _ _ _) = omega arith
-fault-number t _ (value-short _ _ _ _) = omega arith
-fault-number t _ (bad-key _ _ _ _) = omega arith
-fault-number t _ (none _) = omega arith
+fault-other : (t : List ℕ) (k : ℕ) → Fault t k → k ≡ 13 → ⊥
+fault-other t _ (head-short _) e = omega arith
+fault-other t _ (unknown-kind _ _) e = omega arith
+fault-other t _ (delete-long _ _ _) e = omega arith
+fault-other t _ (long-value _ _ _) e = omega arith
+fault-other t _ (value-short _ _ _ _) e = omega arith
+fault-other t _ (bad-key _ _ _ _) e = omega arith
+fault-other t _ (none _) e = omega arith
 
-list-number : (bytes : List ℕ) (k i : ℕ) → ListFault bytes k i → k ≤ 7
-list-number bytes k i (inl h) = omega (arith, h .1)
-list-number bytes k i (inr h) = go (h .why)
+list-other : (bytes : List ℕ) (k i : ℕ) → ListFault bytes k i → k ≡ 13 → ⊥
+list-other bytes k i (inl h) e = omega (arith, h .1)
+list-other bytes k i (inr h) e = go (h .why)
   where
-    go : Stops 16 (length (h .before)) (h .rest) k → k ≤ 7
-    go (inl s) = fault-number (h .rest) k (s .1)
+    go : Stops 16 (length (h .before)) (h .rest) k → ⊥
+    go (inl s) = fault-other (h .rest) k (s .1) e
     go (inr s) = omega (arith, s .1)
 
 refused-number : (n i : ℕ) (work tape : List ℕ) (r : Refusal) → refusedWith n i work tape .answer ≡ transactions.Refused r → r .number ≡ n
@@ -128,8 +128,8 @@ tape-suffices way a work tape bytes long r e thirteen = go (transactionCall way 
     go : (x : Result) → Answers way a work tape bytes x → x .answer ≡ transactions.Refused r → ⊥
     go _ (bad-size _) e = omega (arith, refused-number 1 0 work tape r e)
     go _ (bad-work _ _) e = omega (arith, refused-number 2 0 work tape r e)
-    go _ (bad-image _ _ s c) e = let z : s ≡ r = cc in omega (arith, ap (λ (x : Refusal). x .number) z, check-number a s (check-refused a s c))
-    go _ (bad-list _ k i f) e = omega (arith, refused-number k i work tape r e, list-number bytes k i f)
+    go _ (bad-image _ _ s c) e = let z : s ≡ r = cc in check-other a s (check-refused a s c) (ap (λ (x : Refusal). x .number) z ∙ thirteen)
+    go _ (bad-list _ k i f) e = list-other bytes k i f (sym (refused-number k i work tape r e) ∙ thirteen)
     go _ (bad-edit B es reads k i low g) e =
         let made = grounds-refuse a (check-sound a (B .checked)) es (list-proper bytes es reads) k i g (λ z. omega arith) in
         omega (arith, refused-number k i a tape r e, edits-numbered a es k i made .1)

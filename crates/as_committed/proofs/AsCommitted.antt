@@ -37,7 +37,7 @@ use Rattle.transaction.specs.Calls.{Result, refusedWith, acceptedWith, transact
 use Rattle.transaction.specs.Demand2.{Makes}
 use Rattle.transaction.specs.Answers as transactions
 use Rattle.transaction.specs.declared.Transacted.the-variants.{Accepted, Refused}
-use Rattle.transaction.proofs.Answers.{Acceptance, call-answers, call-accepted}
+use Rattle.transaction.proofs.Answers.{refused-is, Acceptance, call-answers, call-accepted}
 use Rattle.transaction.proofs.Demand2.{demand-2}
 use Rattle.tree.specs.State.{State}
 use Rattle.tree.specs.Whole.{finished, editsOn}
@@ -93,11 +93,6 @@ pub as-committed : AsCommitted
 as-committed = either
 
 -- ---- refused
-
--- the refusal of a result
-refused-is : (n i : ℕ) (b t : List ℕ) (r : Refusal) → refusedWith n i b t .answer ≡ Refused r → record { number = n; edit = i } ≡ r
-unfolding refusedWith
-refused-is n i b t r q = cc
 
 module _ (a work tape bytes : List ℕ) (k : ℕ) (low : 1 ≤ k) (high : k ≤ 999999999999) where
   -- each ground of the transaction that is one of the preview's too

@@ -1,11 +1,10 @@
 -- The cost of one quote: what one edit changes (`put-one-leaf`, `delete-one-leaf`), what that costs (`leaf-costs`), and the numbers.
 -- Assumes nothing.
 use Prim.Native.Nat.{ℕ, _+_, _-_, _/_, _≤_}
-use mathlib.Core.Path.{_≡_, refl, sym, ap, _∙_, subst}
+use mathlib.Core.Path.{_≡_, sym, ap, _∙_, subst}
 use mathlib.Core.Bool.{Bool, true, false, false≢true}
 use mathlib.Core.List.{List, [], _∷_}
 use native.Mathlib.Omega.{arith}
-use lib.ListN.{length}
 use Rattle.device.specs.Tape.{Op}
 use Rattle.page.specs.Layout.{lineSize, Rec, recOf, size, readHead}
 use Rattle.image.specs.Image.{sound}
@@ -42,10 +41,6 @@ costs-most words′ most′ w m k =
       fewFlushes = omega (arith, k .fewFlushes);
       alone = k .alone;
     }
-
-nothing : (l : List Op) → length l ≤ 0 → l ≡ []
-nothing [] h = refl
-nothing (o ∷ l) h = absurd (omega arith)
 
 -- ---- the record that an edit puts into the leaf p, which has room for it
 
@@ -110,7 +105,7 @@ module _ (a work tape bytes : List ℕ) (e : Edit) (c : Commit) (o : OneEdit a w
   header-costs : OneLeaf a w (leafNumber o) lineSize lineSize → (c .flushes ≡ 1) × CostsAtMost o 0 1
   header-costs l =
       let k : CostsAtMost o 0 1 = costs-most 0 1 (omega arith) (omega arith) (answer-costs lineSize lineSize l) in
-      (k .alone (nothing (k .before) (k .fewWords)), k)
+      (k .alone (omega (arith, k .fewWords)), k)
 
 pub quote-cost : QuoteCost
 quote-cost = put-costs

@@ -1,7 +1,7 @@
 -- The longest tapes: stage A's and what follows it, and a recovery's; so 13 does not come where so many bytes are lent.
 -- Assumes nothing.
 use Prim.Native.Nat.{ℕ, _+_, _-_, _*_, _≤_, _<_}
-use mathlib.Core.Path.{_≡_, refl, sym, ap, _∙_}
+use mathlib.Core.Path.{_≡_, refl, ap, _∙_}
 use mathlib.Core.Logic.{_⊎_, inl, inr}
 use mathlib.Core.Bool.{Bool, true, false, _&&_}
 use mathlib.Core.List.{List}
@@ -47,7 +47,7 @@ use Rattle.tape_write.proofs.Committing.{taken-size}
 use Rattle.transaction.specs.Calls.{Result, refusedWith, acceptedWith, transactionCall}
 use Rattle.transaction.specs.Answers.{Answers, bad-size, bad-work, bad-image, bad-list, bad-edit, no-log, no-tape, accepted}
 use Rattle.transaction.specs.declared.Transacted.the-variants as transactions
-use Rattle.transaction.proofs.Answers.{call-answers}
+use Rattle.transaction.proofs.Answers.{refused-is, call-answers}
 use Rattle.transaction.proofs.Joining.{images}
 use Rattle.transaction.proofs.Demand2.{acceptance, was-sound, target, target-edited, answer-is}
 use Rattle.recovery.specs.Calls.{recoverCall}
@@ -117,23 +117,22 @@ list-other bytes k i (inr h) e = go (h .why)
     go (inl s) = fault-other (h .rest) k (s .1) e
     go (inr s) = omega (arith, s .1)
 
-refused-number : (n i : ℕ) (work tape : List ℕ) (r : Refusal) → refusedWith n i work tape .answer ≡ transactions.Refused r → r .number ≡ n
-unfolding refusedWith
-refused-number n i work tape r e = let z : record { number = n; edit = i } ≡ r = cc in ap (λ (x : Refusal). x .number) (sym z)
-
 pub tape-suffices : TapeSuffices
 unfolding acceptedWith
 tape-suffices way a work tape bytes long r e thirteen = go (transactionCall way a work tape bytes) (call-answers way a work tape bytes) e
   where
+    said : (n i : ℕ) (left : List ℕ) → refusedWith n i left tape .answer ≡ transactions.Refused r → n ≡ 13
+    said n i left e = ap (λ (x : Refusal). x .number) (refused-is n i left tape r e) ∙ thirteen
+
     go : (x : Result) → Answers way a work tape bytes x → x .answer ≡ transactions.Refused r → ⊥
-    go _ (bad-size _) e = omega (arith, refused-number 1 0 work tape r e)
-    go _ (bad-work _ _) e = omega (arith, refused-number 2 0 work tape r e)
+    go _ (bad-size _) e = omega (arith, said 1 0 work e)
+    go _ (bad-work _ _) e = omega (arith, said 2 0 work e)
     go _ (bad-image _ _ s c) e = let z : s ≡ r = cc in check-other a s (check-refused a s c) (ap (λ (x : Refusal). x .number) z ∙ thirteen)
-    go _ (bad-list _ k i f) e = list-other bytes k i f (sym (refused-number k i work tape r e) ∙ thirteen)
+    go _ (bad-list _ k i f) e = list-other bytes k i f (said k i work e)
     go _ (bad-edit B es reads k i low g) e =
         let made = grounds-refuse a (check-sound a (B .checked)) es (list-proper bytes es reads) k i g (λ z. omega arith) in
-        omega (arith, refused-number k i a tape r e, edits-numbered a es k i made .1)
-    go _ (no-log _ _ _ _ _) e = omega (arith, refused-number 12 0 a tape r e)
+        omega (arith, said k i a e, edits-numbered a es k i made .1)
+    go _ (no-log _ _ _ _ _) e = omega (arith, said 12 0 a e)
     go _ (no-tape B es st D few short) e =
         let s = check-sound a (B .checked) in
         omega (arith, short, tape-most way a (editedImage a st) s (edits-accepted a s es (list-proper bytes es (D .reads)) st (D .makes)) few)

@@ -25,7 +25,6 @@ use Rattle.image.specs.PageZero.{pageCount, rootOf}
 use Rattle.image.specs.Image.{reached, among, sound}
 use Rattle.image.proofs.Zero.{isPage-true}
 use Rattle.journal.specs.Changes.{wordSize, pageWords, lineWords, freeWord, flushesFrom, flushesOf, stageA, headerLine, changedFrom, changedPages, sameRoot}
-use Rattle.journal.specs.Way.{IsWord}
 use Rattle.journal.specs.Tape.{byHeader, oneHeader, choose, takenFor}
 use Rattle.journal.specs.Edited.{Edited}
 use Rattle.journal.specs.Order.{RisesFrom, storePlaces}
@@ -34,6 +33,7 @@ use Rattle.journal.specs.declared.Way.the-variants.{ByLine}
 use Rattle.journal.proofs.StageA.{flushing-of, wordAt, walk, walk-all}
 use Rattle.journal.proofs.Changed.{reached-page}
 use Rattle.journal.proofs.Rising.{walk-rises}
+use Rattle.journal.proofs.Devices.{walk-words}
 
 -- ---- the flushes of stores that rise: at most one for each line, "then a flush of each line so stored"
 
@@ -69,6 +69,12 @@ module _ (bottom top : ℕ) where
   of-few low (malformed ∷ cs) r b = of-few low cs r b
   of-few low (store p vs ∷ cs) r b = omega (arith, b .0 .0, from-few (p / lineSize) (suc p) cs (b .0 .1) (omega arith) (r .1) (b .1))
 
+-- where nothing is stored, nothing is flushed
+none-flushed : (cs : List Op) → length cs ≡ 0 → flushCount (flushesOf cs) ≡ 0
+unfolding flushesOf flushCount
+none-flushed [] e = refl
+none-flushed (o ∷ cs) e = absurd (omega arith)
+
 -- ---- stage A, where the words that it stores lie in a page's bytes from `from` on and below `to`
 
 module _ (rs a w : List ℕ) (from to : ℕ) (inside : (k : ℕ) → freeWord rs k ≡ true → (wordAt a k ≡ wordAt w k → ⊥) → (from ≤ wordSize * k) × (wordSize * k + wordSize ≤ to)) where
@@ -83,12 +89,7 @@ module _ (rs a w : List ℕ) (from to : ℕ) (inside : (k : ℕ) → freeWord rs
       walk-all rs a w (λ n k cs. Between (from / lineSize) ((to + 63) / lineSize) (storePlaces cs)) (λ k. tt) (λ n k cs q h. h)
       (λ n k cs free differ h. ((omega (arith, inside k free differ), omega (arith, inside k free differ)), h))
 
--- its stores are of words, and no flush is among them
-walk-words : (rs a w : List ℕ) (n k : ℕ) → wordSize * (k + n) ≤ length w → All IsWord (walk rs a w n k)
-walk-words rs a w =
-    walk-all rs a w (λ n k cs. wordSize * (k + n) ≤ length w → All IsWord cs) (λ k fits. tt) (λ n k cs q h fits. h (omega arith))
-    (λ n k cs free differ h fits. (length-part w (wordSize * k) wordSize (omega arith), h (omega arith)))
-
+-- no flush is among its stores
 walk-stores : (rs a w : List ℕ) (n k : ℕ) → (stores (walk rs a w n k) ≡ walk rs a w n k) × (flushCount (walk rs a w n k) ≡ 0)
 unfolding stores flushCount
 walk-stores rs a w =
@@ -213,10 +214,6 @@ module _ (a w : List ℕ) (s : sound a ≡ true) (d : Edited a w) (q from to : �
             (walk-between rs a w (pageSize * q + from) (pageSize * q + to) inside (length a / wordSize) 0),
       )
 
-  none-flushed : A ≡ [] → flushCount (flushesOf A) ≡ 0
-  unfolding flushesOf flushCount
-  none-flushed e = rw e
-
   pub leaf-costs : Costs (takenFor ByLine a w .place) (flushCount (takenFor ByLine a w .tape)) (takenFor ByLine a w .tape) q ((to - from) / wordSize) (linesBetween from to + 1)
   unfolding headerLine byHeader
   leaf-costs =
@@ -230,5 +227,5 @@ module _ (a w : List ℕ) (s : sound a ≡ true) (d : Edited a w) (q from to : �
         areWords = walk-words rs a w (length a / wordSize) 0 (omega (arith, d .sameLength));
         fewWords = omega (arith, walk-few rs a w (pageSize * q + from) (pageSize * q + to) inside (length a / wordSize) 0 .0);
         fewFlushes = omega (arith, tape-flushes, few-flushes);
-        alone = λ e. omega (arith, tape-flushes, none-flushed e);
+        alone = λ e. omega (arith, tape-flushes, none-flushed A e);
       })

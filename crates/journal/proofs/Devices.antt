@@ -47,7 +47,7 @@ flush-words (store p vs ∷ ys) h = absurd (h .0)
 flush-words (flush l ∷ ys) h = (tt, flush-words ys (h .1))
 flush-words (malformed ∷ ys) h = absurd (h .0)
 
-walk-words : (rs a w : List ℕ) (n k : ℕ) → wordSize * (k + n) ≤ length w → All IsWord (walk rs a w n k)
+pub walk-words : (rs a w : List ℕ) (n k : ℕ) → wordSize * (k + n) ≤ length w → All IsWord (walk rs a w n k)
 walk-words rs a w =
     walk-all rs a w (λ n k cs. wordSize * (k + n) ≤ length w → All IsWord cs) (λ k h. tt) (λ n k cs q ih h. ih (omega arith))
     (λ n k cs q differ ih h. (length-part w (wordSize * k) wordSize (omega arith), ih (omega arith)))

@@ -52,4 +52,4 @@ pub record Costs (place : CommitPlace) (flushes : ℕ) (cs : List Op) (q words m
   pub areWords : All IsWord before
   pub fewWords : length before ≤ words
   pub fewFlushes : flushes ≤ most
-  pub alone : before ≡ [] → flushes ≡ 1
+  pub alone : length before ≡ 0 → flushes ≡ 1

@@ -11,6 +11,7 @@ use lib.Dec.{eqb, leb}
 use borrow.Author.Tests.{eqb-true, eqb-false, eq-eqb, ne-eqb, leb-true, leb-false, le-leb, lt-leb}
 use Rattle.device.specs.Tape.{tapeBytes}
 use Rattle.device.specs.Calls.{isImageSize}
+use Rattle.device.specs.declared.Refusal.{Refusal}
 use Rattle.device.specs.declared.Answer.{Answer}
 use Rattle.device.specs.declared.Answer.the-variants as answers
 use Rattle.image.specs.PageZero.{logMost}
@@ -30,6 +31,11 @@ use Rattle.tree.proofs.Numbers.{edits-numbered}
 use Rattle.transaction.specs.Calls.{Result, refusedWith, acceptedWith, committed, outcomeOf, listOf, checkedOf, transactionCall}
 use Rattle.transaction.specs.declared.Transacted.the-variants.{Accepted, Refused}
 use Rattle.transaction.specs.Answers.{Begun, Done, Answers, bad-size, bad-work, bad-image, bad-list, bad-edit, no-log, no-tape, accepted}
+
+-- the refusal of a result
+pub refused-is : (n i : ℕ) (work tape : List ℕ) (r : Refusal) → refusedWith n i work tape .answer ≡ Refused r → record { number = n; edit = i } ≡ r
+unfolding refusedWith
+refused-is n i work tape r e = cc
 
 -- ---- the cases, in the order of document 01
 

@@ -1,22 +1,20 @@
 -- The longest stage A: a word store for each of the 8 words of a line and a flush of the line are 100 bytes, a page has 16 lines, and the header line of a page
 -- that was reached is not stored. So 1,600 bytes a page hold stage A, with 100 to spare for each changed header.
 -- Assumes nothing.
-use Prim.Native.Nat.{ℕ, zero, suc, _+_, _-_, _*_, _/_, _≤_, _<_}
+use Prim.Native.Nat.{ℕ, zero, suc, _+_, _-_, _*_, _/_, _%_, _≤_}
 use mathlib.Core.Path.{_≡_, refl, sym, ap, ap₂, _∙_, subst}
-use mathlib.Core.Bool.{Bool, true, false, _&&_}
+use mathlib.Core.Bool.{Bool, true, false, _&&_, or-true}
 use mathlib.Core.List.{List, [], _∷_, _++_, append-assoc}
 use native.Mathlib.Omega.{arith}
-use native.Mathlib.Nat.{add-zero, zero-add}
 use lib.ListN.{length, length-append}
-use lib.Dec.{eqb}
-use borrow.Author.Tests.{eq-eqb, eqb-true}
-use Rattle.codec.specs.Lists.{pick, part, eqs, All}
+use lib.Dec.{eqb, leb}
+use borrow.Author.Tests.{eq-eqb, eqb-true, le-leb}
+use Rattle.codec.specs.Lists.{pick, eqs, All}
 use Rattle.codec.proofs.Tests.{All-map}
 use Rattle.image.specs.Image.{among}
-use Rattle.journal.specs.Changes.{wordSize, pageWords, lineWords, headerLine, changedFrom}
+use Rattle.journal.specs.Changes.{pageWords, lineWords, freeWord, headerLine, changedFrom}
 use Rattle.tape_write.specs.Words.{differing, storedWords, linesPast}
-use Rattle.tape_write.proofs.StageWords.{stored-split, stored-page}
-use Rattle.tape_write.proofs.Collecting.{differ-length}
+use Rattle.tape_write.proofs.StageWords.{stored-split, stored-all, stored-page, InWords, stored-in, stored-length}
 
 -- ---- the lines of words
 
@@ -40,45 +38,28 @@ module _ (l : ℕ) (ys : List ℕ) (b : ℕ) (few : Few ys b) where
       go true e = let z = eqb-true l last e in omega (arith, ap (λ (m : ℕ). length (linesPast m (xs ++ ys))) z, line-open xs (h .1))
       go false e = omega (arith, line-open xs (h .1))
 
--- ---- words that differ
+-- ---- the words that stage A stores
 
-module _ (a w : List ℕ) where
-  differ-split : (n m k : ℕ) → differing a w (n + m) k ≡ differing a w n k ++ differing a w m (k + n)
-  unfolding differing
-  differ-split zero m k = rw (zero-add m, add-zero k)
-  differ-split (suc n) m k =
-      let e : suc n + m ≡ suc (n + m) = omega arith in
-      let f : k + suc n ≡ suc k + n = omega arith in
-      rw (e, f) (go (eqs (part a (wordSize * k) wordSize) (part w (wordSize * k) wordSize)) (differ-split n m (suc k)))
-    where
-      go : (t : Bool) → differing a w (n + m) (suc k) ≡ differing a w n (suc k) ++ differing a w m (suc k + n) →
-          pick t (differing a w (n + m) (suc k)) (k ∷ differing a w (n + m) (suc k)) ≡ pick t (differing a w n (suc k)) (k ∷ differing a w n (suc k)) ++ differing a w m (suc k + n)
-      go true h = h
-      go false h = ap (λ (x : List ℕ). k ∷ x) h
+-- those of n lines from line l on
+lines-few : (rs a w ys : List ℕ) (b : ℕ) → Few ys b → (n l : ℕ) → Few (storedWords rs a w (lineWords * n) (lineWords * l) ++ ys) (b + n)
+unfolding storedWords
+lines-few rs a w ys b few zero l last = omega (arith, few last)
+lines-few rs a w ys b few (suc n) l last =
+    let e : lineWords * suc n ≡ lineWords + lineWords * n = omega arith in
+    let f : lineWords * l + lineWords ≡ lineWords * suc l = omega arith in
+    let here = storedWords rs a w lineWords (lineWords * l) in
+    let rest = storedWords rs a w (lineWords * n) (lineWords * suc l) in
+    let whole : storedWords rs a w (lineWords * suc n) (lineWords * l) ++ ys ≡ here ++ (rest ++ ys) =
+    ap (λ (x : List ℕ). x ++ ys)
+    (ap (λ (m : ℕ). storedWords rs a w m (lineWords * l)) e ∙ stored-split rs a w lineWords (lineWords * n) (lineWords * l) ∙ ap (λ (k : ℕ). here ++ storedWords rs a w (lineWords * n) k) f)
+    ∙ append-assoc here rest ys in
+    let one = All-map (InWords lineWords (lineWords * l)) (λ (j : ℕ). j / lineWords ≡ l) (λ j h. omega (arith, h .0, h .1)) here (stored-in rs a w lineWords (lineWords * l)) in
+    omega (arith, ap (λ (x : List ℕ). length (linesPast last x)) whole, line-more l (rest ++ ys) (b + n) (lines-few rs a w ys b few n (suc l)) here one last)
 
-  differ-in : (n k : ℕ) → All (λ (j : ℕ). (k ≤ j) × (j < k + n)) (differing a w n k)
-  unfolding differing
-  differ-in zero k = tt
-  differ-in (suc n) k = go (eqs (part a (wordSize * k) wordSize) (part w (wordSize * k) wordSize)) (All-map (λ (j : ℕ). (suc k ≤ j) × (j < suc k + n)) (λ (j : ℕ). (k ≤ j) × (j < k + suc n)) (λ j h. (omega (arith, h .0), omega (arith, h .1))) (differing a w n (suc k)) (differ-in n (suc k)))
-    where
-      go : (t : Bool) → All (λ (j : ℕ). (k ≤ j) × (j < k + suc n)) (differing a w n (suc k)) → All (λ (j : ℕ). (k ≤ j) × (j < k + suc n)) (pick t (differing a w n (suc k)) (k ∷ differing a w n (suc k)))
-      go true h = h
-      go false h = ((omega arith, omega arith), h)
-
-  -- those of n lines from line l on
-  lines-few : (ys : List ℕ) (b : ℕ) → Few ys b → (n l : ℕ) → Few (differing a w (lineWords * n) (lineWords * l) ++ ys) (b + n)
-  unfolding differing
-  lines-few ys b few zero l last = omega (arith, few last)
-  lines-few ys b few (suc n) l last =
-      let e : lineWords * suc n ≡ lineWords + lineWords * n = omega arith in
-      let f : lineWords * l + lineWords ≡ lineWords * suc l = omega arith in
-      let here = differing a w lineWords (lineWords * l) in
-      let rest = differing a w (lineWords * n) (lineWords * suc l) in
-      let whole : differing a w (lineWords * suc n) (lineWords * l) ++ ys ≡ here ++ (rest ++ ys) =
-      ap (λ (x : List ℕ). x ++ ys) (ap (λ (m : ℕ). differing a w m (lineWords * l)) e ∙ differ-split lineWords (lineWords * n) (lineWords * l) ∙ ap (λ (k : ℕ). here ++ differing a w (lineWords * n) k) f)
-      ∙ append-assoc here rest ys in
-      let one = All-map (λ (j : ℕ). (lineWords * l ≤ j) × (j < lineWords * l + lineWords)) (λ (j : ℕ). j / lineWords ≡ l) (λ j h. omega (arith, h .0, h .1)) here (differ-in lineWords (lineWords * l)) in
-      omega (arith, ap (λ (x : List ℕ). length (linesPast last x)) whole, line-more l (rest ++ ys) (b + n) (lines-few ys b few n (suc l)) here one last)
+-- past page 0 all words that differ are stored, where no page was reached
+all-stored : (a w : List ℕ) (n k : ℕ) → pageWords ≤ k → differing a w n k ≡ storedWords [] a w n k
+unfolding freeWord among
+all-stored a w n k low = sym (stored-all [] a w n k (λ j h. rw (le-leb pageWords (k + j) (omega arith)) (or-true (leb lineWords ((k + j) % pageWords)))))
 
 -- ---- page by page
 
@@ -114,9 +95,11 @@ module _ (rs ss a w : List ℕ) where
       let m = was-most p in
       let n : pageWords - 8 * was p ≡ lineWords * (16 - was p) = omega arith in
       let k : pageWords * p + 8 * was p ≡ lineWords * (16 * p + was p) = omega arith in
-      let is : storedWords rs a w pageWords (pageWords * p) ≡ differing a w (lineWords * (16 - was p)) (lineWords * (16 * p + was p)) = stored-page rs a w p one (8 * was p) refl ∙ ap₂ (differing a w) n k in (
-        omega (arith, ap length is, differ-length a w (lineWords * (16 - was p)) (lineWords * (16 * p + was p))),
-        subst (λ (xs : List ℕ). Few (xs ++ ys) (b + (16 - was p))) (sym is) (lines-few a w ys b few (16 - was p) (16 * p + was p)),
+      let words = storedWords [] a w (lineWords * (16 - was p)) (lineWords * (16 * p + was p)) in
+      let is : storedWords rs a w pageWords (pageWords * p) ≡ words =
+      stored-page rs a w p one (8 * was p) refl ∙ ap₂ (differing a w) n k ∙ all-stored a w (lineWords * (16 - was p)) (lineWords * (16 * p + was p)) (omega arith) in (
+        omega (arith, ap length is, stored-length [] a w (lineWords * (16 - was p)) (lineWords * (16 * p + was p))),
+        subst (λ (xs : List ℕ). Few (xs ++ ys) (b + (16 - was p))) (sym is) (lines-few [] a w ys b few (16 - was p) (16 * p + was p)),
       )
 
   -- a page of d words before w more, where c is 1 if it was reached

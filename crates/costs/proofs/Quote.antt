@@ -24,7 +24,7 @@ use Rattle.tree.proofs.Sizes.{size-most}
 use Rattle.tree.proofs.OneLeaf.{Puts, inserts, updates, puts-ok, put-one-leaf, delete-one-leaf}
 use Rattle.transaction.specs.Calls.{commandsOn, transactionCall}
 use Rattle.transaction.proofs.Demand2.{acceptance, was-sound, target, target-edited, answer-is, commands-are}
-use Rattle.costs.specs.Quote.{OneEdit, leafNumber, leafPage, CostsAtMost, Fits, QuoteCost, DeleteCost}
+use Rattle.costs.specs.Quote.{OneEdit, leafNumber, leafPage, CostsAtMost, FitsBelow, QuoteCost, DeleteCost}
 
 -- ---- more words and flushes allowed
 
@@ -50,7 +50,7 @@ record PutsIn (e : Edit) (p : List ℕ) : Type 0 where
   brings : Puts e ins rec
   room : NotFull ins (size rec) p
 
-fits-room : (e : Edit) (p : List ℕ) → Fits e p → PutsIn e p
+fits-room : (e : Edit) (p : List ℕ) → FitsBelow e p → PutsIn e p
 fits-room (insert k v) p f = record { ins = true; rec = recOf k v; brings = inserts k v; room = (omega (arith, f .0), λ z. omega (arith, f .1)) }
 fits-room (update k v) p f = record { ins = false; rec = recOf k v; brings = updates k v; room = (omega (arith, f), λ z. absurd (false≢true z)) }
 fits-room (delete k) p f = absurd f
@@ -95,7 +95,7 @@ module _ (a work tape bytes : List ℕ) (e : Edit) (c : Commit) (o : OneEdit a w
       let to = readHead (leafPage o) .start in
       costs-most 27 6 (omega arith) (omega (arith, l .span)) (answer-costs (to - s) to l)
 
-  put-costs : Fits e (leafPage o) → CostsAtMost o 27 6
+  put-costs : FitsBelow e (leafPage o) → CostsAtMost o 27 6
   put-costs fits =
       let f = fits-room e (leafPage o) fits in
       record-costs (size (f .rec)) (size-most (f .rec) (puts-ok e (f .ins) (f .rec) (f .brings) proper))

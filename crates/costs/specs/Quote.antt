@@ -1,5 +1,5 @@
--- "The cost of one quote" (document 02 (f)): the flushes of an accepted transaction of one edit on the line-store device. An accepted transaction's
--- image is sound, whatever it is.
+-- "The cost of one quote" (document 02 (f)): the flushes of an accepted transaction of one edit on the line-store device. That its image
+-- is sound is part of the acceptance.
 -- Assumes nothing.
 use Prim.Native.Nat.{ℕ, _+_, _≤_, _<_}
 use mathlib.Core.Path.{_≡_}
@@ -37,14 +37,14 @@ CostsAtMost {a} {work} {tape} {bytes} {e} {c} o words most =
     Costs (c .place) (c .flushes) (commandsOn a (c .bytes) (transactionCall ByLine a work tape bytes .tape)) (leafNumber o) words most
 
 -- "one insert or update whose record fits below the content start, an insert finding fewer than 28 records"
-abbrev pub Fits : Edit → List ℕ → Type 0
-Fits (insert k v) p = (64 + size (recOf k v) ≤ readHead p .start) × (length (records p) < 28)
-Fits (update k v) p = 64 + size (recOf k v) ≤ readHead p .start
-Fits (delete k) p = ⊥
+abbrev pub FitsBelow : Edit → List ℕ → Type 0
+FitsBelow (insert k v) p = (64 + size (recOf k v) ≤ readHead p .start) × (length (records p) < 28)
+FitsBelow (update k v) p = 64 + size (recOf k v) ≤ readHead p .start
+FitsBelow (delete k) p = ⊥
 
 -- "must be shown to need at most six flushes": it commits by the leaf's header, and stores at most 27 words besides
 abbrev pub QuoteCost : Type 0
-QuoteCost = (a work tape bytes : List ℕ) (e : Edit) (c : Commit) (o : OneEdit a work tape bytes e c) → Fits e (leafPage o) → CostsAtMost o 27 6
+QuoteCost = (a work tape bytes : List ℕ) (e : Edit) (c : Commit) (o : OneEdit a work tape bytes e c) → FitsBelow e (leafPage o) → CostsAtMost o 27 6
 
 -- "An accepted delete alone that leaves its leaf with a record needs exactly one.": it commits by the leaf's header, and stores nothing besides
 abbrev pub DeleteCost : Type 0

@@ -21,7 +21,7 @@ use Rattle.journal.specs.Changes.{wordSize, pageWords, lineWords, flushesFrom, 
 use Rattle.tape_write.specs.Words.{storedWords, stageWords, WordIn, wordStore, linesPast, stageTape}
 use Rattle.tape_write.specs.Calls.{reachedIn, Images}
 use Rattle.tape_write.proofs.Encoding.{word-next, tape-none, length-none, length-next, length-tapes}
-use Rattle.tape_write.proofs.StageWords.{walk-words, stored-in, stored-length}
+use Rattle.tape_write.proofs.StageWords.{walk-words, InWords, stored-in, stored-length}
 
 -- ---- the lines that words lie in
 
@@ -89,7 +89,9 @@ lines-few last (k ∷ ks) = go (eqb (k / lineWords) last) (lines-few last ks) (l
 module _ (a w : List ℕ) (is : Images a w) where
   pub words-in : All (λ (k : ℕ). WordIn w k × (pageWords ≤ k)) (stageWords a w)
   unfolding stageWords
-  words-in = stored-in (reachedIn a) a w (length a / wordSize) 0 (omega (arith, is .same, is .whole))
+  words-in =
+      let n : ℕ = length a / wordSize in
+      All-map (InWords n 0) (λ (k : ℕ). WordIn w k × (pageWords ≤ k)) (λ k h. (omega (arith, h .1, is .same), h .2)) (stageWords a w) (stored-in (reachedIn a) a w n 0)
 
   pub words-fit : 8 * length (stageWords a w) ≤ length a
   unfolding stageWords

@@ -11,14 +11,18 @@ use lib.ListN.{length, getD}
 use lib.Dec.{leb}
 use borrow.Author.Tests.{le-leb, lt-leb}
 use Rattle.codec.specs.Lists.{pick, part, eqs, All}
-use Rattle.codec.proofs.Tests.{eqs-same, eqs-differ}
+use Rattle.codec.proofs.Tests.{All-map, eqs-same, eqs-differ}
 use Rattle.device.specs.Tape.{Op, store}
 use Rattle.page.specs.Layout.{pageSize}
 use Rattle.image.specs.Image.{among}
 use Rattle.journal.specs.Changes.{wordSize, pageWords, lineWords, freeWord}
 use Rattle.journal.proofs.StageA.{wordAt, walk, walk-all, free-outside}
-use Rattle.tape_write.specs.Words.{differing, storedWords, stageWords, WordIn, wordStore}
+use Rattle.tape_write.specs.Words.{differing, storedWords, stageWords, wordStore}
 use Rattle.tape_write.specs.Calls.{reachedIn, Images, Marks}
+
+-- word j is one of the n words from word k on, past page 0
+abbrev pub InWords : ℕ → ℕ → ℕ → Type 0
+InWords n k j = (k ≤ j) × (j < k + n) × (pageWords ≤ j)
 
 -- ---- words that are free or not
 
@@ -59,7 +63,7 @@ module _ (rs a w : List ℕ) where
       next : (k j : ℕ) → suc k + j ≡ k + suc j
       next k j = omega arith
 
-  stored-all : (n k : ℕ) → ((j : ℕ) → j < n → freeWord rs (k + j) ≡ true) → stored n k ≡ differing a w n k
+  pub stored-all : (n k : ℕ) → ((j : ℕ) → j < n → freeWord rs (k + j) ≡ true) → stored n k ≡ differing a w n k
   unfolding storedWords differing
   stored-all zero k h = refl
   stored-all (suc n) k h =
@@ -145,21 +149,20 @@ module _ (rs a w : List ℕ) where
           store (wordSize * k) (wordAt w k) ∷ cs ≡ map (wordStore w) (stored (suc n) k)
       kept n k cs e other h = rw (e, eqs-differ (wordAt a k) (wordAt w k) other) (ap (λ (r : List Op). store (wordSize * k) (wordAt w k) ∷ r) h)
 
-  -- they lie in the image, past page 0
-  pub stored-in : (n k : ℕ) → wordSize * (k + n) ≤ length w → All (λ (j : ℕ). WordIn w j × (pageWords ≤ j)) (stored n k)
+  -- they lie there
+  pub stored-in : (n k : ℕ) → All (InWords n k) (stored n k)
   unfolding storedWords
-  stored-in zero k h = tt
-  stored-in (suc n) k h = go (freeWord rs k) refl (eqs (part a (wordSize * k) wordSize) (part w (wordSize * k) wordSize)) (stored-in n (suc k) (omega arith))
+  stored-in zero k = tt
+  stored-in (suc n) k =
+      go (freeWord rs k) refl (eqs (part a (wordSize * k) wordSize) (part w (wordSize * k) wordSize))
+      (All-map (InWords n (suc k)) (InWords (suc n) k) (λ j h. (omega (arith, h .0), omega (arith, h .1), h .2)) (stored n (suc k)) (stored-in n (suc k)))
     where
-      P : ℕ → Type 0
-      P j = WordIn w j × (pageWords ≤ j)
-
       rest : List ℕ
       rest = stored n (suc k)
 
-      go : (t : Bool) → freeWord rs k ≡ t → (u : Bool) → All P rest → All P (pick t (pick u rest (k ∷ rest)) rest)
+      go : (t : Bool) → freeWord rs k ≡ t → (u : Bool) → All (InWords (suc n) k) rest → All (InWords (suc n) k) (pick t (pick u rest (k ∷ rest)) rest)
       go true e true q = q
-      go true e false q = ((omega arith, free-outside rs k e), q)
+      go true e false q = ((omega arith, omega arith, free-outside rs k e), q)
       go false e u q = q
 
   pub stored-length : (n k : ℕ) → length (stored n k) ≤ n

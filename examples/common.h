@@ -18,7 +18,8 @@ static inline const char *words_of(uint8_t number)
         "the key is not there", "a 29th leaf is needed", "too few pages are free",
         "more than 15 headers change", "the tape is too short", "the tape is malformed",
         "the cut is past the tape's end", "the choices have a wrong length",
-        "the tape has more than 12 commands", "there is no cut of this number"};
+        "the tape has more than 12 commands", "there is no cut of this number",
+        "the value is empty"};
     return number < sizeof words / sizeof *words ? words[number] : "no answer of the store";
 }
 
@@ -31,7 +32,8 @@ static inline void stop_if_refused(const char *call, uint8_t number)
 }
 
 /* Adds an edit to a list and says where the next one goes. The value has at most
- * QUOTE_LONGEST_VALUE bytes, and the list room for them. */
+ * QUOTE_LONGEST_VALUE bytes, and the list room for them. An empty one of an insert
+ * or update is for the calls to refuse. */
 static inline uint8_t *put_edit(uint8_t *at, uint8_t kind, uint64_t key, const char *value)
 {
     size_t length = strlen(value);

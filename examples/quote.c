@@ -1,8 +1,9 @@
 /*
  * A store of 8 pages: the start, three quotes of a curve and one beside it, a
  * shift of the whole curve, which is looked at before it is sent in one
- * transaction, and a list that is refused; last a damaged leaf, while the quotes
- * of the other are still read. Build it at the root of the repository:
+ * transaction, and two lists that are refused, the second for a quote without a
+ * price; last a damaged leaf, while the quotes of the other are still read. Build
+ * it at the root of the repository:
  *
  *   gcc -Iinclude examples/quote.c target/staticlib/libstore.a -o target/quote
  */
@@ -168,6 +169,7 @@ int main(void)
 {
     static const char *const old[MATURITIES] = {"101.25", "99.50", "97.75"};
     static const char *const shifted[MATURITIES] = {"101.20", "99.375", "97.50"};
+    static const char *const unquoted[MATURITIES] = {"101.25", "", "97.75"};
     stop_if_refused("format", quote_format(image, sizeof image));
     start();
     list_curve(QUOTE_INSERT, old);
@@ -180,6 +182,9 @@ int main(void)
     preview(7); /* which the list leaves alone */
     commit();
     list_curve(QUOTE_INSERT, old);
+    preview(5);
+    commit();
+    list_curve(QUOTE_UPDATE, unquoted);
     preview(5);
     commit();
     print_all();

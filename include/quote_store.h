@@ -97,14 +97,18 @@ extern "C" {
 /* The length of an image of so many pages. */
 #define QUOTE_IMAGE_SIZE(pages) ((size_t)(pages) * QUOTE_PAGE_SIZE)
 
-/* Keys are 1 to the last key; values have 0 to 200 bytes. */
+/*
+ * Keys are 1 to the last key. An insert or update brings a value of 1 to 200
+ * bytes. A value of none may still be stored, from before document 02 (g): it is
+ * found with length 0, and can be updated to a longer one or deleted.
+ */
 #define QUOTE_LAST_KEY UINT64_C(999999999999)
 #define QUOTE_LONGEST_VALUE 200
 
 /*
  * An edit list has 1 to 16 edits end to end. An edit is its kind (1 byte), the
- * value's length (1 byte, 0 for a delete), the key (8 bytes, low byte first)
- * and the value: a head of 10 bytes, then the value's.
+ * value's length (1 byte; 0 for a delete, and for a delete alone), the key (8
+ * bytes, low byte first) and the value: a head of 10 bytes, then the value's.
  */
 #define QUOTE_MOST_EDITS 16
 #define QUOTE_EDIT_HEAD 10
@@ -177,7 +181,8 @@ enum quote_answer {
     QUOTE_PAST_END = 15,        /* the cut comes after more commands than the tape has */
     QUOTE_BAD_CHOICES = 16,     /* the choices are not one byte a line */
     QUOTE_LONG_TAPE = 17,       /* the tape has more than 12 commands */
-    QUOTE_NO_SUCH_CUT = 18      /* the cut's number is not below the number of cuts */
+    QUOTE_NO_SUCH_CUT = 18,     /* the cut's number is not below the number of cuts */
+    QUOTE_EMPTY_VALUE = 19      /* an insert or update with a value of 0 bytes */
 };
 
 /* Where a transaction commits. */
@@ -290,22 +295,23 @@ uint8_t quote_next_key(const uint8_t *image, size_t image_length, uint64_t key,
  *           quote_where), the value's offset in that buffer, its length; all are
  *           0 if the key would be missing. The value is read in place, at edits
  *           or image + answer[2], as long as that buffer stays as it is; an
- *           empty value's offset may be the buffer's length. Refused: the number
- *           of the edit that is at fault, from 0, and three zeros; it is 0 too
- *           for 1, 3, 4 and the key asked, which are no edit's.
+ *           empty value is one that the image holds, and its offset may be
+ *           image_length. Refused: the number of the edit that is at fault, from
+ *           0, for 5 to 9 and 19, and three zeros; it is 0 too for 1, 3, 4 and
+ *           the key asked, which are no edit's.
  *   refuses IMAGE_SIZE_WRONG; UNSOUND if page 0 is wrong; MARK_WAITS; UNSOUND
  *           if the index is wrong; then for the first faulty edit of the list
- *           BAD_LIST, LONG_VALUE, BAD_LIST if the value is cut short, KEY_RANGE;
- *           then KEY_RANGE for the key asked; then, over the whole list, each
- *           edit seeing those before it, for the first that fails UNSOUND if
- *           the leaf that its key belongs to is wrong, KEY_PRESENT, KEY_MISSING;
- *           last, if no edit has the key asked, UNSOUND if the leaf that this
- *           belongs to is wrong.
+ *           BAD_LIST, LONG_VALUE, EMPTY_VALUE, BAD_LIST if the value is cut
+ *           short, KEY_RANGE; then KEY_RANGE for the key asked; then, over the
+ *           whole list, each edit seeing those before it, for the first that
+ *           fails UNSOUND if the leaf that its key belongs to is wrong,
+ *           KEY_PRESENT, KEY_MISSING; last, if no edit has the key asked,
+ *           UNSOUND if the leaf that this belongs to is wrong.
  * Pages, log and tape play no part: it does not say whether the transaction of
  * the list finds room, which may still be refused with INDEX_FULL, PAGES_OUT,
  * LOG_FULL or TAPE_SHORT. Where that is accepted, a lookup of the key in its
- * work finds the same bytes; where it is refused with 5 to 9, so is the preview
- * of a key in range, with the same edit number.
+ * work finds the same bytes; where it is refused with 5 to 9 or 19, so is the
+ * preview of a key in range, with the same edit number.
  */
 uint8_t quote_preview(const uint8_t *image, size_t image_length,
                       const uint8_t *edits, size_t edits_length, uint64_t key,
@@ -315,21 +321,21 @@ uint8_t quote_preview(const uint8_t *image, size_t image_length,
  * Transaction: makes all edits of a list, or none.
  *   image   read.
  *   work    as long as the image. Accepted: the image after all edits, and
- *           after all of the tape's stores. Refused with 1 to 7: as it was.
- *           Refused with 8 to 13: the same bytes as the image.
+ *           after all of the tape's stores. Refused with 1 to 7 or 19: as it
+ *           was. Refused with 8 to 13: the same bytes as the image.
  *   tape    of QUOTE_TAPE_SIZE bytes it is never too short. Accepted: the
  *           commands at its front, the rest as it was. Refused: as it was.
  *   edits   read.
  *   answer  five numbers. Accepted: 0, the commit's place (enum quote_place),
  *           the header's page (0 if the place is none), the tape bytes used,
  *           the number of flushes among the commands. Refused: the number of
- *           the edit that is at fault, from 0, and four zeros; it is 0 too for
- *           1 to 4, 12 and 13, which are no edit's.
+ *           the edit that is at fault, from 0, for 5 to 11 and 19, and four
+ *           zeros; it is 0 too for 1 to 4, 12 and 13, which are no edit's.
  *   refuses IMAGE_SIZE_WRONG; WORK_SIZE_WRONG; as quote_check; then for the
- *           first faulty edit of the list BAD_LIST, LONG_VALUE, BAD_LIST if the
- *           value is cut short, KEY_RANGE; then, the edits made one after the
- *           other, for the first that fails KEY_PRESENT, KEY_MISSING,
- *           INDEX_FULL, PAGES_OUT; then LOG_FULL; TAPE_SHORT.
+ *           first faulty edit of the list BAD_LIST, LONG_VALUE, EMPTY_VALUE,
+ *           BAD_LIST if the value is cut short, KEY_RANGE; then, the edits made
+ *           one after the other, for the first that fails KEY_PRESENT,
+ *           KEY_MISSING, INDEX_FULL, PAGES_OUT; then LOG_FULL; TAPE_SHORT.
  * The cost of one quote. A list of one insert or update whose record fits below
  * the content start of the leaf that its key belongs to, an insert finding fewer
  * than 28 records there, takes at most 6 flushes, commits by the leaf's header,

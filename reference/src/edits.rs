@@ -1,5 +1,5 @@
 //! Document 01, 'Edits': the edit list, and from 'Each call and when it says
-//! no' its refusals 5, 6 and 7.
+//! no' its refusals 5, 6 and 7; document 02 (g) adds 19.
 
 use crate::page::{is_key, LONGEST_VALUE};
 use crate::Refusal;
@@ -35,7 +35,7 @@ impl Edit {
 
 /// "Then the list, first faulty edit: 5 (no edit, a seventeenth, head cut
 /// short, unknown kind, delete with a length), 7 length above 200, 5 value cut
-/// short, 6."
+/// short, 6." Document 02 (g) has 19 "just after 7".
 pub fn parse(list: &[u8]) -> Result<Vec<Edit>, Refusal> {
     let mut edits = Vec::new();
     let mut rest = list;
@@ -72,6 +72,11 @@ fn parse_one(bytes: &[u8], number: usize) -> Result<Edit, u8> {
     }
     if length > LONGEST_VALUE {
         return Err(7);
+    }
+    // Document 02 (g): "19, with its edit's number, for an insert or update of
+    // length 0, in the list check just after 7".
+    if kind != Kind::Delete && length == 0 {
+        return Err(19);
     }
     if bytes.len() < 10 + length {
         return Err(5);

@@ -1,6 +1,6 @@
 //! Document 01, 'The plain ledger'.
 
-use crate::edits::{parse, Kind};
+use crate::edits::{parse, Edit, Kind};
 use crate::image::{table, Table};
 use std::collections::BTreeMap;
 
@@ -21,11 +21,15 @@ impl Ledger {
     /// "It is fed each transaction's edit list and whether it was accepted."
     pub fn feed(&mut self, list: &[u8], accepted: bool) {
         // "Refused: no change."
-        if !accepted {
-            return;
+        if accepted {
+            self.make(parse(list).expect("an accepted list is well formed"));
         }
+    }
+
+    /// "Accepted: each edit in order."
+    pub fn make(&mut self, edits: Vec<Edit>) {
         let mut table = self.tables[self.count()].clone();
-        for edit in parse(list).expect("an accepted list is well formed") {
+        for edit in edits {
             // "Insert adds key and value, update replaces the value and
             // delete drops both."
             match edit.kind {

@@ -18,7 +18,7 @@ pub mod transaction;
 
 /// Document 01, 'Each call and when it says no': "A refusal gives its number
 /// and edit number from 0 (0 unless 5 to 11 in a transaction)." Document 02 (a)
-/// has them in a preview too.
+/// has them in a preview too, and (g) has 19 "with its edit's number".
 #[derive(Clone, Copy, Debug, PartialEq, Eq)]
 pub struct Refusal {
     pub number: u8,

@@ -36,6 +36,13 @@ pub fn of_recovery(answer: &Result<Recovered, Refusal>) -> (u8, Option<[u64; 2]>
     }
 }
 
+/// Whether work holds the image after this refusal of a transaction or a
+/// recovery. "From 8 on" goes by the order of judging, in which 19 comes before
+/// 8: document 02 (g) has it "in the list check".
+pub fn work_holds_image(number: u8) -> bool {
+    (8..=13).contains(&number)
+}
+
 /// A preview's: 0 or the refusal's number, and four numbers: edit number, which
 /// buffer has the value (1 the edit list, 2 the image, 0 none), offset and
 /// length.

@@ -154,7 +154,8 @@ pub fn is_key(number: u64) -> bool {
 }
 
 /// "Values 0 to 200 bytes. An index record's key is a separator, 0 to
-/// 999,999,999,999, and its value a 2-byte page number."
+/// 999,999,999,999, and its value a 2-byte page number." Document 02 (g) bars
+/// empty values from lists alone: "Stored ones work as before."
 fn has_form(record: &Record, kind: u8) -> bool {
     if kind == INDEX {
         record.key <= LAST_KEY && record.value.len() == 2

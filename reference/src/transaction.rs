@@ -62,7 +62,20 @@ pub fn transaction_with(
     check_length(image)?;
     check_work(image, work)?;
     sound_leaves(image)?;
-    let edits = parse(list)?;
+    make_edits(device, fault, image, work, tape, &parse(list)?)
+}
+
+/// The transaction past the list check: these edits on a sound image. Document 02
+/// (g), "Stored ones work as before": tests store empty values by it, as lists
+/// did by document 01 alone.
+pub fn make_edits(
+    device: Device,
+    fault: Fault,
+    image: &[u8],
+    work: &mut [u8],
+    tape: &mut [u8],
+    edits: &[Edit],
+) -> Result<Accepted, Refusal> {
     // "From 8 on, work holds the image."
     work.copy_from_slice(image);
     let mut tree = Tree::new(image, fault);

@@ -6,7 +6,7 @@ mod crashes;
 
 use cases::random::Random;
 use cases::stores;
-use crashes::{caught, Cuttable, Phase, Sent, Test, OUTCOMES, SEED};
+use crashes::{caught, Cuttable, Phase, Sent, Stores, Test, BUILT_EMPTY, OUTCOMES, SEED};
 use reference::cuts::MOST_COMMANDS;
 use reference::device::{Command, Device};
 use reference::ledger::Ledger;
@@ -14,6 +14,7 @@ use reference::transaction::Fault;
 
 /// Cuts of transactions, besides those of recoveries, on each device.
 const CUTS: usize = 50_000;
+const STORES: Stores = (any_store, 2, BUILT_EMPTY);
 
 /// Half of them have no room, so that the root word commits.
 fn any_store(random: &mut Random) -> Vec<u8> {
@@ -170,7 +171,7 @@ impl Test {
 fn every_cut_recovers(device: Device, places: &[&str]) {
     println!("{device:?}, seed {SEED}");
     let mut test = Test::new(device, Fault::None);
-    let answer = test.go_on(CUTS, (any_store, 2), Test::one_transaction);
+    let answer = test.go_on(CUTS, STORES, Test::one_transaction);
     test.tally.print();
     assert_eq!(answer, Ok(()));
     test.tally.came(places);
@@ -201,7 +202,7 @@ fn every_cut_recovers_without_line_stores() {
 /// tapes are long: a small tape's cuts alone show each.
 #[test]
 fn shortcuts_are_caught() {
-    let only_small = |test: &mut Test| test.go_on(CUTS, (any_store, 2), Test::only_if_small);
+    let only_small = |test: &mut Test| test.go_on(CUTS, STORES, Test::only_if_small);
     for fault in [
         Fault::HeaderByWords,
         Fault::UpdateInPlace,

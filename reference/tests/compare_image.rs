@@ -8,6 +8,7 @@ mod both;
 
 use both::{number, Both};
 use cases::damage::{damage, other_length, FIELDS};
+use cases::empties;
 use cases::images::{any_shape, build, size, Built, Flaw, Reached, Shape, LAST_KEY};
 use cases::random::Random;
 use reference::{image as plain, Refusal};
@@ -156,7 +157,7 @@ fn hold_to_builder(random: &mut Random, built: &Built) {
 }
 
 /// The shapes that the sound images must come in.
-const SHAPES: [&str; 11] = [
+const SHAPES: [&str; 12] = [
     "8 pages",
     "64 pages",
     "28 leaves",
@@ -168,6 +169,7 @@ const SHAPES: [&str; 11] = [
     "offsets that don't fall as keys rise",
     "the least key",
     "the last key",
+    "an empty value",
 ];
 
 fn count_shapes(built: &Built, times: &mut [usize; SHAPES.len()]) {
@@ -186,6 +188,7 @@ fn count_shapes(built: &Built, times: &mut [usize; SHAPES.len()]) {
         (leaves.iter()).any(|leaf| leaf.places.windows(2).any(|two| two[0].at < two[1].at)),
         built.table.first().is_some_and(|entry| entry.0 == 1),
         built.table.last().is_some_and(|entry| entry.0 == LAST_KEY),
+        empties::any_stored(&built.table),
     ];
     for (times, has) in times.iter_mut().zip(has) {
         *times += usize::from(has);

@@ -7,7 +7,7 @@ mod both;
 use both::Both;
 use cases::harms::{any_harmed, of_index, of_leaves, Harmed};
 use cases::images::{any_shape, build, LAST_KEY};
-use cases::lists::List;
+use cases::lists::{List, OWN};
 use cases::narrow::End;
 use cases::random::Random;
 use reference::numbers::of_preview;
@@ -227,12 +227,12 @@ fn count_leaf_of_edit(harmed: &Harmed, list: &List, at: usize, tally: &mut Tally
 /// A list with a fault is refused for it before any leaf is read.
 fn faulty_preview(both: &mut Both, random: &mut Random, asked: (List, u64), tally: &mut Tally) {
     let (mut list, key) = asked;
-    let fault = random.below(8);
+    let fault = random.pick(&OWN);
     list.spoil(random, fault);
     let answer = both.preview(&list.bytes(), key, 4);
     tally.previews += 1;
     match plain(answer) {
-        Err(number @ 5..=7) => {
+        Err(number @ (5..=7 | 19)) => {
             tally.count(format!("preview: the list's {number} before a leaf's 4"));
         }
         // It is no fault after all.
@@ -338,7 +338,7 @@ fn wanted_previews() -> Vec<String> {
         wanted.push(format!("preview: 4 before the {number} of the same edit"));
         wanted.push(format!("preview: 4 before the {number} of a later edit"));
     }
-    let numbers = [5, 6, 7].into_iter();
+    let numbers = [5, 6, 7, 19].into_iter();
     wanted.extend(numbers.map(|n| format!("preview: the list's {n} before a leaf's 4")));
     wanted
 }

@@ -5,16 +5,18 @@
 //! bad are in compare_narrow.rs too.
 
 mod both;
+mod earlier;
 
 use both::{Both, BEFORE};
 use cases::damage::FIELDS;
+use cases::empties::{orders, ORDERS};
 use cases::images::{any_shape, build};
 use cases::lists::FAULTS;
 use cases::previews::{any_call, any_key, any_list, PreviewCall, OTHERS};
 use cases::random::Random;
 use cases::stores::{any_built, any_store, even_leaves, many_leaves};
 use reference::edits::{parse, Edit, Kind};
-use reference::image::{format, lookup, sound_index, table, value};
+use reference::image::{lookup, sound_index, table, value};
 use reference::ledger::Ledger;
 use reference::numbers::of_transaction;
 use reference::page::LAST_KEY;
@@ -71,7 +73,7 @@ fn compare(asked: Asked, room: usize, tally: &mut Tally) -> Result<Preview, Refu
     let answer = Both::new(asked.image).preview(asked.edits, asked.key, room);
     if let Err(refusal) = answer {
         // No preview is refused with 2 or for pages, log or tape.
-        assert!([1, 3, 4, 5, 6, 7, 8, 9].contains(&refusal.number));
+        assert!([1, 3, 4, 5, 6, 7, 8, 9, 19].contains(&refusal.number));
     }
     tally.calls += 1;
     count_answer(asked, &answer, tally);
@@ -104,6 +106,7 @@ fn count_faulty_list(asked: Asked, refusal: &Refusal, tally: &mut Tally) {
                 _ => format!("refused {number}"),
             });
             tally.count(format!("refused at edit {:>2}", refusal.edit));
+            count_empty(asked.edits, refusal, tally);
             if !(1..=LAST_KEY).contains(&asked.key) {
                 tally.count("order: the list's before the key's");
             }
@@ -111,6 +114,19 @@ fn count_faulty_list(asked: Asked, refusal: &Refusal, tally: &mut Tally) {
                 tally.count("order: the list's before a leaf's 4");
             }
         }
+    }
+}
+
+/// Document 02 (g): "The table rule and the look of (a) take the new refusal in."
+fn count_empty(list: &[u8], refusal: &Refusal, tally: &mut Tally) {
+    if refusal.number == 19 {
+        tally.count(match refusal.edit {
+            0 => "refused 19, at edit 0",
+            _ => "refused 19, at a later edit",
+        });
+    }
+    for order in orders(list, refusal.number, refusal.edit) {
+        tally.count(order);
     }
 }
 
@@ -179,7 +195,8 @@ fn count_found(asked: Asked, found: &Preview, edits: &[Edit], tally: &mut Tally)
     let stored = lookup(asked.image, asked.key).expect("the key's leaf was accepted");
     match *found {
         Preview::InList { offset, length } => {
-            count_part("in the list", length, offset == asked.edits.len(), tally);
+            assert_ne!(length, 0, "a list has no empty value");
+            count_part("in the list", length, tally);
             count_in_list(&of_key, tally);
             let bytes = &asked.edits[offset..offset + length];
             if stored.is_some() && value(asked.image, asked.key) == bytes {
@@ -187,7 +204,10 @@ fn count_found(asked: Asked, found: &Preview, edits: &[Edit], tally: &mut Tally)
             }
         }
         Preview::InImage { offset, length } => {
-            count_part("in the image", length, offset == asked.image.len(), tally);
+            count_part("in the image", length, tally);
+            if offset == asked.image.len() {
+                tally.count("in the image, empty at the very end");
+            }
         }
         Preview::Missing => tally.count(match (of_key.len(), stored) {
             (0, _) => "missing in both",
@@ -198,14 +218,11 @@ fn count_found(asked: Asked, found: &Preview, edits: &[Edit], tally: &mut Tally)
     }
 }
 
-/// A value found, and whether its offset is the buffer's length.
-fn count_part(place: &str, length: usize, at_end: bool, tally: &mut Tally) {
+/// A value found.
+fn count_part(place: &str, length: usize, tally: &mut Tally) {
     tally.count(place);
-    if length == 0 || length == 200 {
-        tally.count(format!("{place}, {length} bytes"));
-    }
-    if at_end {
-        tally.count(format!("{place}, empty at the very end"));
+    if [0, 1, 200].contains(&length) {
+        tally.count(format!("{place}, length {length}"));
     }
 }
 
@@ -275,7 +292,7 @@ fn preview_is_the_references() {
 }
 
 fn wanted_refusals() -> Vec<String> {
-    let numbers = [1, 3, 4, 5, 7, 8, 9].map(|number| format!("refused {number}"));
+    let numbers = [1, 3, 4, 5, 7, 8, 9, 19].map(|number| format!("refused {number}"));
     let edits = (0..=16).map(|edit| format!("refused at edit {edit:>2}"));
     let places = [
         "with no edit of the key asked",
@@ -288,6 +305,8 @@ fn wanted_refusals() -> Vec<String> {
     let others = [
         "refused 6, of an edit",
         "refused 6, of the key asked",
+        "refused 19, at edit 0",
+        "refused 19, at a later edit",
         "refused 4, of page 0 or the index",
         "refused 4, of a leaf that an edit needs",
         "refused 4, of the key's leaf, last of all",
@@ -299,6 +318,7 @@ fn wanted_refusals() -> Vec<String> {
     ];
     (numbers.into_iter().chain(edits))
         .chain(places.concat())
+        .chain(ORDERS.map(String::from))
         .chain(others.map(String::from))
         .collect()
 }
@@ -308,16 +328,16 @@ fn wanted_finds() -> Vec<String> {
         "in the list",
         "in the list, by an insert",
         "in the list, by an update",
-        "in the list, 0 bytes",
-        "in the list, 200 bytes",
-        "in the list, empty at the very end",
+        "in the list, length 1",
+        "in the list, length 200",
         "in the list, key in several edits",
         "in the list, deleted and inserted again",
         "in the list, an earlier edit with the same bytes",
         "in the list, the same bytes as stored",
         "in the image",
-        "in the image, 0 bytes",
-        "in the image, 200 bytes",
+        "in the image, length 0",
+        "in the image, length 1",
+        "in the image, length 200",
         "in the image, empty at the very end",
         "missing in both",
         "missing, deleted",
@@ -400,22 +420,24 @@ fn hold(
     }
 }
 
-/// The preview of a list whose transaction is refused: with 5 to 9, alike; for
-/// pages, log or tape, it answers, unless a later edit gets 8 or 9.
+/// The preview of a list whose transaction is refused: with 5 to 9 or 19, alike;
+/// for pages, log or tape, it answers, unless a later edit gets 8 or 9.
 fn hold_to_refusal(refusal: &Refusal, answer: Result<Preview, Refusal>, tally: &mut Tally) {
     let number = refusal.number;
+    let alike = matches!(number, 5..=9 | 19);
     match answer {
-        Err(given) if number < 10 => {
+        Err(given) if alike => {
             assert_eq!(given, *refusal);
             tally.count(format!("refused alike, {number}"));
         }
         Err(given) => {
-            let later = number < 12 && given.number >= 8 && given.edit > refusal.edit;
+            let key_rule = matches!(given.number, 8 | 9);
+            let later = number < 12 && key_rule && given.edit > refusal.edit;
             assert!(later, "transaction: {refusal:?}, preview: {given:?}");
             tally.count(format!("refused later, transaction refused {number}"));
         }
         Ok(_) => {
-            assert!(number >= 10, "transaction: {refusal:?}, but a preview");
+            assert!(!alike, "transaction: {refusal:?}, but a preview");
             tally.count(format!("answered, transaction refused {number}"));
         }
     }
@@ -474,7 +496,8 @@ fn preview_is_as_if_committed() {
 }
 
 fn wanted_beside_transactions() -> Vec<String> {
-    let alike = (5..=9).map(|number| format!("refused alike, {number}"));
+    let alike = (5..=9).chain([19]);
+    let alike = alike.map(|number| format!("refused alike, {number}"));
     let answered = (10..=13).map(|number| format!("answered, transaction refused {number}"));
     let later = [10, 11].map(|number| format!("refused later, transaction refused {number}"));
     let others = [
@@ -487,15 +510,6 @@ fn wanted_beside_transactions() -> Vec<String> {
     (alike.chain(answered).chain(later))
         .chain(others.map(String::from))
         .collect()
-}
-
-/// A fresh store of 8 pages after inserts of 5 with three bytes and of 7 with
-/// none: their values are at 3,064 and 3,048.
-fn two_quotes() -> Vec<u8> {
-    let mut image = vec![0; 8 * 1024];
-    format(&mut image).unwrap();
-    let edits = [insert(5, b"abc"), insert(7, b"")].concat();
-    send(&image, &edits, 1024).unwrap()
 }
 
 fn insert(key: u64, bytes: &[u8]) -> Vec<u8> {
@@ -518,7 +532,7 @@ fn edit(kind: Kind, key: u64, bytes: &[u8]) -> Vec<u8> {
 /// A list, the key asked, and the answer worked out by hand.
 type Row = (Vec<Vec<u8>>, u64, Result<Preview, Refusal>);
 
-/// Lists for the two quotes.
+/// Lists for the two quotes, whose values are at 3,064 and 3,048.
 fn rows() -> Vec<Row> {
     let in_list = |offset, length| Ok(Preview::InList { offset, length });
     let in_image = |offset, length| Ok(Preview::InImage { offset, length });
@@ -530,12 +544,12 @@ fn rows() -> Vec<Row> {
         (vec![update(5, b"x")], 7, in_image(3048, 0)),
         (vec![update(5, b"x")], 6, missing),
         (vec![update(5, b"abc")], 5, in_list(10, 3)),
-        (vec![insert(6, b"")], 6, in_list(10, 0)),
+        (vec![insert(6, b"x")], 6, in_list(10, 1)),
         (vec![delete(5)], 5, missing),
         // The last edit of the key decides.
         (vec![delete(5), insert(5, b"xy")], 5, in_list(20, 2)),
         (vec![insert(6, b"xy"), delete(6)], 6, missing),
-        (vec![update(5, b"x"), update(5, b"")], 5, in_list(21, 0)),
+        (vec![update(5, b"x"), update(5, b"yz")], 5, in_list(21, 2)),
         (vec![update(5, b"xy"), delete(7)], 5, in_list(10, 2)),
         // 8 and 9, wherever they are in the list.
         (vec![update(5, b"x"), insert(7, b"x")], 5, refused(8, 1)),
@@ -553,10 +567,31 @@ fn rows() -> Vec<Row> {
     ]
 }
 
+/// Document 02 (g): the empty value that is stored, and lists with another.
+fn empty_rows() -> Vec<Row> {
+    let refused = |number, edit| Err(Refusal { number, edit });
+    let (offset, length) = (10, 1);
+    vec![
+        (
+            vec![update(7, b"x")],
+            7,
+            Ok(Preview::InList { offset, length }),
+        ),
+        (vec![delete(7)], 7, Ok(Preview::Missing)),
+        (vec![update(7, b"")], 7, refused(19, 0)),
+        (vec![update(7, b"")], 5, refused(19, 0)),
+        (vec![update(5, b"x"), insert(6, b"")], 7, refused(19, 1)),
+        // Before 6 for the key asked, and before 8 and 9.
+        (vec![delete(7), insert(7, b"")], 0, refused(19, 1)),
+        (vec![delete(6), insert(7, b"")], 7, refused(19, 1)),
+    ]
+}
+
 #[test]
 fn previews_by_hand() {
-    let image = two_quotes();
-    for (i, (edits, key, wanted)) in rows().into_iter().enumerate() {
+    let image = earlier::two_quotes();
+    let rows = [rows(), empty_rows()].concat();
+    for (i, (edits, key, wanted)) in rows.into_iter().enumerate() {
         let edits = edits.concat();
         let asked = Asked {
             image: &image,

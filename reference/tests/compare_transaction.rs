@@ -8,6 +8,7 @@
 mod writes;
 
 use cases::damage::{damage, other_length, FIELDS};
+use cases::empties::{orders, ORDERS};
 use cases::images::Built;
 use cases::lists::{List, FAULTS};
 use cases::random::Random;
@@ -63,13 +64,24 @@ impl Tally {
 fn send(call: &Call, tally: &mut Tally) -> (u8, Call) {
     let (number, after) = compare_transaction(tally.device, tally.calls, call);
     tally.call("transaction", number);
-    if (5..=11).contains(&number) && after.answer.len() >= 5 {
-        tally.count(format!("refused at edit {:>2}", after.answer[0]));
+    if matches!(number, 5..=11 | 19) && after.answer.len() >= 5 {
+        count_refused(&call.edits, number, after.answer[0] as usize, tally);
     }
     if number == 0 {
         count_accepted(call, &after, tally);
     }
     (number, after)
+}
+
+/// A refusal that names an edit.
+fn count_refused(list: &[u8], number: u8, edit: usize, tally: &mut Tally) {
+    tally.count(format!("refused at edit {edit:>2}"));
+    if number == 19 {
+        tally.count(EMPTY[edit.min(1)]);
+    }
+    for order in orders(list, number, edit) {
+        tally.count(order);
+    }
 }
 
 /// What the accepted lists and their transactions are like.
@@ -421,14 +433,18 @@ fn compared(device: Device, calls: usize) -> Tally {
     let mut tally = Tally::new(device);
     while tally.calls < calls {
         life(&mut random, &mut tally);
-        long_log(&mut random, &mut tally);
+        // Once would give too few logs of 15 headers where the root is copied.
+        for _ in 0..3 {
+            long_log(&mut random, &mut tally);
+        }
         made_apart(&mut random, &mut tally);
     }
     println!("{} calls", tally.calls);
     for (what, times) in &tally.times {
         println!("{what:<40}{times:>8}");
     }
-    let least = tally.lengths.iter().min().unwrap();
+    // Document 02 (g): no value is empty.
+    let least = tally.lengths[1..].iter().min().unwrap();
     println!("{:<40}{least:>8}", "accepted values, least of a length");
     assert!(*least > 20);
     let fullest = tally.fullest;
@@ -478,14 +494,16 @@ fn everything_came(tally: &Tally) {
     }
     let names = tally.times.keys();
     let answers = names.filter(|what| what.contains(", answer"));
-    assert_eq!(answers.count(), 14 + 5);
+    assert_eq!(answers.count(), 15 + 5);
 }
 
+const EMPTY: [&str; 2] = ["refused 19 at edit 0", "refused 19 at a later edit"];
 const BY_A_HEADER: &str = "commit by a header";
 const WITH_THE_LONGEST_TAPE: &str = "recovery with the longest tape";
 
 fn wanted_of_transactions() -> Vec<String> {
-    let answers = (0..=13).map(|number| format!("transaction, answer {number:>2}"));
+    let answers = (0..=13).chain([19]);
+    let answers = answers.map(|number| format!("transaction, answer {number:>2}"));
     let edits = (0..=16).map(|edit| format!("refused at edit {edit:>2}"));
     let lists = (1..=16).map(|count| format!("accepted lists of {count:>2}"));
     let keys = [1, LAST_KEY].map(|key| format!("accepted edits of key {key}"));
@@ -508,6 +526,8 @@ fn wanted_of_transactions() -> Vec<String> {
     (answers.chain(edits).chain(lists).chain(keys))
         .chain(faults)
         .chain(pages)
+        .chain(EMPTY.map(String::from))
+        .chain(ORDERS.map(String::from))
         .chain(others.map(String::from))
         .collect()
 }

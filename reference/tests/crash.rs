@@ -1,13 +1,15 @@
 //! Random transactions, their tapes cut at every command, chains of cut
 //! recoveries, all held to the ledger. And each line of 'Shortcuts that break a
 //! curve', which the same test must catch. All of it on a device with line
-//! stores, and on one without (document 02 (d)).
+//! stores, and on one without (document 02 (d)). The last tenth starts from
+//! stores in which transactions left empty values (document 02 (g)).
 
 mod crashes;
+mod earlier;
 
 use cases::random::Random;
 use cases::stores::any_store;
-use crashes::{calls, caught, Cuttable, Phase, Sent, Test, OUTCOMES, SEED};
+use crashes::{calls, caught, Cuttable, Phase, Sent, Stores, Test, BUILT_EMPTY, OUTCOMES, SEED};
 use reference::device::{Command, Device};
 use reference::ledger::Ledger;
 use reference::transaction::Fault;
@@ -54,6 +56,10 @@ const WORDS: Plan = Plan {
     of_recovery: (9, 2),
     one_of: 128,
 };
+
+const BUILT: Stores = (any_store, 16, BUILT_EMPTY);
+const EARLIER: Stores = (earlier::any_store, 16, EARLIER_EMPTY);
+const EARLIER_EMPTY: &str = "empty value, by the earlier rule";
 
 /// The pending stores of each line that has some, as commands are done.
 #[derive(Default)]
@@ -111,7 +117,9 @@ impl Test {
     }
 
     fn survive(&mut self) -> Result<(), String> {
-        self.go_on(self.plan().cuts, (any_store, 16), Test::one_transaction)
+        let cuts = self.plan().cuts;
+        self.go_on(cuts - cuts / 10, BUILT, Test::one_transaction)?;
+        self.go_on(cuts, EARLIER, Test::one_transaction)
     }
 
     /// One transaction, with all its cuts. The store goes on after its whole
@@ -269,10 +277,14 @@ fn every_cut_recovers(device: Device, places: &[&str]) {
         "recovery refused 13",
         "recovery with a log",
         "recovery without a log",
+        EARLIER_EMPTY,
     ]);
     test.tally.came(places);
     test.tally.came(&OUTCOMES);
-    assert!(test.tally.refused[5..].iter().all(|&times| times > 0));
+    for number in (5..=13).chain([19]) {
+        let came = test.tally.refused.contains_key(&number);
+        assert!(came, "never refused: {number}");
+    }
 }
 
 #[test]

@@ -55,6 +55,10 @@ fn delete(key: u64) -> Vec<u8> {
     edit(Kind::Delete, key, b"")
 }
 
+fn empty(key: u64) -> Vec<u8> {
+    edit(Kind::Update, key, b"")
+}
+
 fn refused<T>(number: u8, edit: usize) -> Result<T, Refusal> {
     Err(Refusal { number, edit })
 }
@@ -134,6 +138,7 @@ fn rows() -> Vec<Row> {
         // The list's, and 6 for the key asked, come before any leaf's 4.
         (vec![update(16), insert(0)], 1, refused(6, 1)),
         (vec![update(16), vec![1]], 1, refused(5, 1)),
+        (vec![update(16), empty(1)], 1, refused(19, 1)),
         (vec![update(16)], 0, refused(6, 0)),
         (vec![update(16)], LAST_KEY + 1, refused(6, 0)),
     ]

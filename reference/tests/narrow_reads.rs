@@ -377,7 +377,8 @@ fn calls(random: &mut Random, screen: &Screen) -> usize {
     let next_key = reads(random, (built, &leaves), |both| both.next_key(number));
     let mut list = any_list(random, &built.table);
     if random.one_in(3) {
-        let fault = random.between(7, 10);
+        // Key out of range, key rules, empty value.
+        let fault = random.between(7, 11);
         list.spoil(random, fault);
         list.edits.truncate(16);
     }

@@ -138,7 +138,7 @@ fn first_insert_of_zeros() {
 #[test]
 fn lists_too_short_and_too_long() {
     assert_eq!(refused(send(&mut fresh(), &[])), (5, 0));
-    let seventeen: Vec<Edit> = (1..=17).map(|key| insert(key, 0)).collect();
+    let seventeen: Vec<Edit> = (1..=17).map(|key| insert(key, 1)).collect();
     assert_eq!(refused(send(&mut fresh(), &seventeen)), (5, 16));
     assert!(send(&mut fresh(), &seventeen[..16]).is_ok());
 }

@@ -51,7 +51,9 @@ static struct bytes two_quotes(void)
 {
     struct bytes image = fresh(8);
     EXPECT(apply_one(&image, one_edit(QUOTE_INSERT, 101, 8, 'p')) == QUOTE_ACCEPTED);
-    EXPECT(apply_one(&image, one_edit(QUOTE_INSERT, 105, 0, 0)) == QUOTE_ACCEPTED);
+    EXPECT(apply_one(&image, one_edit(QUOTE_INSERT, 105, 8, 'p')) == QUOTE_ACCEPTED);
+    EXPECT(empty_out(image, 105));
+    EXPECT(quote_check(image.at, image.length) == QUOTE_ACCEPTED);
     return image;
 }
 
@@ -146,8 +148,8 @@ static void preview_says_where(void)
     EXPECT(preview_shows(image, list, 105, QUOTE_NOWHERE, 0, 0));
     add_edit(&list, QUOTE_UPDATE, 101, 8, 'p'); /* behind 251: as it is in the image */
     EXPECT(preview_shows(image, list, 101, QUOTE_IN_LIST, 251 + QUOTE_EDIT_HEAD, 8));
-    add_edit(&list, QUOTE_INSERT, 102, 0, 0); /* empty, at the list's end */
-    EXPECT(preview_shows(image, list, 102, QUOTE_IN_LIST, list.length, 0));
+    add_edit(&list, QUOTE_INSERT, 102, 1, 'p'); /* the list's last byte */
+    EXPECT(preview_shows(image, list, 102, QUOTE_IN_LIST, list.length - 1, 1));
     EXPECT(same(image, before) && list.at[51] == 'r');
     give_back(image);
     give_back(before);
@@ -451,7 +453,7 @@ static void list_is_refused(const struct faulty *faulty, struct bytes image)
     struct bytes before = lend_copy(image.at, image.length);
     uint64_t edit = 77;
     /* A preview says the same, but for a key asked that is out of range. */
-    int asked = faulty->number >= QUOTE_KEY_PRESENT;
+    int asked = faulty->number == QUOTE_KEY_PRESENT || faulty->number == QUOTE_KEY_MISSING;
     EXPECT(preview_refused(image, list, 101, faulty->number, faulty->edit));
     EXPECT(preview_refused(image, list, 0, asked ? (uint8_t)QUOTE_KEY_RANGE : faulty->number,
                            asked ? 0 : faulty->edit));
@@ -462,49 +464,98 @@ static void list_is_refused(const struct faulty *faulty, struct bytes image)
     give_back(before);
 }
 
+/* Within an edit 5 comes first, then 7, 19, 5 if the value is cut short, and 6; the
+ * first faulty edit decides. */
+static const struct faulty faulty_lists[] = {
+    {QUOTE_BAD_LIST, 0, 0, 0, {{0, 0, 0}, {0, 0, 0}}},
+    {QUOTE_BAD_LIST, 0, 1, 1, {{QUOTE_INSERT, 0, 1}, {0, 0, 0}}},
+    {QUOTE_BAD_LIST, 1, 9, 2, {{QUOTE_INSERT, 1, 1}, {QUOTE_INSERT, 0, 2}}},
+    {QUOTE_BAD_LIST, 0, 0, 1, {{4, 0, 1}, {0, 0, 0}}},
+    {QUOTE_BAD_LIST, 0, 0, 1, {{0, 0, 1}, {0, 0, 0}}},
+    {QUOTE_BAD_LIST, 0, 0, 1, {{QUOTE_DELETE, 1, 101}, {0, 0, 0}}},
+    {QUOTE_BAD_LIST, 0, 1, 1, {{QUOTE_INSERT, 8, 1}, {0, 0, 0}}},
+    {QUOTE_BAD_LIST, 0, 1, 1, {{QUOTE_UPDATE, 1, 0}, {0, 0, 0}}},
+    {QUOTE_LONG_VALUE, 0, 201, 1, {{QUOTE_INSERT, QUOTE_LONGEST_VALUE + 1, 1}, {0, 0, 0}}},
+    {QUOTE_KEY_MISSING, 0, 0, 1, {{QUOTE_UPDATE, QUOTE_LONGEST_VALUE, 1}, {0, 0, 0}}},
+    {QUOTE_LONG_VALUE, 1, 0, 2, {{QUOTE_INSERT, 1, 1}, {QUOTE_UPDATE, 255, 2}}},
+    {QUOTE_LONG_VALUE, 0, 0, 2, {{QUOTE_UPDATE, 255, 2}, {QUOTE_INSERT, 0, 1}}},
+    {QUOTE_EMPTY_VALUE, 0, 0, 1, {{QUOTE_INSERT, 0, 1}, {0, 0, 0}}},
+    {QUOTE_EMPTY_VALUE, 0, 0, 1, {{QUOTE_INSERT, 0, 101}, {0, 0, 0}}},
+    {QUOTE_EMPTY_VALUE, 0, 0, 1, {{QUOTE_UPDATE, 0, 1}, {0, 0, 0}}},
+    {QUOTE_EMPTY_VALUE, 0, 0, 1, {{QUOTE_UPDATE, 0, 105}, {0, 0, 0}}},
+    {QUOTE_EMPTY_VALUE, 0, 0, 1, {{QUOTE_INSERT, 0, 0}, {0, 0, 0}}},
+    {QUOTE_EMPTY_VALUE, 1, 0, 2, {{QUOTE_INSERT, 1, 1}, {QUOTE_UPDATE, 0, QUOTE_LAST_KEY + 1}}},
+    {QUOTE_EMPTY_VALUE, 1, 0, 2, {{QUOTE_DELETE, 0, 105}, {QUOTE_INSERT, 0, 105}}},
+    {QUOTE_EMPTY_VALUE, 0, 0, 2, {{QUOTE_UPDATE, 0, 101}, {4, 0, 1}}},
+    {QUOTE_KEY_RANGE, 0, 0, 2, {{QUOTE_DELETE, 0, 0}, {QUOTE_INSERT, 0, 1}}},
+    {QUOTE_KEY_RANGE, 0, 0, 1, {{QUOTE_INSERT, 1, 0}, {0, 0, 0}}},
+    {QUOTE_KEY_RANGE, 1, 0, 2, {{QUOTE_INSERT, 1, 1}, {QUOTE_DELETE, 0, QUOTE_LAST_KEY + 1}}},
+    {QUOTE_KEY_PRESENT, 0, 0, 1, {{QUOTE_INSERT, 1, 105}, {0, 0, 0}}},
+    {QUOTE_KEY_PRESENT, 1, 0, 2, {{QUOTE_INSERT, 1, 1}, {QUOTE_INSERT, 1, 1}}},
+    {QUOTE_KEY_MISSING, 0, 0, 1, {{QUOTE_UPDATE, 1, 1}, {0, 0, 0}}},
+    {QUOTE_KEY_MISSING, 1, 0, 2, {{QUOTE_DELETE, 0, 105}, {QUOTE_DELETE, 0, 105}}},
+};
+
 static void lists_are_refused(void)
 {
-    static const struct faulty all[] = {
-        {QUOTE_BAD_LIST, 0, 0, 0, {{0, 0, 0}, {0, 0, 0}}},
-        {QUOTE_BAD_LIST, 0, 1, 1, {{QUOTE_INSERT, 0, 1}, {0, 0, 0}}},
-        {QUOTE_BAD_LIST, 1, 9, 2, {{QUOTE_INSERT, 0, 1}, {QUOTE_INSERT, 0, 2}}},
-        {QUOTE_BAD_LIST, 0, 0, 1, {{4, 0, 1}, {0, 0, 0}}},
-        {QUOTE_BAD_LIST, 0, 0, 1, {{0, 0, 1}, {0, 0, 0}}},
-        {QUOTE_BAD_LIST, 0, 0, 1, {{QUOTE_DELETE, 1, 101}, {0, 0, 0}}},
-        {QUOTE_BAD_LIST, 0, 1, 1, {{QUOTE_INSERT, 8, 1}, {0, 0, 0}}},
-        {QUOTE_LONG_VALUE, 0, 201, 1, {{QUOTE_INSERT, QUOTE_LONGEST_VALUE + 1, 1}, {0, 0, 0}}},
-        {QUOTE_KEY_MISSING, 0, 0, 1, {{QUOTE_UPDATE, QUOTE_LONGEST_VALUE, 1}, {0, 0, 0}}},
-        {QUOTE_LONG_VALUE, 1, 0, 2, {{QUOTE_INSERT, 0, 1}, {QUOTE_UPDATE, 255, 2}}},
-        {QUOTE_KEY_RANGE, 0, 0, 1, {{QUOTE_INSERT, 0, 0}, {0, 0, 0}}},
-        {QUOTE_KEY_RANGE, 1, 0, 2, {{QUOTE_INSERT, 0, 1}, {QUOTE_DELETE, 0, QUOTE_LAST_KEY + 1}}},
-        {QUOTE_KEY_PRESENT, 0, 0, 1, {{QUOTE_INSERT, 0, 101}, {0, 0, 0}}},
-        {QUOTE_KEY_PRESENT, 1, 0, 2, {{QUOTE_INSERT, 0, 1}, {QUOTE_INSERT, 0, 1}}},
-        {QUOTE_KEY_MISSING, 0, 0, 1, {{QUOTE_UPDATE, 0, 1}, {0, 0, 0}}},
-        {QUOTE_KEY_MISSING, 1, 0, 2, {{QUOTE_DELETE, 0, 101}, {QUOTE_DELETE, 0, 101}}},
-    };
     struct bytes image = two_quotes();
-    for (size_t i = 0; i < sizeof all / sizeof *all; i += 1)
-        list_is_refused(&all[i], image);
+    for (size_t i = 0; i < sizeof faulty_lists / sizeof *faulty_lists; i += 1)
+        list_is_refused(&faulty_lists[i], image);
     give_back(image);
 }
 
-/* Sixteen edits are accepted; any byte more is a seventeenth. */
+/* Sixteen edits of 11 bytes are accepted; any byte more is a seventeenth, also where
+ * its value is empty. */
 static void seventeenth_edit_is_refused(void)
 {
-    uint8_t room[(QUOTE_MOST_EDITS + 1) * QUOTE_EDIT_HEAD];
+    uint8_t room[QUOTE_MOST_EDITS * 11 + QUOTE_EDIT_HEAD] = {0};
     for (uint64_t i = 0; i <= QUOTE_MOST_EDITS; i += 1)
-        put_head(room + QUOTE_EDIT_HEAD * i, QUOTE_INSERT, 0, 1 + i);
+        put_head(room + 11 * i, QUOTE_INSERT, i < QUOTE_MOST_EDITS, 1 + i);
     struct bytes image = fresh(8);
-    for (size_t length = sizeof room; length >= QUOTE_MOST_EDITS * QUOTE_EDIT_HEAD; length -= 1) {
+    for (size_t length = sizeof room; length >= QUOTE_MOST_EDITS * 11; length -= 1) {
         struct bytes list = lend_copy(room, length);
         uint64_t edit;
-        int good = length == QUOTE_MOST_EDITS * QUOTE_EDIT_HEAD;
-        EXPECT(good ? preview_shows(image, list, 16, QUOTE_IN_LIST, length, 0)
+        int good = length == QUOTE_MOST_EDITS * 11;
+        EXPECT(good ? preview_shows(image, list, 16, QUOTE_IN_LIST, length - 1, 1)
                     : preview_refused(image, list, 16, QUOTE_BAD_LIST, QUOTE_MOST_EDITS));
         EXPECT(apply(&image, list, &edit) == (good ? QUOTE_ACCEPTED : QUOTE_BAD_LIST));
         EXPECT(edit == (good ? 0 : QUOTE_MOST_EDITS));
         give_back(list);
     }
+    give_back(image);
+}
+
+/* The length of a key's value, which is there, and the page that its record is in. */
+static uint64_t length_of(struct bytes image, uint64_t key, uint64_t *page)
+{
+    uint64_t found[QUOTE_LOOKUP_NUMBERS];
+    EXPECT(quote_lookup(image.at, image.length, key, found, 3) == QUOTE_ACCEPTED);
+    EXPECT(found[QUOTE_LOOKUP_FOUND] == 1);
+    *page = (found[QUOTE_LOOKUP_OFFSET] - 1) / QUOTE_PAGE_SIZE;
+    return found[QUOTE_LOOKUP_LENGTH];
+}
+
+/* A stored empty value stays where other quotes change, also if its leaf is copied
+ * and split; it can be updated to a longer one and deleted. (What is read of it:
+ * lookup_finds, next_key_leads_through, preview_says_where.) */
+static void stored_empty_value_goes_on(void)
+{
+    uint64_t page, copied, split;
+    struct bytes image = two_quotes();
+    EXPECT(length_of(image, 105, &page) == 0);
+    for (int i = 0; i < 40; i += 1)
+        EXPECT(apply_one(&image, one_edit(QUOTE_UPDATE, 101, 8, 'q')) == QUOTE_ACCEPTED);
+    EXPECT(length_of(image, 105, &copied) == 0 && copied != page);
+    for (uint64_t key = 201; key <= 230; key += 1)
+        EXPECT(apply_one(&image, one_edit(QUOTE_INSERT, key, 8, 'q')) == QUOTE_ACCEPTED);
+    EXPECT(length_of(image, 105, &split) == 0 && split != copied);
+    EXPECT(apply_one(&image, one_edit(QUOTE_UPDATE, 105, 0, 0)) == QUOTE_EMPTY_VALUE);
+    EXPECT(apply_one(&image, one_edit(QUOTE_UPDATE, 105, 9, 'q')) == QUOTE_ACCEPTED);
+    EXPECT(length_of(image, 105, &page) == 9);
+    EXPECT(empty_out(image, 105));
+    EXPECT(apply_one(&image, one_edit(QUOTE_DELETE, 105, 0, 0)) == QUOTE_ACCEPTED);
+    EXPECT(apply_one(&image, one_edit(QUOTE_INSERT, 105, 1, 'q')) == QUOTE_ACCEPTED);
+    EXPECT(length_of(image, 105, &page) == 1);
     give_back(image);
 }
 
@@ -787,6 +838,7 @@ int main(void)
     bad_leaf_in_a_preview();
     lists_are_refused();
     seventeenth_edit_is_refused();
+    stored_empty_value_goes_on();
     full_stores_refuse();
     one_quote_costs();
     for (size_t i = 0; i < sizeof devices / sizeof *devices; i += 1) {

@@ -24,25 +24,30 @@ static struct bytes noise(size_t length)
     return bytes;
 }
 
-/* Some lists are good: inserts of one key, or of several. */
+/* Noise, or edits end to end, mostly good: one insert, or several. */
 static struct bytes any_list(void)
 {
-    size_t edits = below(19);
-    struct bytes list = noise(below(4) == 0 ? below(700) : edits * 18);
-    if (list.length == edits * 18)
-        for (size_t i = 0; i < edits; i += 1)
-            put_head(list.at + 18 * i, (uint8_t)(1 + (below(12) == 0)), below(99) == 0 ? 201 : 8,
-                     1 + below(500));
+    static const uint8_t wrong[] = {0, QUOTE_LONGEST_VALUE + 1};
+    if (below(4) == 0)
+        return noise(below(700));
+    struct bytes list = lend(0);
+    for (size_t edits = below(2) == 0 ? 1 : below(19); edits > 0; edits -= 1) {
+        uint8_t kind = below(12) == 0 ? QUOTE_UPDATE : QUOTE_INSERT;
+        uint8_t length = below(50) == 0 ? wrong[below(2)] : 8;
+        add_edit(&list, kind, 1 + below(500), length, (int)below(256));
+    }
     return list;
 }
 
-/* The store that the rounds go on with, or a part of it, or it with some bits
- * turned, or noise. */
+/* The store that the rounds go on with, at times with a value made empty, or a part
+ * of it, or it with some bits turned, or noise. */
 static struct bytes any_image(struct bytes store)
 {
     if (below(10) == 0)
         return noise(below(2) == 0 ? below(9000) : 1024 * below(12));
     struct bytes image = lend_copy(store.at, store.length - (below(12) == 0 ? below(2000) : 0));
+    if (below(2) == 0)
+        empty_out(image, 1 + below(500));
     for (size_t i = below(6); i < 2; i += 1)
         image.at[1024 * below(image.length / 1024) + below(80)] ^= (uint8_t)(1 << below(8));
     if (below(8) == 0)
@@ -55,9 +60,10 @@ static struct bytes any_image(struct bytes store)
 #define FORMAT_SAYS (BIT(QUOTE_ACCEPTED) | BIT(QUOTE_IMAGE_SIZE_WRONG))
 #define CHECK_SAYS (FORMAT_SAYS | BIT(QUOTE_MARK_WAITS) | BIT(QUOTE_UNSOUND))
 #define LOOKUP_SAYS (CHECK_SAYS | BIT(QUOTE_KEY_RANGE))
-#define LIST_SAYS (BIT(QUOTE_BAD_LIST) | BIT(QUOTE_LONG_VALUE) | BIT(QUOTE_KEY_RANGE))
+#define LIST_SAYS \
+    (BIT(QUOTE_BAD_LIST) | BIT(QUOTE_LONG_VALUE) | BIT(QUOTE_EMPTY_VALUE) | BIT(QUOTE_KEY_RANGE))
 #define PREVIEW_SAYS (CHECK_SAYS | LIST_SAYS | BIT(QUOTE_KEY_PRESENT) | BIT(QUOTE_KEY_MISSING))
-#define TRANSACTION_SAYS (BIT(QUOTE_TAPE_SHORT + 1) - 1)
+#define TRANSACTION_SAYS (LIST_SAYS | (BIT(QUOTE_TAPE_SHORT + 1) - 1))
 #define SIZES_SAY (FORMAT_SAYS | BIT(QUOTE_WORK_SIZE_WRONG))
 #define RECOVER_SAYS (SIZES_SAY | BIT(QUOTE_UNSOUND) | BIT(QUOTE_TAPE_SHORT))
 #define RUN_SAYS (SIZES_SAY | BIT(QUOTE_BAD_TAPE))
@@ -65,13 +71,15 @@ static struct bytes any_image(struct bytes store)
 #define COUNT_CUTS_SAYS (FORMAT_SAYS | BIT(QUOTE_BAD_TAPE) | BIT(QUOTE_LONG_TAPE))
 #define NTH_CUT_SAYS (COUNT_CUTS_SAYS | BIT(QUOTE_BAD_CHOICES) | BIT(QUOTE_NO_SUCH_CUT))
 
+#define ALL_ANSWERS (BIT(QUOTE_EMPTY_VALUE + 1) - 1)
+
 /* The answers that came, of all calls together, of previews and of nth cuts; and
- * where the values were that previews showed. */
-static unsigned came = 0, previews = 0, nth_cuts = 0, places = 0;
+ * where the values were that previews showed, and those of them that were empty. */
+static unsigned came = 0, previews = 0, nth_cuts = 0, places = 0, empty_places = 0;
 
 static void expect_known(uint8_t number, unsigned known)
 {
-    EXPECT(number <= QUOTE_NO_SUCH_CUT && (known & BIT(number)) != 0);
+    EXPECT(number <= QUOTE_EMPTY_VALUE && (known & BIT(number)) != 0);
     came |= BIT(number);
 }
 
@@ -174,6 +182,8 @@ static void value_is_inside(struct bytes image, struct bytes list, const uint64_
     EXPECT(answer[QUOTE_PREVIEW_LENGTH] <= from.length - answer[QUOTE_PREVIEW_OFFSET]);
     EXPECT(answer[QUOTE_PREVIEW_LENGTH] <= QUOTE_LONGEST_VALUE);
     places |= BIT(answer[QUOTE_PREVIEW_WHERE]);
+    if (answer[QUOTE_PREVIEW_LENGTH] == 0)
+        empty_places |= BIT(answer[QUOTE_PREVIEW_WHERE]);
 }
 
 /* The key is of the list's first edit, or any. */
@@ -198,14 +208,15 @@ static void looking(struct bytes image)
 static void every_answer_came(void)
 {
     printf("fuzz: %d rounds, seed %d; answers that came:", ROUNDS, SEED);
-    for (int number = 0; number <= QUOTE_NO_SUCH_CUT; number += 1)
+    for (int number = 0; number <= QUOTE_EMPTY_VALUE; number += 1)
         if (came & BIT(number))
             printf(" %d", number);
     puts("");
     /* Stores of 12 pages have neither 28 leaves nor 16 headers to change. */
-    EXPECT((came | BIT(QUOTE_INDEX_FULL) | BIT(QUOTE_LOG_FULL)) == BIT(QUOTE_NO_SUCH_CUT + 1) - 1);
+    EXPECT((came | BIT(QUOTE_INDEX_FULL) | BIT(QUOTE_LOG_FULL)) == ALL_ANSWERS);
     EXPECT(previews == PREVIEW_SAYS && nth_cuts == NTH_CUT_SAYS);
     EXPECT(places == (BIT(QUOTE_NOWHERE) | BIT(QUOTE_IN_LIST) | BIT(QUOTE_IN_IMAGE)));
+    EXPECT(empty_places == (BIT(QUOTE_NOWHERE) | BIT(QUOTE_IN_IMAGE)));
 }
 
 int main(void)

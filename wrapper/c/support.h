@@ -70,6 +70,19 @@ static inline struct bytes fresh(size_t pages)
     return image;
 }
 
+/* Makes the value that the image holds of this key an empty one, as a store from
+ * before document 02 (g) may hold: its length stands 8 bytes before it, and its
+ * bytes are free then. Says whether the key is there. */
+static inline int empty_out(struct bytes image, uint64_t key)
+{
+    uint64_t found[QUOTE_LOOKUP_NUMBERS];
+    if (quote_lookup(image.at, image.length, key, found, 3) != QUOTE_ACCEPTED ||
+        found[QUOTE_LOOKUP_FOUND] == 0)
+        return 0;
+    memset(image.at + found[QUOTE_LOOKUP_OFFSET] - 8, 0, 2);
+    return 1;
+}
+
 /* Writes an edit's head; the value's bytes follow it. */
 static inline void put_head(uint8_t *at, uint8_t kind, uint8_t length, uint64_t key)
 {
@@ -119,9 +132,10 @@ static inline uint8_t transact(transaction_call *call, struct bytes image, struc
     uint8_t number = call(image.at, image.length, work->at, work->length, tape.at, tape.length,
                           list.at, list.length, answer, QUOTE_TRANSACTION_NUMBERS);
     *edit = answer[QUOTE_TRANSACTION_EDIT];
+    int stays = number < QUOTE_KEY_PRESENT || number == QUOTE_EMPTY_VALUE;
     if (number != QUOTE_ACCEPTED) {
         EXPECT(all_are(tape, 77));
-        EXPECT(number < QUOTE_KEY_PRESENT ? all_are(*work, 77) : same(*work, image));
+        EXPECT(stays ? all_are(*work, 77) : same(*work, image));
     }
     give_back(tape);
     return number;

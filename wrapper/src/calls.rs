@@ -23,7 +23,7 @@ use std::ops::Range;
 fn judged(number: u8, edit: u64) -> Result<(), Refusal> {
     match number {
         0 => Ok(()),
-        _ => Err(Refusal::of(number, edit as usize).expect("refusals are 1 to 18")),
+        _ => Err(Refusal::of(number, edit as usize).expect("refusals are 1 to 19")),
     }
 }
 

@@ -38,6 +38,11 @@
 //! first takes 15 of each 28 quotes. (28 is how many quotes fit a leaf, 15 is
 //! 28 / 2 + 1; with longer values they are fewer.)
 //!
+//! An empty value, which a store may hold from before, can't be inserted anew: that
+//! is [`Refusal::EmptyValue`]. It was used for "known but unquoted", for which
+//! screens now have a status. So the program leaves such a quote out, as here, or
+//! gives it a value.
+//!
 //! ```
 //! use quote_store::{Edit, Refusal, Store};
 //!
@@ -47,14 +52,15 @@
 //! assert_eq!(full, Some(Refusal::PagesOut { edit: 0 }));
 //!
 //! let mut large = Store::fresh(64)?;
+//! let quoted = || small.iter().filter(|(_, value)| !value.is_empty());
 //! for first in [true, false] {
-//!     let quotes = small.iter().enumerate().filter(|(i, _)| (i % 28 < 15) == first);
+//!     let quotes = quoted().enumerate().filter(|(i, _)| (i % 28 < 15) == first);
 //!     let edits: Vec<Edit> = quotes.map(|(_, (key, value))| Edit::Insert { key, value }).collect();
 //!     for edits in edits.chunks(15) {
 //!         large.apply(edits)?;
 //!     }
 //! }
-//! assert!(large.iter().eq(small.iter()));
+//! assert!(large.iter().eq(quoted()));
 //! # Ok::<(), Refusal>(())
 //! ```
 
@@ -100,7 +106,7 @@ pub const PAGE: usize = 1024;
 /// ```
 pub const LAST_KEY: u64 = 999_999_999_999;
 
-/// The most bytes that a value has.
+/// The most bytes that a value has; one that an edit brings has at least 1.
 ///
 /// ```
 /// use quote_store::{Edit, Refusal, Store, LONGEST_VALUE};

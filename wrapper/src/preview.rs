@@ -9,11 +9,20 @@ use std::ops::Range;
 /// ```
 /// use quote_store::{calls, encode, Edit, Preview, Store};
 ///
-/// let image = Store::fresh(8)?.image().to_vec();
-/// let edits = encode(&[Edit::Insert { key: 101, value: b"" }]);
-/// // An empty value is not a missing one. It lies at the list's end here.
-/// assert_eq!(calls::preview(&image, &edits, 101), Ok(Preview::InList(10..10)));
-/// assert_eq!(calls::preview(&image, &edits, 102), Ok(Preview::Missing));
+/// let mut store = Store::fresh(8)?;
+/// store.apply(&[Edit::Insert { key: 101, value: b"101.25" }])?;
+/// let mut image = store.image().to_vec();
+/// let edits = encode(&[Edit::Insert { key: 105, value: b"99.50" }]);
+/// let place = calls::lookup(&image, 101)?.unwrap();
+/// assert_eq!(calls::preview(&image, &edits, 105), Ok(Preview::InList(10..15)));
+/// assert_eq!(calls::preview(&image, &edits, 101), Ok(Preview::InImage(place.clone())));
+/// assert_eq!(calls::preview(&image, &edits, 107), Ok(Preview::Missing));
+///
+/// // An empty value, which a store may hold from before, is not a missing one. (The
+/// // length of a value stands 8 bytes before it.)
+/// image[place.start - 8] = 0;
+/// let empty = Preview::InImage(place.start..place.start);
+/// assert_eq!(calls::preview(&image, &edits, 101), Ok(empty));
 /// # Ok::<(), quote_store::Refusal>(())
 /// ```
 #[derive(Clone, Debug, PartialEq, Eq)]

@@ -1,7 +1,8 @@
 //! Document 01, 'Each call and when it says no': "A refusal gives its number
 //! and edit number from 0 (0 unless 5 to 11 in a transaction)." Document 02, of
 //! the preview: "Edit numbers are as in a transaction, 0 for the key asked." A
-//! leaf's 4 has 0 there too, though it comes up at an edit.
+//! leaf's 4 has 0 there too, though it comes up at an edit. Document 02 (g): "19,
+//! with its edit's number".
 
 use std::fmt;
 
@@ -70,6 +71,9 @@ pub enum Refusal {
     LongTape,
     /// 18: the cut's number is not below the number of cuts.
     NoSuchCut,
+    /// 19: an insert or update with a value of no bytes. It comes with the list's
+    /// refusals, just after 7.
+    EmptyValue { edit: usize },
 }
 
 impl Refusal {
@@ -80,7 +84,7 @@ impl Refusal {
     ///
     /// assert_eq!(Refusal::of(8, 3), Some(Refusal::KeyPresent { edit: 3 }));
     /// assert_eq!(Refusal::of(13, 0), Some(Refusal::TapeShort));
-    /// assert_eq!(Refusal::of(19, 0), None);
+    /// assert_eq!(Refusal::of(20, 0), None);
     /// ```
     pub fn of(number: u8, edit: usize) -> Option<Refusal> {
         Some(match number {
@@ -102,11 +106,12 @@ impl Refusal {
             16 => Refusal::BadChoices,
             17 => Refusal::LongTape,
             18 => Refusal::NoSuchCut,
+            19 => Refusal::EmptyValue { edit },
             _ => return None,
         })
     }
 
-    /// Its number in documents 01 and 02, 1 to 18.
+    /// Its number in documents 01 and 02, 1 to 19.
     ///
     /// ```
     /// assert_eq!(quote_store::Refusal::Unsound.number(), 4);
@@ -131,6 +136,7 @@ impl Refusal {
             Refusal::BadChoices => 16,
             Refusal::LongTape => 17,
             Refusal::NoSuchCut => 18,
+            Refusal::EmptyValue { .. } => 19,
         }
     }
 
@@ -154,7 +160,8 @@ impl Refusal {
             | Refusal::KeyPresent { edit }
             | Refusal::KeyMissing { edit }
             | Refusal::IndexFull { edit }
-            | Refusal::PagesOut { edit } => Some(edit),
+            | Refusal::PagesOut { edit }
+            | Refusal::EmptyValue { edit } => Some(edit),
             _ => None,
         }
     }
@@ -185,6 +192,7 @@ impl Refusal {
             Refusal::BadChoices => "the choices are not one byte for each line of the image",
             Refusal::LongTape => "the tape has more than 12 commands",
             Refusal::NoSuchCut => "the cut's number is not below the number of cuts",
+            Refusal::EmptyValue { .. } => "the value has no bytes",
         }
     }
 }

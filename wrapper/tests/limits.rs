@@ -215,7 +215,7 @@ fn has_all_cuts(store: &mut Store, edits: &[Edit]) -> bool {
 /// wherever its record comes to lie; "one delete"; "two such deletes in two leaves".
 #[test]
 fn transactions_with_all_cuts() {
-    for length in 0..=56 {
+    for length in 1..=56 {
         let mut store = Store::fresh(8).unwrap();
         for key in 1..=6 {
             for edit in [insert(key, length), update(key, length)] {

@@ -1,9 +1,12 @@
 //! `Store::preview` against a plain map, and against what `apply` then does.
 
-use cases::lists::List;
+mod images;
+
+use cases::lists::{List, FAULTS};
 use cases::random::Random;
 use cases::stores::any_built;
-use quote_store::{calls, encode, Edit, Preview, Refusal, Store, LAST_KEY, PAGE};
+use images::empty_out;
+use quote_store::{calls, encode, Edit, Preview, Refusal, Store, LAST_KEY, LONGEST_VALUE, PAGE};
 use std::collections::{BTreeMap, BTreeSet};
 
 const SEED: u64 = 20_250_117;
@@ -26,6 +29,23 @@ fn key_of(edit: &[u8]) -> u64 {
     u64::from_le_bytes(edit[2..10].try_into().unwrap())
 }
 
+/// "First faulty edit", of 1 to 16: 7, then 19, then 6.
+fn fault(edits: &[Edit]) -> Option<Refusal> {
+    let mut edits = edits.iter().enumerate();
+    edits.find_map(|(edit, given)| match *given {
+        Edit::Insert { value, .. } | Edit::Update { value, .. } if value.len() > LONGEST_VALUE => {
+            Some(Refusal::LongValue { edit })
+        }
+        Edit::Insert { value: [], .. } | Edit::Update { value: [], .. } => {
+            Some(Refusal::EmptyValue { edit })
+        }
+        Edit::Insert { key, .. } | Edit::Update { key, .. } | Edit::Delete { key } => {
+            let in_range = (1..=LAST_KEY).contains(&key);
+            (!in_range).then_some(Refusal::KeyRange { edit })
+        }
+    })
+}
+
 /// What a plain map holds after the edits, or the first edit whose key is there
 /// or missing where it must not be.
 fn made<'a>(mut map: Map<'a>, edits: &[Edit<'a>]) -> Result<Map<'a>, Refusal> {
@@ -44,12 +64,15 @@ fn made<'a>(mut map: Map<'a>, edits: &[Edit<'a>]) -> Result<Map<'a>, Refusal> {
     Ok(map)
 }
 
-/// A list of well-formed edits; some have a wrong key.
+/// A list of whole edits; some have a wrong key or an empty value, and beside that
+/// one too long.
 fn any_list(random: &mut Random, keys: &[u64]) -> List {
     let mut list = List::any(random, keys);
     if random.one_in(4) {
-        let wrong_key = random.between(8, 10);
-        list.spoil(random, wrong_key);
+        let wanted = |fault: &usize| [8, 9, 19].contains(&FAULTS[*fault].1);
+        let faults: Vec<usize> = (0..FAULTS.len()).filter(wanted).collect();
+        let fault = random.pick(&faults);
+        list.spoil(random, fault);
         list.edits.truncate(16);
     }
     list
@@ -62,7 +85,7 @@ fn keys_to_ask(store: &[u64], list: &List) -> BTreeSet<u64> {
     keys.extend(store);
     for edit in &list.edits {
         let key = key_of(edit);
-        keys.extend([key - 1, key, key + 1]);
+        keys.extend([key.saturating_sub(1), key, key + 1]);
     }
     keys.retain(|key| (1..=LAST_KEY).contains(key));
     keys
@@ -76,11 +99,11 @@ fn number_of<T>(answer: &Result<T, Refusal>) -> u8 {
 }
 
 /// How many lists were answered so by the look and by `apply`; how many values
-/// were in the list, in the image, missing.
+/// were in the list, in the image, in the image and empty, missing.
 #[derive(Default)]
 struct Tally {
     lists: BTreeMap<(u8, u8), usize>,
-    places: [usize; 3],
+    places: [usize; 4],
 }
 
 /// All keys of a store and a list: the preview is what the map holds after the
@@ -91,7 +114,8 @@ fn look(random: &mut Random, tally: &mut Tally) {
     let keys: Vec<u64> = table.keys().copied().collect();
     let list = any_list(random, &keys);
     let edits: Vec<Edit> = list.edits.iter().map(|bytes| edit_of(bytes)).collect();
-    let wanted = made(table, &edits);
+    let fault = fault(&edits);
+    let wanted = fault.map_or_else(|| made(table, &edits), Err);
 
     let store = Store::open(&built.image).unwrap();
     let mut after = Store::open(&built.image).unwrap();
@@ -102,17 +126,22 @@ fn look(random: &mut Random, tally: &mut Tally) {
         assert_eq!(seen, held.map_err(|refusal| *refusal));
         match applied {
             Ok(_) => assert_eq!(seen, Ok(after.get(key))),
-            Err(refusal) if refusal.number() < 10 => assert_eq!(seen, Err(refusal)),
+            Err(refusal) if is_shown(refusal) => assert_eq!(seen, Err(refusal)),
             Err(_) => {}
         }
         same_by_calls(store.image(), &edits, key, seen, tally);
     }
     for key in OUT_OF_RANGE {
-        let refusal = Refusal::KeyRange { edit: 0 };
+        let refusal = fault.unwrap_or(Refusal::KeyRange { edit: 0 });
         assert_eq!(store.preview(&edits, key), Err(refusal));
     }
     let numbers = (number_of(&wanted), number_of(&applied));
     *tally.lists.entry(numbers).or_default() += 1;
+}
+
+/// Whether a look at the list says this refusal too: not those of pages and log.
+fn is_shown(refusal: Refusal) -> bool {
+    !(10..=13).contains(&refusal.number())
 }
 
 /// The calls on lent buffers say the same.
@@ -131,10 +160,10 @@ fn same_by_calls(
             tally.places[0] += 1;
         }
         Ok(Preview::InImage(part)) => {
+            tally.places[if part.is_empty() { 2 } else { 1 }] += 1;
             assert_eq!(calls::lookup(image, key), Ok(Some(part)));
-            tally.places[1] += 1;
         }
-        Ok(Preview::Missing) => tally.places[2] += 1,
+        Ok(Preview::Missing) => tally.places[3] += 1,
         Err(refusal) => assert_eq!(seen, Err(refusal)),
     }
 }
@@ -149,9 +178,9 @@ fn preview_is_what_apply_gives() {
     }
     let Tally { lists, places } = tally;
     println!("answers of the look and of apply: {lists:?}");
-    println!("in the list, in the image, missing: {places:?}");
+    println!("in the list, in the image, empty there, missing: {places:?}");
     // Where apply lacks leaves, pages or log, the look answers all the same.
-    for numbers in [(0, 0), (8, 8), (9, 9), (0, 10), (0, 11), (0, 12)] {
+    for numbers in [(0, 0), (8, 8), (9, 9), (19, 19), (0, 10), (0, 11), (0, 12)] {
         let times = lists.get(&numbers).copied().unwrap_or(0);
         assert!(times > 3, "{numbers:?} came too seldom");
     }
@@ -166,19 +195,21 @@ fn update(key: u64, value: &[u8]) -> Edit<'_> {
     Edit::Update { key, value }
 }
 
-/// A store with quotes 1 and 2.
+/// A store with quotes 1 and 2, the second of which has an empty value.
 fn two_quotes() -> Store {
     let mut store = Store::fresh(8).unwrap();
-    let quotes = [insert(1, b"99.50"), insert(2, b"")];
+    let quotes = [insert(1, b"99.50"), insert(2, b"98")];
     store.apply(&quotes).unwrap();
-    store
+    let mut image = store.image().to_vec();
+    empty_out(&mut image, 2);
+    Store::open(&image).unwrap()
 }
 
 /// The last edit of a key decides, and the value is that edit's own, not a copy.
 #[test]
 fn value_is_lent() {
     let store = two_quotes();
-    let values = [&b"101"[..], b"102", b"", b"103"].map(<[u8]>::to_vec);
+    let values = [&b"101"[..], b"102", b"1", b"103"].map(<[u8]>::to_vec);
     let edits = [
         update(1, &values[0]),
         insert(7, &values[1]),
@@ -188,7 +219,7 @@ fn value_is_lent() {
     ];
     let look = |key| store.preview(&edits, key).unwrap();
     assert!(std::ptr::eq(look(1).unwrap(), &values[3][..]));
-    assert_eq!((look(7), look(8)), (None, Some(&b""[..])));
+    assert_eq!((look(7), look(8)), (None, Some(&b"1"[..])));
     let place = calls::lookup(store.image(), 2).unwrap().unwrap();
     assert!(std::ptr::eq(look(2).unwrap(), &store.image()[place]));
     // Equal bytes are those of the edit all the same.
@@ -224,11 +255,12 @@ fn is_refused(edits: &[Edit], refusal: Refusal, out_of_range: Refusal) {
 /// keys that are there or missing.
 #[test]
 fn refusals_come_in_their_order() {
-    let (long, good) = ([0; 1000], insert(3, b""));
-    let faults: [(&[Edit], Refusal); 5] = [
+    let (long, good) = ([0; 1000], insert(3, b"1"));
+    let faults: [(&[Edit], Refusal); 6] = [
         (&[], Refusal::BadList { edit: 0 }),
         (&[good; 17], Refusal::BadList { edit: 16 }),
-        (&[good, update(0, b"")], Refusal::KeyRange { edit: 1 }),
+        (&[good, update(0, b"1")], Refusal::KeyRange { edit: 1 }),
+        (&[good, update(2, b"")], Refusal::EmptyValue { edit: 1 }),
         (&[insert(4, &long[..201])], Refusal::LongValue { edit: 0 }),
         (&[good, insert(4, &long)], Refusal::LongValue { edit: 1 }),
     ];
@@ -237,9 +269,9 @@ fn refusals_come_in_their_order() {
     }
     let delete = Edit::Delete { key: 1 };
     let wrong_keys: [(&[Edit], Refusal); 4] = [
-        (&[insert(1, b"")], Refusal::KeyPresent { edit: 0 }),
+        (&[insert(1, b"1")], Refusal::KeyPresent { edit: 0 }),
         (&[good, good], Refusal::KeyPresent { edit: 1 }),
-        (&[good, update(4, b"")], Refusal::KeyMissing { edit: 1 }),
+        (&[good, update(4, b"1")], Refusal::KeyMissing { edit: 1 }),
         (&[delete, delete], Refusal::KeyMissing { edit: 1 }),
     ];
     for (edits, refusal) in wrong_keys {

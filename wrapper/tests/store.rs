@@ -1,6 +1,9 @@
 //! The `Store` type against a plain map, and through power failures.
 
+mod images;
+
 use cases::random::Random;
+use images::empty_out;
 use quote_store::{calls, Device, Edit, Refusal, Store, LAST_KEY, LINE};
 use std::collections::BTreeMap;
 
@@ -99,12 +102,10 @@ fn device_follows(device: &[u8], mut found: Store) -> bool {
     recovery > 0
 }
 
-/// A store on a device of this kind, through 60 transactions.
-fn is_the_map(kind: Device) {
+/// A store on a device of this kind, which holds the map, through 60 transactions.
+fn is_the_map(kind: Device, mut store: Store, mut map: Map) {
     println!("{kind:?}, seed {SEED}");
     let mut random = Random::new(SEED);
-    let mut store = Store::fresh_on(kind, 16).unwrap();
-    let mut map = Map::new();
     let (mut accepted, mut recovered) = (0, 0);
     while accepted < 60 {
         let (before, old) = (store.image().to_vec(), map.clone());
@@ -128,49 +129,59 @@ fn is_the_map(kind: Device) {
     assert!(recovered > 100);
 }
 
+fn fresh_is_the_map(kind: Device) {
+    is_the_map(kind, Store::fresh_on(kind, 16).unwrap(), Map::new());
+}
+
 #[test]
 fn store_is_the_map_through_power_failures() {
-    is_the_map(Device::Lines);
+    fresh_is_the_map(Device::Lines);
 }
 
 #[test]
 fn store_on_words_is_the_map_through_power_failures() {
-    is_the_map(Device::Words);
+    fresh_is_the_map(Device::Words);
+}
+
+/// The same from a store that holds empty values of all keys: they stay until they
+/// are updated or deleted, through copies, splits and recoveries.
+#[test]
+fn store_with_empty_values_is_the_map_through_power_failures() {
+    for kind in [Device::Lines, Device::Words] {
+        let mut image = Store::fresh(16).unwrap().image().to_vec();
+        for key in 1..=60 {
+            let mut store = Store::open(&image).unwrap();
+            store.apply(&[Edit::Insert { key, value: DATA }]).unwrap();
+            image = store.image().to_vec();
+            empty_out(&mut image, key);
+        }
+        let map = (1..=60).map(|key| (key, &b""[..])).collect();
+        is_the_map(kind, Store::open_on(kind, &image).unwrap(), map);
+    }
 }
 
 #[test]
 fn a_refused_list_changes_nothing() {
-    let mut store = Store::fresh(8).unwrap();
-    let good = Edit::Insert {
-        key: 1,
-        value: b"99.50",
-    };
+    let (mut store, long) = (Store::fresh(8).unwrap(), [0; 1000]);
+    let insert = |key, value| Edit::Insert { key, value };
+    let update = |key, value| Edit::Update { key, value };
+    let (good, other) = (insert(1, DATA), insert(2, DATA));
     store.apply(&[good]).unwrap();
     assert!(!store.take_tape().is_empty());
     let image = store.image().to_vec();
-    let long = [0; 1000];
-    let other = Edit::Insert { key: 2, value: b"" };
-    let lists: [(&[Edit], Refusal); 8] = [
+    let lists: [(&[Edit], Refusal); 9] = [
         (&[], Refusal::BadList { edit: 0 }),
         (&[other; 17], Refusal::BadList { edit: 16 }),
         (&[other, good], Refusal::KeyPresent { edit: 1 }),
         (&[other, other], Refusal::KeyPresent { edit: 1 }),
         (&[Edit::Delete { key: 2 }], Refusal::KeyMissing { edit: 0 }),
-        (
-            &[Edit::Update { key: 2, value: b"" }],
-            Refusal::KeyMissing { edit: 0 },
-        ),
+        (&[update(2, DATA)], Refusal::KeyMissing { edit: 0 }),
         (
             &[other, Edit::Delete { key: LAST_KEY + 1 }],
             Refusal::KeyRange { edit: 1 },
         ),
-        (
-            &[Edit::Insert {
-                key: 2,
-                value: &long,
-            }],
-            Refusal::LongValue { edit: 0 },
-        ),
+        (&[insert(2, &long)], Refusal::LongValue { edit: 0 }),
+        (&[other, update(1, b"")], Refusal::EmptyValue { edit: 1 }),
     ];
     for (edits, refusal) in lists {
         assert_eq!(store.apply(edits), Err(refusal));
@@ -274,13 +285,13 @@ fn unsound_images_are_refused() {
 #[test]
 fn every_refusal_says_why() {
     let mut words = std::collections::BTreeSet::new();
-    for number in 1..=18 {
+    for number in 1..=19 {
         let refusal = Refusal::of(number, 3).unwrap();
-        let names_edit = (5..=11).contains(&number);
+        let names_edit = matches!(number, 5..=11 | 19);
         assert_eq!(refusal.number(), number);
         assert_eq!(refusal.edit(), if names_edit { 3 } else { 0 });
         assert_eq!(refusal.to_string().starts_with("edit 3: "), names_edit);
         assert!(words.insert(refusal.to_string()));
     }
-    assert_eq!((Refusal::of(0, 0), Refusal::of(19, 0)), (None, None));
+    assert_eq!((Refusal::of(0, 0), Refusal::of(20, 0)), (None, None));
 }

@@ -26,6 +26,10 @@ pub unsafe fn parse<'a>(list: &[u8], edits: *mut Edit) -> Result<&'a [Edit], (u8
         if length > 200 {
             return Err((7, count));
         }
+        // "19 .. for an insert or update of length 0, in the list check just after 7".
+        if length == 0 && kind != 3 {
+            return Err((19, count));
+        }
         if rest.len() < 10 + length {
             return Err((5, count));
         }

@@ -256,7 +256,7 @@ unsafe fn copy_words(from: *const u8, to: *mut u8, size: usize) {
 #[inline(always)]
 unsafe fn put_record(to: *mut u8, edit: &Edit, size: usize) {
     put_word(to, edit.key);
-    // The last word first: it may be padding in part, or be the length's own.
+    // The last word first: it may be padding in part.
     put_word(to.add(size - 8), 0);
     put_word(to.add(8), edit.length as u64);
     copy_nonoverlapping(edit.value, to.add(16), edit.length);

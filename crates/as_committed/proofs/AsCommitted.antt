@@ -94,6 +94,14 @@ as-committed = either
 
 -- ---- refused
 
+-- a number up to 11 that is not one of 10 to 13
+not-room : (n : ℕ) → n ≤ 11 → (10 ≤ n → 13 < n) → n ≤ 9
+not-room n most room = go (leb n 9) refl
+  where
+    go : (b : Bool) → leb n 9 ≡ b → n ≤ 9
+    go true e = leb-true n 9 e
+    go false e = absurd (omega (arith, room (leb-false n 9 e)))
+
 module _ (a work tape bytes : List ℕ) (k : ℕ) (low : 1 ≤ k) (high : k ≤ 999999999999) where
   -- each ground of the transaction that is one of the preview's too
   size-alike : isImageSize (length a) ≡ false → previewCall a bytes k ≡ previews.Refused (refusal 1)
@@ -113,22 +121,26 @@ module _ (a work tape bytes : List ℕ) (k : ℕ) (low : 1 ≤ k) (high : k ≤ 
   edit-alike c es reads n i eight nine G =
       broken-refused a bytes (check-sound a c) k es (list-whole bytes es reads) low high n i (grounds-broken a (check-sound a c) es (list-proper bytes es reads) n i G eight nine)
 
-  alike : (way : Way) (r : Refusal) → r .number ≤ 9 → (r .number ≡ 2 → ⊥) → (r .number ≡ 4 → NotOpened a r) → (x : Result) → transactions.Answers way a work tape bytes x → x .answer ≡ Refused r → previewCall a bytes k ≡ previews.Refused r
+  -- the number of an edit that cannot be made
+  edit-most : checkCall a ≡ answers.Accepted → (es : List Edit) → editList bytes ≡ listed es → (n i : ℕ) → 8 ≤ n → Grounds a es n i → n ≤ 11
+  edit-most c es reads n i eight G = edits-numbered a es n i (grounds-refuse a (check-sound a c) es (list-proper bytes es reads) n i G (λ z. omega arith)) .1
+
+  alike : (way : Way) (r : Refusal) → (10 ≤ r .number → 13 < r .number) → (r .number ≡ 2 → ⊥) → (r .number ≡ 4 → NotOpened a r) → (x : Result) → transactions.Answers way a work tape bytes x → x .answer ≡ Refused r → previewCall a bytes k ≡ previews.Refused r
   unfolding acceptedWith
-  alike way r most other opens _ (transactions.bad-size z) q = size-alike z ∙ ap previews.Refused (refused-is 1 0 work tape r q)
-  alike way r most other opens _ (transactions.bad-work _ _) q = absurd (other (ap (λ (x : Refusal). x .number) (sym (refused-is 2 0 work tape r q))))
-  alike way r most other opens _ (transactions.bad-image _ _ s c) q = let z : s ≡ r = cc in image-alike s c (λ e. subst (NotOpened a) (sym z) (opens (ap (λ (x : Refusal). x .number) (sym z) ∙ e))) ∙ ap previews.Refused z
-  alike way r most other opens _ (transactions.bad-list B n i f) q = list-alike (B .checked) n i f ∙ ap previews.Refused (refused-is n i work tape r q)
-  alike way r most other opens _ (transactions.bad-edit B es reads n i eight G) q =
+  alike way r room other opens _ (transactions.bad-size z) q = size-alike z ∙ ap previews.Refused (refused-is 1 0 work tape r q)
+  alike way r room other opens _ (transactions.bad-work _ _) q = absurd (other (ap (λ (x : Refusal). x .number) (sym (refused-is 2 0 work tape r q))))
+  alike way r room other opens _ (transactions.bad-image _ _ s c) q = let z : s ≡ r = cc in image-alike s c (λ e. subst (NotOpened a) (sym z) (opens (ap (λ (x : Refusal). x .number) (sym z) ∙ e))) ∙ ap previews.Refused z
+  alike way r room other opens _ (transactions.bad-list B n i f) q = list-alike (B .checked) n i f ∙ ap previews.Refused (refused-is n i work tape r q)
+  alike way r room other opens _ (transactions.bad-edit B es reads n i eight G) q =
       let z = refused-is n i a tape r q in
-      let nine : n ≤ 9 = subst (λ (m : ℕ). m ≤ 9) (ap (λ (x : Refusal). x .number) (sym z)) most in
+      let nine : n ≤ 9 = not-room n (edit-most (B .checked) es reads n i eight G) (subst (λ (m : ℕ). 10 ≤ m → 13 < m) (ap (λ (x : Refusal). x .number) (sym z)) room) in
       edit-alike (B .checked) es reads n i eight nine G ∙ ap previews.Refused z
-  alike way r most other opens _ (transactions.no-log _ _ _ _ _) q = absurd (omega (arith, most, ap (λ (x : Refusal). x .number) (refused-is 12 0 a tape r q)))
-  alike way r most other opens _ (transactions.no-tape _ _ _ _ _ _) q = absurd (omega (arith, most, ap (λ (x : Refusal). x .number) (refused-is 13 0 a tape r q)))
-  alike way r most other opens _ (transactions.accepted _ _ _ _ _ _) q = let z : _≡_ {A = ℕ} 0 1 = cc in absurd (omega arith)
+  alike way r room other opens _ (transactions.no-log _ _ _ _ _) q = let same = ap (λ (x : Refusal). x .number) (refused-is 12 0 a tape r q) in absurd (omega (arith, room (omega (arith, same)), same))
+  alike way r room other opens _ (transactions.no-tape _ _ _ _ _ _) q = let same = ap (λ (x : Refusal). x .number) (refused-is 13 0 a tape r q) in absurd (omega (arith, room (omega (arith, same)), same))
+  alike way r room other opens _ (transactions.accepted _ _ _ _ _ _) q = let z : _≡_ {A = ℕ} 0 1 = cc in absurd (omega arith)
 
 pub refused-alike : RefusedAlike
-refused-alike way a work tape bytes r e most other opens k low high = alike a work tape bytes k low high way r most other opens (transactionCall way a work tape bytes) (call-answers way a work tape bytes) e
+refused-alike way a work tape bytes r e room other opens k low high = alike a work tape bytes k low high way r room other opens (transactionCall way a work tape bytes) (call-answers way a work tape bytes) e
 
 -- ---- and the other way
 
@@ -159,7 +171,7 @@ module _ (a work tape bytes : List ℕ) (same : length work ≡ length a) (k : �
     edit-refuses n i eight G = go (leb n 9) refl
       where
         most : n ≤ 11
-        most = edits-numbered a es n i (grounds-refuse a (check-sound a c) es proper n i G (λ z. omega arith)) .1
+        most = edit-most a work tape bytes k low high c es reads n i eight G
 
         go : (b : Bool) → leb n 9 ≡ b → RefusedSo a r (Refused (record { number = n; edit = i }))
         go true e = so _ (edit-alike a work tape bytes k low high c es reads n i eight (leb-true n 9 e) G)

@@ -24,11 +24,11 @@ AsCommitted =
     (way : Way) (a work tape bytes : List ℕ) (c : Commit) → transactionCall way a work tape bytes .answer ≡ Accepted c → (k : ℕ) →
     previewed a bytes (previewCall a bytes k) ≡ lookedUp (transactionCall way a work tape bytes .work) (lookupCall (transactionCall way a work tape bytes .work) k)
 
--- refused for the image, the list or a key, with 1 to 9 but not for its work buffer, and with 4 only for page 0 or the index, which both read: so is the preview of a key in range, with the
--- same number and edit number
+-- refused for the image, the list or a key, so not with 2 for its work buffer nor with 10 to 13 for want of room, and with 4 only for page 0 or the index, which both read: so is the preview
+-- of a key in range, with the same number and edit number
 abbrev pub RefusedAlike : Type 0
 RefusedAlike =
-    (way : Way) (a work tape bytes : List ℕ) (r : Refusal) → transactionCall way a work tape bytes .answer ≡ Refused r → r .number ≤ 9 → (r .number ≡ 2 → ⊥) → (r .number ≡ 4 → NotOpened a r) →
+    (way : Way) (a work tape bytes : List ℕ) (r : Refusal) → transactionCall way a work tape bytes .answer ≡ Refused r → (10 ≤ r .number → 13 < r .number) → (r .number ≡ 2 → ⊥) → (r .number ≡ 4 → NotOpened a r) →
     (k : ℕ) → 1 ≤ k → k ≤ 999999999999 → previewCall a bytes k ≡ previews.Refused r
 
 -- the transaction's answer is a refusal: the preview's refusal r; or that an edit before that of r has too little room (10 or 11), which a preview does not ask for; or that the image is

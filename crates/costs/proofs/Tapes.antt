@@ -22,9 +22,8 @@ use Rattle.image.specs.declared.PageZero.the-variants.{Wrong, Waiting, Ready}
 use Rattle.image.proofs.Zero.{isPage-true, waiting-facts}
 use Rattle.image.proofs.Whole.{check-refused}
 use Rattle.image.proofs.Answers.{check-sound}
-use Rattle.edit.specs.Reads.{Fault, Stops, ListFault, head-short, unknown-kind, delete-long, long-value, value-short, bad-key, none}
 use Rattle.edit.proofs.General.{by-test}
-use Rattle.edit.proofs.Parsing.{list-proper}
+use Rattle.edit.proofs.Parsing.{list-proper, list-numbered}
 use Rattle.journal.specs.Changes.{changedPages, sameRoot}
 use Rattle.journal.specs.Tape.{commitOf, takenFor}
 use Rattle.journal.specs.Recovery.{logged, recoveryTape, replayFrom, replayable, rootIs}
@@ -100,22 +99,9 @@ check-other a _ (inl (image.mark-waits s k root z)) e = omega arith
 check-other a _ (inl (image.bad-index s root z i)) e = omega arith
 check-other a r (inr four) e = omega (arith, ap (λ (x : Refusal). x .number) four)
 
-fault-other : (t : List ℕ) (k : ℕ) → Fault t k → k ≡ 13 → ⊥
-fault-other t _ (head-short _) e = omega arith
-fault-other t _ (unknown-kind _ _) e = omega arith
-fault-other t _ (delete-long _ _ _) e = omega arith
-fault-other t _ (long-value _ _ _) e = omega arith
-fault-other t _ (value-short _ _ _ _) e = omega arith
-fault-other t _ (bad-key _ _ _ _) e = omega arith
-fault-other t _ (none _) e = omega arith
-
-list-other : (bytes : List ℕ) (k i : ℕ) → ListFault bytes k i → k ≡ 13 → ⊥
-list-other bytes k i (inl h) e = omega (arith, h .1)
-list-other bytes k i (inr h) e = go (h .why)
-  where
-    go : Stops 16 (length (h .before)) (h .rest) k → ⊥
-    go (inl s) = fault-other (h .rest) k (s .1) e
-    go (inr s) = omega (arith, s .1)
+list-other : (k : ℕ) → ((5 ≤ k) × (k ≤ 7)) ⊎ (k ≡ 19) → k ≡ 13 → ⊥
+list-other k (inl h) e = omega (arith, h .1)
+list-other k (inr h) e = omega arith
 
 pub tape-suffices : TapeSuffices
 unfolding acceptedWith
@@ -128,7 +114,7 @@ tape-suffices way a work tape bytes long r e thirteen = go (transactionCall way 
     go _ (bad-size _) e = omega (arith, said 1 0 work e)
     go _ (bad-work _ _) e = omega (arith, said 2 0 work e)
     go _ (bad-image _ _ s c) e = let z : s ≡ r = cc in check-other a s (check-refused a s c) (ap (λ (x : Refusal). x .number) z ∙ thirteen)
-    go _ (bad-list _ k i f) e = list-other bytes k i f (said k i work e)
+    go _ (bad-list _ k i f) e = list-other k (list-numbered bytes k i f) (said k i work e)
     go _ (bad-edit B es reads k i low g) e =
         let made = grounds-refuse a (check-sound a (B .checked)) es (list-proper bytes es reads) k i g (λ z. omega arith) in
         omega (arith, said k i a e, edits-numbered a es k i made .1)

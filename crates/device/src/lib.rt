@@ -54,6 +54,8 @@ impl Refusal {
 
     pub const NO_SUCH_CUT: u8 = 18;
 
+    pub const EMPTY_VALUE: u8 = 19;
+
     // A refusal that names no edit.
     pub fn of(number: u8) -> Refusal
         ensures { λ r. ⌜ r ≡ refusal number ⌝ }

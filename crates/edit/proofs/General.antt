@@ -15,6 +15,10 @@ pub not-both : (a b : Bool) → (a && b) ≡ false → a ≡ true → b ≡ fals
 not-both true b e h = e
 not-both false b e h = absurd (false≢true h)
 
+pub never-both : (a b : Bool) → (a ≡ true → b ≡ false) → (a && b) ≡ false
+never-both true b h = h refl
+never-both false b h = refl
+
 -- one of two tests holds, and it is not the first, or not the second
 pub not-first : (a b : Bool) → (a || b) ≡ true → a ≡ false → b ≡ true
 not-first true b h e = absurd (true≢false e)

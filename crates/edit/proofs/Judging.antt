@@ -46,12 +46,11 @@ module _ (l : List ℕ) (at : ℕ) where
     -- the tests past the first, by the numbers that stand there
     fault-long : faultIn (drop at l)
         ≡ pick (badHead (getD l at 0) n) 5
-        (pick (ltb valueMost n) 7 (pick (ltb (length l - at) (headSize + n)) 5 (pick (keyOk (number (part l (at + 2) 8))) 0 6)))
+        (pick (ltb valueMost n) 7 (pick (ltb (getD l at 0) 3 && eqb n 0) 19 (pick (ltb (length l - at) (headSize + n)) 5 (pick (keyOk (number (part l (at + 2) 8))) 0 6))))
     unfolding faultIn
     fault-long =
         rw (length-drop at l, le-ltb (length l - at) headSize long, kind-at, length-at ∙ sym there, key-at)
-        (go (ltb (getD l at 0) 1 || ltb 3 (getD l at 0)) (eqb (getD l at 0) 3 && ltb 0 n)
-        (pick (ltb valueMost n) 7 (pick (ltb (length l - at) (headSize + n)) 5 (pick (keyOk (number (part l (at + 2) 8))) 0 6))))
+        (go (ltb (getD l at 0) 1 || ltb 3 (getD l at 0)) (eqb (getD l at 0) 3 && ltb 0 n) _)
       where
         go : (a b : Bool) (x : ℕ) → pick a 5 (pick b 5 x) ≡ pick (a || b) 5 x
         go true b x = refl
@@ -65,11 +64,15 @@ module _ (l : List ℕ) (at : ℕ) where
       fault-value h = fault-long ∙ rw (good, lt-ltb valueMost n h)
 
       module _ (short : n ≤ valueMost) where
-        pub fault-cut : length l - at < headSize + n → faultIn (drop at l) ≡ 5
-        fault-cut h = fault-long ∙ rw (good, le-ltb valueMost n short, lt-ltb (length l - at) (headSize + n) h)
+        pub fault-empty : (ltb (getD l at 0) 3 && eqb n 0) ≡ true → faultIn (drop at l) ≡ 19
+        fault-empty h = fault-long ∙ rw (good, le-ltb valueMost n short, h)
 
-        pub fault-key : headSize + n ≤ length l - at → faultIn (drop at l) ≡ pick (keyOk (number (part l (at + 2) 8))) 0 6
-        fault-key h = fault-long ∙ rw (good, le-ltb valueMost n short, le-ltb (length l - at) (headSize + n) h)
+        module _ (filled : (ltb (getD l at 0) 3 && eqb n 0) ≡ false) where
+          pub fault-cut : length l - at < headSize + n → faultIn (drop at l) ≡ 5
+          fault-cut h = fault-long ∙ rw (good, le-ltb valueMost n short, filled, lt-ltb (length l - at) (headSize + n) h)
+
+          pub fault-key : headSize + n ≤ length l - at → faultIn (drop at l) ≡ pick (keyOk (number (part l (at + 2) 8))) 0 6
+          fault-key h = fault-long ∙ rw (good, le-ltb valueMost n short, filled, le-ltb (length l - at) (headSize + n) h)
 
 -- ---- the list, from an edit on
 

@@ -1,8 +1,8 @@
--- The edit list: it is read exactly if it is the encodings of 1 to 16 proper edits end to end, and refused exactly as the first faulty edit decides.
+-- The edit list: it is read exactly if it is the encodings of 1 to 16 proper edits end to end, none with an empty value, and refused exactly as the first faulty edit decides.
 -- Assumes nothing.
 use Prim.Native.Nat.{ℕ, zero, suc, _+_, _-_, _≤_}
 use mathlib.Core.Path.{_≡_, refl, sym, _∙_, subst}
-use mathlib.Core.Logic.{inl, inr}
+use mathlib.Core.Logic.{_⊎_, inl, inr}
 use mathlib.Core.Bool.{Bool, true, false}
 use mathlib.Core.List.{List, [], _∷_, _++_, append-assoc, append-nil}
 use native.Mathlib.Omega.{arith}
@@ -12,16 +12,22 @@ use lib.Dec.{eqb}
 use borrow.Author.Tests.{eqb-true, eqb-false, eq-eqb, ne-eqb}
 use Rattle.codec.specs.Lists.{pick, All}
 use Rattle.edit.specs.EditList.{Edit, editsMost, headSize, editBytes, lengthIn, editIn, faultIn, Listed, listed, faulty, joined, editsIn, editList}
-use Rattle.edit.specs.Reads.{Bytes, editValue, Proper, Fault, Reads, listBytes, Whole, Stops, FirstFault, ListFault}
-use Rattle.edit.proofs.Faults.{fault-case, case-fault}
-use Rattle.edit.proofs.Reading.{bytes-drop, faultless, no-fault, edit-proper, edit-bytes, edit-encoded, encoded-reads}
+use Rattle.edit.specs.Reads.{Bytes, editValue, Proper, Filled, Faultless, Fault, Reads, listBytes, Whole, Stops, FirstFault, ListFault}
+use Rattle.edit.proofs.Faults.{fault-case, case-fault, fault-numbered}
+use Rattle.edit.proofs.Reading.{bytes-drop, faultless, no-fault, edit-proper, edit-filled, edit-bytes, edit-encoded, encoded-reads}
 
 -- ---- what is read
 
+-- what each edit without fault is
+reads-each : (P : Edit → Type 0) → ((t : List ℕ) → Faultless t → P (editIn t)) → (t : List ℕ) (es : List Edit) (rest : List ℕ) → Reads t es rest → All P es
+reads-each P f t [] rest r = tt
+reads-each P f t (e ∷ es) rest r = (subst P (r .1) (f t (r .0)), reads-each P f (drop (headSize + lengthIn t) t) es rest (r .2))
+
 pub reads-proper : (t : List ℕ) (es : List Edit) (rest : List ℕ) → Reads t es rest → All Proper es
-reads-proper t [] rest r = tt
-reads-proper t (e ∷ es) rest r =
-    (subst Proper (r .1) (edit-proper t (r .0)), reads-proper (drop (headSize + lengthIn t) t) es rest (r .2))
+reads-proper = reads-each Proper edit-proper
+
+pub reads-filled : (t : List ℕ) (es : List Edit) (rest : List ℕ) → Reads t es rest → All Filled es
+reads-filled = reads-each Filled edit-filled
 
 pub reads-bytes : (t : List ℕ) (es : List Edit) (rest : List ℕ) → Reads t es rest → Bytes t → All (λ (e : Edit). Bytes (editValue e)) es
 reads-bytes t [] rest r h = tt
@@ -38,11 +44,11 @@ reads-encoded t (e ∷ es) rest r h =
     edit-encoded t (r .0) h
     ∙ rw (r .1, reads-encoded (drop n t) es rest (r .2) (bytes-drop n t h)) (sym (append-assoc (editBytes e) (listBytes es) rest))
 
-pub encoded-list : (es : List Edit) (rest : List ℕ) → All Proper es → Reads (listBytes es ++ rest) es rest
-encoded-list [] rest p = refl
-encoded-list (e ∷ es) rest p =
+pub encoded-list : (es : List Edit) (rest : List ℕ) → All Proper es → All Filled es → Reads (listBytes es ++ rest) es rest
+encoded-list [] rest p f = refl
+encoded-list (e ∷ es) rest p f =
     rw (append-assoc (editBytes e) (listBytes es) rest)
-    (let a = encoded-reads e (listBytes es ++ rest) (p .0) in (a .0, a .1, rw (a .2) (encoded-list es rest (p .1))))
+    (let a = encoded-reads e (listBytes es ++ rest) (p .0) (f .0) in (a .0, a .1, rw (a .2) (encoded-list es rest (p .1) (f .1))))
 
 -- ---- the whole list, read
 
@@ -94,14 +100,17 @@ whole-list bytes [] w = absurd (not-suc-le-zero (w .some))
 whole-list [] (e ∷ es) w = absurd (omega (arith, w .reads .0 .whole))
 whole-list (b ∷ t) (e ∷ es) w = all-read editsMost 0 (b ∷ t) (e ∷ es) (w .reads) (w .few)
 
--- the encodings of 1 to 16 proper edits are read as those edits
-pub proper-list : (es : List Edit) → 1 ≤ length es → length es ≤ editsMost → All Proper es → editList (listBytes es) ≡ listed es
-proper-list es some few p =
-    whole-list (listBytes es) es (record { some = some; few = few; reads = subst (λ (t : List ℕ). Reads t es []) (append-nil (listBytes es)) (encoded-list es [] p) })
+-- the encodings of 1 to 16 proper edits, none with an empty value, are read as those edits
+pub proper-list : (es : List Edit) → 1 ≤ length es → length es ≤ editsMost → All Proper es → All Filled es → editList (listBytes es) ≡ listed es
+proper-list es some few p f =
+    whole-list (listBytes es) es (record { some = some; few = few; reads = subst (λ (t : List ℕ). Reads t es []) (append-nil (listBytes es)) (encoded-list es [] p f) })
 
 -- and a list of bytes that is read is such encodings
 pub list-proper : (bytes : List ℕ) (es : List Edit) → editList bytes ≡ listed es → All Proper es
 list-proper bytes es q = reads-proper bytes es [] (list-whole bytes es q .reads)
+
+pub list-filled : (bytes : List ℕ) (es : List Edit) → editList bytes ≡ listed es → All Filled es
+list-filled bytes es q = reads-filled bytes es [] (list-whole bytes es q .reads)
 
 pub list-encoded : (bytes : List ℕ) (es : List Edit) → editList bytes ≡ listed es → Bytes bytes → bytes ≡ listBytes es
 list-encoded bytes es q h = reads-encoded bytes es [] (list-whole bytes es q .reads) h ∙ append-nil (listBytes es)
@@ -203,3 +212,12 @@ fault-list [] k i (inr f) =
     let z : _≡_ {A = ℕ} 0 1 = cc in
     absurd (omega arith)
 fault-list (b ∷ t) k i (inr f) = fault-first 16 0 (b ∷ t) k i f
+
+-- with 5, 6, 7 or 19
+pub list-numbered : (bytes : List ℕ) (k i : ℕ) → ListFault bytes k i → ((5 ≤ k) × (k ≤ 7)) ⊎ (k ≡ 19)
+list-numbered bytes k i (inl h) = inl (omega (arith, h .1), omega (arith, h .1))
+list-numbered bytes k i (inr f) = go (f .why)
+  where
+    go : Stops 16 (length (f .before)) (f .rest) k → ((5 ≤ k) × (k ≤ 7)) ⊎ (k ≡ 19)
+    go (inl s) = fault-numbered (f .rest) k (s .1) (s .2)
+    go (inr s) = inl (omega (arith, s .1), omega (arith, s .1))

@@ -1,4 +1,4 @@
--- One edit of the list: an edit without fault is proper, and its bytes are its encoding; a proper edit's encoding has no fault.
+-- One edit of the list: an edit without fault is proper and not empty, and its bytes are its encoding; such an edit's encoding has no fault.
 -- Assumes nothing.
 use Prim.Native.Nat.{ℕ, _+_, _≤_, _<_}
 use mathlib.Core.Path.{_≡_, refl, sym, ap, _∙_, subst}
@@ -16,7 +16,7 @@ use Rattle.codec.proofs.Numbers.{length-bytesOf, number-bytesOf, bytesOf-number
 use Rattle.page.specs.Layout.{topKey, valueMost}
 use Rattle.image.proofs.General.{All-left}
 use Rattle.edit.specs.EditList.{Edit, insert, update, delete, headSize, editBytes, kindIn, lengthIn, keyIn, editOf, editIn, faultIn}
-use Rattle.edit.specs.Reads.{Bytes, editValue, Proper, Faultless, Fault, none}
+use Rattle.edit.specs.Reads.{Bytes, editValue, Proper, Filled, Faultless, Fault, none}
 use Rattle.edit.proofs.General.{by-test, all-right}
 use Rattle.edit.proofs.Faults.{fault-case, case-fault}
 
@@ -64,6 +64,12 @@ module _ (t : List ℕ) (f : Faultless t) where
       by-test Proper (eqb (kindIn t) 1) (λ c. record { low = f .key-low; high = f .key-high; short = omega (arith, value-length, f .short) })
       (λ c. by-test Proper (eqb (kindIn t) 2) (λ d. record { low = f .key-low; high = f .key-high; short = omega (arith, value-length, f .short) })
       (λ d. record { low = f .key-low; high = f .key-high; short = omega arith }))
+
+  pub edit-filled : Filled (editIn t)
+  unfolding editIn editOf
+  edit-filled =
+      by-test Filled (eqb (kindIn t) 1) (λ c. omega (arith, value-length, f .filled (omega (arith, eqb-true (kindIn t) 1 c))))
+      (λ c. by-test Filled (eqb (kindIn t) 2) (λ d. omega (arith, value-length, f .filled (omega (arith, eqb-true (kindIn t) 2 d)))) (λ d. tt))
 
   pub edit-size : length (editBytes (editIn t)) ≡ headSize + lengthIn t
   unfolding editIn editOf editBytes
@@ -134,13 +140,14 @@ module _ (kind k : ℕ) (v rest : List ℕ) where
       let e : headSize + length v ≡ length (kind ∷ length v ∷ (bytesOf 8 k ++ v)) = simp length-append (omega (arith, length-bytesOf 8 k)) in
       drop-at (kind ∷ length v ∷ (bytesOf 8 k ++ v)) rest (headSize + length v) (sym e)
 
-  back : 1 ≤ kind → kind ≤ 3 → (kind ≡ 3 → length v ≡ 0) → 1 ≤ k → k ≤ topKey → length v ≤ valueMost →
+  back : 1 ≤ kind → kind ≤ 3 → (kind ≡ 3 → length v ≡ 0) → (kind < 3 → 1 ≤ length v) → 1 ≤ k → k ≤ topKey → length v ≤ valueMost →
       Faultless t × (editIn t ≡ editOf kind k v) × (drop (headSize + lengthIn t) t ≡ rest)
   unfolding editIn
-  back low high bare one top short = (
+  back low high bare filled one top short = (
     record {
       known = record { kind-low = low; kind-high = high; delete-bare = bare };
       short = short;
+      filled = filled;
       whole = simp length-append (omega (arith, length-bytesOf 8 k));
       key-low = rw (key-back top) one;
       key-high = rw (key-back top) top;
@@ -149,9 +156,9 @@ module _ (kind k : ℕ) (v rest : List ℕ) where
     rest-back,
   )
 
-pub encoded-reads : (e : Edit) (rest : List ℕ) → Proper e →
+pub encoded-reads : (e : Edit) (rest : List ℕ) → Proper e → Filled e →
     Faultless (editBytes e ++ rest) × (editIn (editBytes e ++ rest) ≡ e) × (drop (headSize + lengthIn (editBytes e ++ rest)) (editBytes e ++ rest) ≡ rest)
 unfolding editBytes editOf
-encoded-reads (insert k v) rest p = back 1 k v rest (omega arith) (omega arith) (λ z. absurd (omega arith)) (p .low) (p .high) (p .short)
-encoded-reads (update k v) rest p = back 2 k v rest (omega arith) (omega arith) (λ z. absurd (omega arith)) (p .low) (p .high) (p .short)
-encoded-reads (delete k) rest p = rw (← append-nil (bytesOf 8 k)) (back 3 k [] rest (omega arith) (omega arith) (λ z. refl) (p .low) (p .high) (p .short))
+encoded-reads (insert k v) rest p f = back 1 k v rest (omega arith) (omega arith) (λ z. absurd (omega arith)) (λ z. f) (p .low) (p .high) (p .short)
+encoded-reads (update k v) rest p f = back 2 k v rest (omega arith) (omega arith) (λ z. absurd (omega arith)) (λ z. f) (p .low) (p .high) (p .short)
+encoded-reads (delete k) rest p f = rw (← append-nil (bytesOf 8 k)) (back 3 k [] rest (omega arith) (omega arith) (λ z. refl) (λ z. absurd (omega arith)) (p .low) (p .high) (p .short))

@@ -1,4 +1,4 @@
--- The edit list: its edits, and the first fault that refuses it (document 01, 'Edits', and 'Transaction' in 'Each call').
+-- The edit list: its edits, and the first fault that refuses it (document 01, 'Edits', and 'Transaction' in 'Each call'; document 02 (g)).
 -- Assumes nothing.
 use Prim.Native.Nat.{ℕ, zero, suc, _+_}
 use mathlib.Core.Bool.{_&&_, _||_}
@@ -7,7 +7,7 @@ use lib.ListN.{length, getD, drop}
 use lib.Dec.{eqb, ltb}
 use Rattle.codec.specs.Lists.{part, pick}
 use Rattle.codec.specs.Numbers.{number, bytesOf}
-use Rattle.device.specs.Calls.{badList, keyRange, longValue}
+use Rattle.device.specs.Calls.{badList, keyRange, longValue, emptyValue}
 use Rattle.page.specs.Layout.{valueMost}
 use Rattle.image.specs.Calls.{keyOk}
 
@@ -54,15 +54,16 @@ unfoldable pub editIn : List ℕ → Edit
 editIn t = editOf (kindIn t) (keyIn t) (part t headSize (lengthIn t))
 
 -- why the edit at the front of t refuses the list, in this order, or 0: "5 (.. head cut short, unknown kind, delete with a length),
--- 7 length above 200, 5 value cut short, 6"
+-- 7 length above 200, 5 value cut short, 6", and 19 "for an insert or update of length 0, .. just after 7"
 unfoldable pub faultIn : List ℕ → ℕ
 faultIn t =
     pick (ltb (length t) headSize) badList
     (pick (ltb (kindIn t) 1 || ltb 3 (kindIn t)) badList
     (pick (eqb (kindIn t) 3 && ltb 0 (lengthIn t)) badList
     (pick (ltb valueMost (lengthIn t)) longValue
+    (pick (ltb (kindIn t) 3 && eqb (lengthIn t) 0) emptyValue
     (pick (ltb (length t) (headSize + lengthIn t)) badList
-    (pick (keyOk (keyIn t)) 0 keyRange)))))
+    (pick (keyOk (keyIn t)) 0 keyRange))))))
 
 -- a list read: its edits, or a refusal's number with the number of the first faulty edit
 pub data Listed : Type 0 where

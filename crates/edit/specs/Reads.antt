@@ -1,4 +1,4 @@
--- What an edit list is, said of its edits: proper edits, their bytes end to end, and the first fault (document 01, 'Edits').
+-- What an edit list is, said of its edits: proper edits, none with an empty value, their bytes end to end, and the first fault (document 01, 'Edits'; document 02 (g)).
 -- Assumes nothing.
 use Prim.Native.Nat.{ℕ, _+_, _≤_, _<_}
 use mathlib.Core.Path.{_≡_}
@@ -25,29 +25,41 @@ pub record Proper (e : Edit) : Type 0 where
   pub high : keyOf e ≤ topKey
   pub short : length (editValue e) ≤ valueMost
 
+-- no "insert or update of length 0" (document 02 (g)). It is a rule of lists alone: a stored value may be empty, and what is said of proper edits holds for every length
+abbrev pub Filled : Edit → Type 0
+Filled (insert k v) = 1 ≤ length v
+Filled (update k v) = 1 ≤ length v
+Filled (delete k) = Unit {0}
+
 -- "kind (1 insert, 2 update, 3 delete), value length (1 byte; 0 for delete)", of the edit at the front of t
 pub record Known (t : List ℕ) : Type 0 where
   pub kind-low : 1 ≤ kindIn t
   pub kind-high : kindIn t ≤ 3
   pub delete-bare : kindIn t ≡ 3 → lengthIn t ≡ 0
 
+-- no insert or update of length 0 stands at the front of t
+abbrev pub FilledIn : List ℕ → Type 0
+FilledIn t = kindIn t < 3 → 1 ≤ lengthIn t
+
 -- the edit at the front of t has no fault
 pub record Faultless (t : List ℕ) : Type 0 where
   pub known : Known t
   pub short : lengthIn t ≤ 200
+  pub filled : FilledIn t
   pub whole : headSize + lengthIn t ≤ length t
   pub key-low : 1 ≤ keyIn t
   pub key-high : keyIn t ≤ 999999999999
 
 -- why the edit at the front of t refuses its list, the first ground that holds, or 0: "5 (.. head cut short, unknown kind, delete with a length), 7 length
--- above 200, 5 value cut short, 6". Each ground stands with the negations of those before it
+-- above 200, 5 value cut short, 6", and "19 .. just after 7". Each ground stands with the negations of those before it
 pub data Fault (t : List ℕ) : ℕ → Type 0 where
   head-short : length t < headSize → Fault t 5
   unknown-kind : headSize ≤ length t → (kindIn t < 1) ⊎ (3 < kindIn t) → Fault t 5
   delete-long : headSize ≤ length t → kindIn t ≡ 3 → 1 ≤ lengthIn t → Fault t 5
   long-value : headSize ≤ length t → Known t → 200 < lengthIn t → Fault t 7
-  value-short : headSize ≤ length t → Known t → lengthIn t ≤ 200 → length t < headSize + lengthIn t → Fault t 5
-  bad-key : headSize + lengthIn t ≤ length t → Known t → lengthIn t ≤ 200 → (keyIn t < 1) ⊎ (999999999999 < keyIn t) → Fault t 6
+  empty-value : headSize ≤ length t → Known t → kindIn t < 3 → lengthIn t ≡ 0 → Fault t 19
+  value-short : headSize ≤ length t → Known t → lengthIn t ≤ 200 → FilledIn t → length t < headSize + lengthIn t → Fault t 5
+  bad-key : headSize + lengthIn t ≤ length t → Known t → lengthIn t ≤ 200 → FilledIn t → (keyIn t < 1) ⊎ (999999999999 < keyIn t) → Fault t 6
   none : Faultless t → Fault t 0
 
 -- the bytes t begin with the edits es, none with a fault, and `rest` is what follows them

@@ -28,6 +28,13 @@ fn bad_head(kind: u8, n: usize) -> bool
     }
 }
 
+// Whether an insert or update, by its kind, brings an empty value: "19 .. for an insert or update of length 0".
+fn is_empty(kind: u8, n: usize) -> bool
+    ensures { λ r. ⌜ r ≡ (ltb kind 3 && eqb n 0) ⌝ }
+{
+    kind < 3 && n == 0
+}
+
 // The fault of a key, or 0.
 fn key_fault(key: u64) -> u8
     ensures { λ r. ⌜ r ≡ pick (keyOk key) 0 6 ⌝ }
@@ -57,6 +64,9 @@ pub fn fault_at(list: &[u8], at: usize) -> u8
     let whole = 10 + n;
     if 200 < n {
         return Refusal::LONG_VALUE;
+    }
+    if is_empty(list[at], n) {
+        return Refusal::EMPTY_VALUE;
     }
     if left < whole {
         return Refusal::BAD_LIST;

@@ -39,14 +39,15 @@ rows =
     -- the last edit of the key decides: its value stands past two edits of 12 and 10 bytes
     record { edits = insert 5 (1 ∷ 2 ∷ []) ∷ delete 5 ∷ insert 5 (3 ∷ []) ∷ []; key = 5; answer = InList 32 1 } ∷
     record { edits = insert 5 (1 ∷ 2 ∷ []) ∷ update 5 (3 ∷ []) ∷ delete 5 ∷ []; key = 5; answer = Missing } ∷
-    -- an empty value is found, at the list's end
-    record { edits = insert 5 [] ∷ []; key = 5; answer = InList 10 0 } ∷
+    -- an insert or update of an empty value is 19, whatever its key, and before 6 for the key asked; a delete is not
+    record { edits = insert 5 (1 ∷ []) ∷ delete 5 ∷ insert 0 [] ∷ []; key = 0; answer = Refused (record { number = 19; edit = 2 }) } ∷
+    record { edits = update 5 [] ∷ []; key = 5; answer = Refused (record { number = 19; edit = 0 }) } ∷
     -- 8 and 9, of keys that are not asked, after the last edit of the one that is
     record { edits = insert 5 (1 ∷ []) ∷ insert 6 (1 ∷ []) ∷ insert 6 (2 ∷ []) ∷ []; key = 5; answer = Refused (record { number = 8; edit = 2 }) } ∷
     record { edits = insert 5 (1 ∷ []) ∷ update 6 (1 ∷ []) ∷ []; key = 5; answer = Refused (record { number = 9; edit = 1 }) } ∷
     -- 6 for the key asked comes before 9, and after the list's
     record { edits = delete 5 ∷ []; key = 0; answer = Refused (record { number = 6; edit = 0 }) } ∷
-    record { edits = delete 5 ∷ insert 0 [] ∷ []; key = 0; answer = Refused (record { number = 6; edit = 1 }) } ∷
+    record { edits = delete 5 ∷ insert 0 (1 ∷ []) ∷ []; key = 0; answer = Refused (record { number = 6; edit = 1 }) } ∷
     record { edits = []; key = 0; answer = Refused (record { number = 5; edit = 0 }) } ∷
     []
 

@@ -27,7 +27,7 @@ pub record Begun (a work : List ℕ) : Type 0 where
   pub same : length work ≡ length a
   pub checked : checkCall a ≡ answers.Accepted
 
--- nor do 5 to 11: the list is read as the edits es, which lead to the state st
+-- nor do 5 to 11 and 19: the list is read as the edits es, which lead to the state st
 pub record Done (a bytes : List ℕ) (es : List Edit) (st : State) : Type 0 where
   pub reads : editList bytes ≡ listed es
   pub makes : editsOn a es ≡ finished st

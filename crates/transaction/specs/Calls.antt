@@ -35,7 +35,7 @@ pub record Result : Type 0 where
 abbrev pub commandsOn : List ℕ → ℕ → List ℕ → List Op
 commandsOn a bytes tape = decode (length a) (take bytes tape)
 
--- "A refusal gives its number and edit number from 0 (0 unless 5 to 11 in a transaction). The tape stays."
+-- "A refusal gives its number and edit number from 0 (0 unless 5 to 11 in a transaction). The tape stays."; 19 too has its edit's (document 02 (g))
 unfoldable pub refusedWith : ℕ → ℕ → List ℕ → List ℕ → Result
 refusedWith k i work tape = record { answer = Refused (record { number = k; edit = i }); work = work; tape = tape }
 

@@ -3,3 +3,4 @@ pub mod Short
 pub mod Updates
 pub mod Claim
 pub mod Costs
+pub mod Empty

@@ -1,3 +1,4 @@
 pub mod Row
 pub mod Rows
 pub mod CostRows
+pub mod EmptyRows

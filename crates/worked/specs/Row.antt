@@ -1,4 +1,4 @@
--- A row of 'Worked on paper': transactions from a fresh store of 8 pages, one more, and what is read off its answer.
+-- A row of 'Worked on paper': transactions from a store on, mostly a fresh one of 8 pages, one more, and what is read off its answer.
 -- Assumes nothing.
 use Prim.Native.Nat.{ℕ, _/_}
 use mathlib.Core.Path.{_≡_}
@@ -99,9 +99,12 @@ pub record Row : Type 0 where
   -- the paper's numbers
   pub says : List ℕ
 
-unfoldable pub found : Row → List ℕ
-found r = readAll (transacted (after (r .setup) (fresh 8)) (r .edits)) (r .asks)
+unfoldable pub found : List ℕ → Row → List ℕ
+found a r = readAll (transacted (after (r .setup) a) (r .edits)) (r .asks)
 
--- the row's claim: what is read is what the paper says
+-- the row's claim, from the image a on: what is read is what the paper says
+abbrev pub HoldsFrom : List ℕ → Row → Type 0
+HoldsFrom a r = found a r ≡ r .says
+
 abbrev pub Holds : Row → Type 0
-Holds r = found r ≡ r .says
+Holds r = HoldsFrom (fresh 8) r

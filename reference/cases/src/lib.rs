@@ -4,6 +4,7 @@
 
 pub mod cuts;
 pub mod damage;
+pub mod empties;
 pub mod harms;
 pub mod images;
 pub mod lists;

@@ -23,7 +23,7 @@ struct Manner {
 
 /// What may be wrong with a list, and the refusal that it then gets if nothing
 /// comes before it.
-pub const FAULTS: [(&str, u8); 11] = [
+pub const FAULTS: [(&str, u8); 12] = [
     ("no edit", 5),
     ("a seventeenth edit", 5),
     ("head cut short", 5),
@@ -35,7 +35,14 @@ pub const FAULTS: [(&str, u8); 11] = [
     ("insert of a key present", 8),
     ("update of a missing key", 9),
     ("delete of a missing key", 9),
+    ("insert or update of length 0", 19),
 ];
+
+/// Those of them that break the key rules; the others are the list's own.
+pub const KEY_RULES: [usize; 3] = [8, 9, 10];
+pub const OWN: [usize; 9] = [0, 1, 2, 3, 4, 5, 6, 7, EMPTY_VALUE];
+
+const EMPTY_VALUE: usize = 11;
 
 /// A list of edits, most of them possible one after the other on a store with
 /// these keys, which rise; one list in eight has a fault.
@@ -147,7 +154,7 @@ impl List {
         };
         let length = match random.below(2) {
             0 => manner.longest,
-            _ => random.between(0, manner.longest),
+            _ => random.between(1, manner.longest),
         };
         let near = manner.near.filter(|_| !random.one_in(8));
         if kind == 1 {
@@ -173,8 +180,8 @@ impl List {
 
     /// An edit more of this key that is then possible.
     fn add_of(&mut self, random: &mut Random, key: u64) {
-        let any = random.between(0, 200);
-        let length = random.pick(&[0, 1, 8, 8, 200, any]);
+        let any = random.between(1, 200);
+        let length = random.pick(&[1, 8, 8, 200, any]);
         match self.present.binary_search(&key) {
             Err(at) => {
                 self.present.insert(at, key);
@@ -230,7 +237,19 @@ impl List {
                     self.edits.truncate(at + 1);
                 }
                 spoil_edit(random, &mut self.edits[at], fault);
+                if fault == EMPTY_VALUE && random.one_in(2) {
+                    self.lengthen_another(random, at);
+                }
             }
+        }
+    }
+
+    /// "First faulty edit": one with 7, before this one or after it.
+    fn lengthen_another(&mut self, random: &mut Random, at: usize) {
+        let other = random.below(self.edits.len());
+        if other != at {
+            let (kind, key) = (random.pick(&[1, 2]), self.any_key(random));
+            self.edits[other] = edit(random, kind, key, 201);
         }
     }
 
@@ -247,7 +266,7 @@ impl List {
         }
     }
 
-    /// "A seventeenth" edit, whole or not.
+    /// "A seventeenth" edit, whole or not, or of length 0.
     fn seventeenth(&mut self, random: &mut Random) {
         let manner = Manner {
             favourite: 0,
@@ -257,9 +276,13 @@ impl List {
         while self.edits.len() < 17 {
             self.add(random, manner);
         }
-        if random.one_in(2) {
-            let length = random.between(1, 12);
-            self.edits[16] = random.bytes(length);
+        match random.below(4) {
+            0 => spoil_edit(random, &mut self.edits[16], EMPTY_VALUE),
+            1 => {}
+            _ => {
+                let length = random.between(1, 12);
+                self.edits[16] = random.bytes(length);
+            }
         }
     }
 
@@ -284,6 +307,10 @@ fn spoil_edit(random: &mut Random, bytes: &mut Vec<u8>, fault: usize) {
         return;
     };
     let key = u64::from_le_bytes(key.try_into().unwrap());
+    // With length 0 too: these come before 19.
+    if matches!(fault, 2 | 3) && random.one_in(2) {
+        bytes[1] = 0;
+    }
     match fault {
         2 => bytes.truncate(random.between(1, 9)),
         3 => bytes[0] = random.pick(&[0, 4, 255]),
@@ -300,6 +327,12 @@ fn spoil_edit(random: &mut Random, bytes: &mut Vec<u8>, fault: usize) {
             let (kind, length) = (random.pick(&[1, 2]), random.between(1, 200));
             *bytes = edit(random, kind, key, length);
             bytes.truncate(random.between(10, 9 + length));
+        }
+        EMPTY_VALUE => {
+            let kind = random.pick(&[1, 2]);
+            // 19 comes before the 6 of the same edit.
+            let key = random.pick(&[key, key, 0, LAST_KEY + 1]);
+            *bytes = edit(random, kind, key, 0);
         }
         _ => {
             let key = random.pick(&[0, LAST_KEY + 1, 1 << 63, u64::MAX]);

@@ -3,7 +3,7 @@
 
 use crate::harms::Harmed;
 use crate::images::{Place, LAST_KEY};
-use crate::lists::{List, FAULTS};
+use crate::lists::{List, KEY_RULES};
 use crate::previews::{any_key, any_list};
 use crate::random::Random;
 
@@ -188,7 +188,7 @@ impl Harmed {
         let mut list = any_list(random, table);
         if random.one_in(3) {
             // "8 insert of a key present; 9 other edit of a missing key."
-            let fault = random.between(8, FAULTS.len() - 1);
+            let fault = random.pick(&KEY_RULES);
             list.spoil(random, fault);
             list.edits.truncate(16);
         }

@@ -60,7 +60,8 @@ pub fn any_call(random: &mut Random, built: &Built) -> PreviewCall {
 }
 
 /// A list whose keys are right for a store with this table: of every mix, or of
-/// few keys; now and then with an update to the bytes that the store has.
+/// few keys; now and then with an update to the bytes that the store has, if it
+/// has any.
 pub fn any_list(random: &mut Random, table: &[(u64, Vec<u8>)]) -> List {
     let keys: Vec<u64> = table.iter().map(|entry| entry.0).collect();
     let mut list = match random.below(2) {
@@ -69,7 +70,8 @@ pub fn any_list(random: &mut Random, table: &[(u64, Vec<u8>)]) -> List {
     };
     if !table.is_empty() && random.one_in(6) {
         let (key, value) = &table[random.below(table.len())];
-        if !list.keys().contains(key) && list.edits.len() < 16 {
+        let new = !list.keys().contains(key) && list.edits.len() < 16;
+        if new && !value.is_empty() {
             list.edits.push(update(*key, value));
         }
     }

@@ -4,11 +4,14 @@
 //! The tapes, the recoveries and the cuts are the proved library's; the
 //! shortcuts are the reference's.
 
+use cases::empties;
 use cases::lists::any_list;
 use cases::random::Random;
 use reference::device::{decode, run, Command, Device};
+use reference::edits::{parse, Edit};
 use reference::image::{table, Table};
 use reference::ledger::Ledger;
+use reference::numbers::work_holds_image;
 use reference::tape::count_flushes;
 use reference::transaction::Fault;
 use std::collections::BTreeMap;
@@ -16,15 +19,22 @@ use std::collections::BTreeMap;
 pub const SEED: u64 = 20_240_605;
 
 /// What must come on every device: a cut in each phase with each table that it may
-/// hold, and recoveries that are cut, of either device.
-pub const OUTCOMES: [&str; 6] = [
+/// hold, recoveries that are cut, of either device, and stored empty values.
+pub const OUTCOMES: [&str; 9] = [
     "before the commit, old",
     "commit pending, old",
     "commit pending, new",
     "commit flushed, new",
     "recovery cut",
     "recovery of the other device",
+    BUILT_EMPTY,
+    "empty value, edited",
+    "empty value, recovered",
 ];
+
+/// Document 02 (g), "Stored ones work as before": a store to start from that was
+/// built with an empty value.
+pub const BUILT_EMPTY: &str = "empty value, built";
 
 /// The calls under test, with the numbers of their answers.
 pub mod calls {
@@ -73,7 +83,7 @@ pub mod calls {
 #[derive(Default)]
 pub struct Tally {
     pub times: BTreeMap<&'static str, usize>,
-    pub refused: [usize; 14],
+    pub refused: BTreeMap<u8, usize>,
     pub cuts: usize,
 }
 
@@ -167,8 +177,9 @@ pub struct Test {
     fault: Fault,
 }
 
-/// Stores to start from, and how many transactions each has.
-type Stores = (fn(&mut Random) -> Vec<u8>, usize);
+/// Stores to start from, how many transactions each has, and as what one counts
+/// that holds an empty value.
+pub type Stores = (fn(&mut Random) -> Vec<u8>, usize, &'static str);
 
 /// A transaction on this image, which becomes the next one's.
 type One = fn(&mut Test, &mut Vec<u8>, &mut Ledger) -> Result<(), String>;
@@ -188,17 +199,24 @@ impl Test {
     pub fn go_on(
         &mut self,
         cuts: usize,
-        (any_store, transactions): Stores,
+        (any_store, transactions, with_empty): Stores,
         one_transaction: One,
     ) -> Result<(), String> {
         while self.tally.cuts < cuts {
             let mut image = any_store(&mut self.random);
             let mut ledger = Ledger::new(&image);
+            self.count_if_empty(table(&image).as_ref(), with_empty);
             for _ in 0..transactions {
                 one_transaction(self, &mut image, &mut ledger)?;
             }
         }
         Ok(())
+    }
+
+    fn count_if_empty(&mut self, table: Option<&Table>, what: &'static str) {
+        if table.is_some_and(|table| empties::any_stored(table)) {
+            self.tally.count(what);
+        }
     }
 
     /// Edits for this store.
@@ -222,8 +240,11 @@ impl Test {
         let (number, answer) = calls::transaction(variant, image, &mut work, &mut tape, list);
         ledger.feed(list, number == 0);
         if number != 0 {
-            self.tally.refused[number as usize] += 1;
-            let left = if number < 8 { &old_work } else { &*image };
+            *self.tally.refused.entry(number).or_default() += 1;
+            let left = match work_holds_image(number) {
+                true => &*image,
+                false => &old_work,
+            };
             let stayed = work == *left && tape == old_tape;
             return stayed.then_some(None).ok_or("a refusal's buffers".into());
         }
@@ -233,12 +254,22 @@ impl Test {
         }
         let tape = Cuttable::new(image, &tape[..bytes]);
         whole_tape(&tape, &work, flushes, ledger)?;
+        self.count_edited(list, ledger);
         Ok(Some(Sent {
             place: self.place(kind, &tape)?,
             commit_line: if kind == 1 { 16 * page } else { 0 },
             tape,
             work,
         }))
+    }
+
+    /// An accepted list that updates or deletes a stored empty value.
+    fn count_edited(&mut self, list: &[u8], ledger: &Ledger) {
+        let before = ledger.count() - 1;
+        let was_empty = |edit: &Edit| ledger.value(edit.key, before) == Some(&[]);
+        if parse(list).is_ok_and(|edits| edits.iter().any(was_empty)) {
+            self.tally.count("empty value, edited");
+        }
     }
 
     /// The commit place's name. Document 02 (d): without line stores no header
@@ -300,6 +331,7 @@ impl Test {
             (Phase::CommitFlushed, false, true) => "commit flushed, new",
             _ => return Err(format!("{phase:?}: holds old {old}, holds new {new}")),
         });
+        self.count_if_empty(table.as_ref(), "empty value, recovered");
         Ok(())
     }
 }

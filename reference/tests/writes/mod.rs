@@ -10,7 +10,7 @@ pub mod by_hand;
 
 use cases::random::Random;
 use reference::device::{decode, Command, Device};
-use reference::numbers::{of_recovery, of_transaction};
+use reference::numbers::{of_recovery, of_transaction, work_holds_image};
 use reference::recovery::{recover, recover_words};
 use reference::tape::count_flushes;
 use reference::transaction::{transaction, transaction_words};
@@ -164,9 +164,11 @@ fn compare(name: &str, ways: Ways, device: Device, call: &Call) -> (u8, Call) {
     assert!(right.work == left.work, "work of {name}");
     assert!(right.tape == left.tape, "tape of {name}");
     if wanted != 0 {
-        // "The tape stays. Other buffers stay unless said": "from 8 on, work
-        // holds the image".
-        let work = if wanted < 8 { &call.work } else { &call.image };
+        // "The tape stays. Other buffers stay unless said."
+        let work = match work_holds_image(wanted) {
+            true => &call.image,
+            false => &call.work,
+        };
         assert!(left.work == *work && left.tape == call.tape);
     }
     (wanted, left)

@@ -211,7 +211,10 @@ fn part(number: u8, look: &Buffers) -> Option<Option<&[u8]>> {
     assert!(*edit == 0 && *length <= 200);
     let part = *offset as usize..(offset + length) as usize;
     Some(match place {
-        1 => Some(&look.edits.after()[part]),
+        1 => {
+            assert!(*length > 0, "an empty value of an edit");
+            Some(&look.edits.after()[part])
+        }
         2 => Some(&look.image.after()[part]),
         _ => {
             assert_eq!((*place, part), (0, 0..0));

@@ -61,9 +61,10 @@ const fn call(
     }
 }
 
-/// "From 8 on, work holds the image."
+/// "From 8 on, work holds the image", in the order of judging: 19 comes with the
+/// list, before 8.
 const fn transaction(name: &'static str, make: fn(&mut Buffers) -> u8) -> Call {
-    let known = &[0, 1, 2, 3, 4, 5, 6, 7, 8, 9, 10, 11, 12, 13];
+    let known = &[0, 1, 2, 3, 4, 5, 6, 7, 8, 9, 10, 11, 12, 13, 19];
     Call {
         restores: &[8, 9, 10, 11, 12, 13],
         names_edit: true,
@@ -156,7 +157,7 @@ pub const PREVIEW: Call = Call {
     ..call(
         "preview",
         |b| proved::preview(b.image.lend(), b.edits.lend(), b.key, b.answer.lend()),
-        &[0, 1, 3, 4, 5, 6, 7, 8, 9],
+        &[0, 1, 3, 4, 5, 6, 7, 8, 9, 19],
         4,
     )
 };
@@ -205,9 +206,14 @@ impl Call {
         let name = self.name;
         assert_eq!(after[written..], before[written..], "numbers of {name}");
         if number != 0 && written > 0 {
-            // "Edit number from 0 (0 unless 5 to 11 in a transaction)"; of the
-            // preview: "Edit numbers are as in a transaction."
-            let most = if (5..=11).contains(&number) { 16 } else { 0 };
+            // "Edit number from 0 (0 unless 5 to 11 in a transaction)"; "19, with
+            // its edit's number", and a seventeenth edit is 5; of the preview:
+            // "Edit numbers are as in a transaction."
+            let most = match number {
+                5..=11 => 16,
+                19 => 15,
+                _ => 0,
+            };
             assert!(after[0] <= most);
             assert!(after[1..written].iter().all(|number| *number == 0));
         }

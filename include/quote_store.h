@@ -295,10 +295,10 @@ uint8_t quote_next_key(const uint8_t *image, size_t image_length, uint64_t key,
  *           quote_where), the value's offset in that buffer, its length; all are
  *           0 if the key would be missing. The value is read in place, at edits
  *           or image + answer[2], as long as that buffer stays as it is; an
- *           empty value is one that the image holds, and its offset may be
- *           image_length. Refused: the number of the edit that is at fault, from
- *           0, for 5 to 9 and 19, and three zeros; it is 0 too for 1, 3, 4 and
- *           the key asked, which are no edit's.
+ *           empty value is one that the image holds (in-list-filled), and its
+ *           offset may be image_length. Refused: the number of the edit that is
+ *           at fault, from 0, for 5 to 9 and 19, and three zeros; it is 0 too for
+ *           1, 3, 4 and the key asked, which are no edit's.
  *   refuses IMAGE_SIZE_WRONG; UNSOUND if page 0 is wrong; MARK_WAITS; UNSOUND
  *           if the index is wrong; then for the first faulty edit of the list
  *           BAD_LIST, LONG_VALUE, EMPTY_VALUE, BAD_LIST if the value is cut

@@ -140,7 +140,7 @@ module _ (a work tape bytes : List ℕ) (k : ℕ) (low : 1 ≤ k) (high : k ≤ 
   alike way r room other opens _ (transactions.accepted _ _ _ _ _ _) q = let z : _≡_ {A = ℕ} 0 1 = cc in absurd (omega arith)
 
 pub refused-alike : RefusedAlike
-refused-alike way a work tape bytes r e room other opens k low high = alike a work tape bytes k low high way r room other opens (transactionCall way a work tape bytes) (call-answers way a work tape bytes) e
+refused-alike way a work tape bytes r e room other opens k low high = alike a work tape bytes k low high way r (λ ten. room (omega (arith, ten))) other opens (transactionCall way a work tape bytes) (call-answers way a work tape bytes) e
 
 -- ---- and the other way
 

@@ -22,18 +22,19 @@ use Rattle.image.specs.declared.Root.{Root}
 use Rattle.image.specs.declared.Root.the-variants as roots
 use Rattle.image.specs.declared.Lookup.{Lookup}
 use Rattle.image.specs.declared.Lookup.the-variants as lookups
+use Rattle.image.proofs.General.{All-middle}
 use Rattle.image.proofs.KeyRange.{keyOk-true, true-keyOk, keyOk-false, false-keyOk}
 use Rattle.image.proofs.Read.{OpeningSays, opening-says, opened-call, not-opened-call, read-or-not, read-lookup, unsound-lookup, ranged-in}
 use Rattle.image.proofs.Says.{read-tells}
 use Rattle.image.proofs.Answers.{check-sound, sound-check, sound-opened, leaf-sound, records-sound, lookup-value, lookup-none}
 use Rattle.edit.specs.EditList.{Edit, insert, update, delete, keyOf, Listed, listed, faulty, editList}
 use Rattle.edit.specs.Ledger.{applyEdits}
-use Rattle.edit.specs.Reads.{listBytes, Whole}
+use Rattle.edit.specs.Reads.{Filled, listBytes, Whole}
 use Rattle.edit.specs.Keys.{wholly, keysFrom, keysRead, AllKept, FirstBroken}
 use Rattle.edit.specs.declared.Judged.{Judged}
 use Rattle.edit.specs.declared.Judged.the-variants.{Good, Faulty}
 use Rattle.edit.proofs.General.{by-test}
-use Rattle.edit.proofs.Parsing.{list-whole, whole-list, list-fault, fault-list}
+use Rattle.edit.proofs.Parsing.{reads-filled, list-whole, whole-list, list-fault, fault-list}
 use Rattle.edit.proofs.Keys.{kept-keys, keys-kept, keys-fault, fault-keys, SameFor, Alike, keys-same}
 use Rattle.preview.specs.Calls.{inImage, brings, seen, rulesOf, keysOf, listOf, openedOf, previewCall, partOf, previewValueCall}
 use Rattle.preview.specs.Says.{previewed, lookedUp, held, bytesIn}
@@ -46,6 +47,13 @@ use Rattle.preview.proofs.Shown.{Shows, seen-shows, sound-shows, Inside
 all-of : {A : Type 0} (P : A → Type 0) → ((x : A) → P x) → (l : List A) → All P l
 all-of P f [] = tt
 all-of P f (x ∷ l) = (f x, all-of P f l)
+
+-- the part of an answer, if it is one of the list, is not empty
+abbrev FilledPart : Preview → Type 0
+FilledPart (InList o n) = 1 ≤ n
+FilledPart (InImage o n) = Unit {0}
+FilledPart Missing = Unit {0}
+FilledPart (Refused r) = Unit {0}
 
 -- an answer that shows what is held comes to it
 shows-held : (img bytes : List ℕ) (a : Preview) (x : Option (List ℕ)) → Shows img bytes x a → previewed img bytes a ≡ held x
@@ -179,6 +187,25 @@ module _ (img bytes : List ℕ) (k : ℕ) where
       opening : (x : Root) → OpeningSays img x → Inside img bytes (openedOf img bytes k x)
       opening (roots.Refused r) n = tt
       opening (roots.At root) o = list root o (editList bytes) refl
+
+  -- a value that is shown from the list is not empty (document 02 (g)): an empty one is the image's
+  pub in-list-filled : (o n : ℕ) → previewCall img bytes k ≡ InList o n → 1 ≤ n
+  in-list-filled o n e = subst FilledPart e (go (previewCall img bytes k) preview-answers)
+    where
+      last : (es : List Edit) → Whole bytes es → (l : LastEdit k es) → Filled (l .edit)
+      last es w l = All-middle Filled (l .before) (l .edit) (l .later) (subst (All Filled) (l .shape) (reads-filled bytes es [] (w .reads)))
+
+      go : (a : Preview) → Answers img bytes k a → FilledPart a
+      go _ (bad-image r n) = tt
+      go _ (bad-list root o n i f) = tt
+      go _ (bad-key root o es w q) = tt
+      go _ (bad-edit root o es w low high n i f) = tt
+      go _ (in-list root es A l v (inl e)) = subst Filled e (last es (A .whole) l)
+      go _ (in-list root es A l v (inr e)) = subst Filled e (last es (A .whole) l)
+      go _ (deleted root es A l e) = tt
+      go _ (bad-leaf root es A h u) = tt
+      go _ (in-image root es A h o n e) = tt
+      go _ (missing root es A h e) = tt
 
 -- ---- "On a sound image every answer is as it was": by the whole table
 

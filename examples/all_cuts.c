@@ -1,11 +1,12 @@
 /*
- * Every cut of a transaction: the power fails after any number of its commands, and
- * of the stores that were not flushed each line keeps any first part. Each cut is
- * recovered, and all quotes that are then there are held to those before the
- * transaction and to those after it; any others would be half a transaction. The
- * transactions are an update of one quote, and two deletes in two leaves, which go
- * through the log. For memory that writes only words of 8 bytes whole even a delete
- * has too many commands. Build it at the root of the repository:
+ * Every cut of a tape: the power fails after any number of its commands, and of the
+ * stores that were not durable each line keeps any first part. Each cut is recovered,
+ * and all quotes that are then there are held to those before the transaction and to
+ * those after it; any others would be half a transaction. The tapes are those of an
+ * update of one quote, and of the recovery of two deletes in two leaves, which go
+ * through the log. The tape of these deletes has too many commands, and for memory
+ * that writes only words of 8 bytes whole even a delete's has. Build it at the root
+ * of the repository:
  *
  *   gcc -Iinclude examples/all_cuts.c target/staticlib/libstore.a -o target/all_cuts
  */
@@ -14,8 +15,10 @@
 #define PAGES 8
 #define QUOTES 29 /* one more than a leaf holds, so that they lie in two leaves */
 
-/* The device before the transaction, after it, after a cut, and recovered. */
+/* The device before the transaction and after it; where the tape that is cut begins;
+ * after a cut, and recovered. */
 static uint8_t before[QUOTE_IMAGE_SIZE(PAGES)], after[QUOTE_IMAGE_SIZE(PAGES)];
+static uint8_t start[QUOTE_IMAGE_SIZE(PAGES)];
 static uint8_t cut[QUOTE_IMAGE_SIZE(PAGES)], work[QUOTE_IMAGE_SIZE(PAGES)];
 static uint8_t tape[QUOTE_TAPE_SIZE(PAGES)], redo[QUOTE_RECOVERY_TAPE_SIZE];
 static uint8_t choices[QUOTE_CHOICES_SIZE(PAGES)], edits[QUOTE_LONGEST_LIST];
@@ -81,10 +84,10 @@ static int same_quotes(const uint8_t *image)
 static void try_cut(size_t bytes, size_t r, struct found *found)
 {
     uint64_t nth[QUOTE_NTH_CUT_NUMBERS], answer[QUOTE_RECOVER_NUMBERS];
-    stop_if_refused("nth cut", quote_nth_cut(before, sizeof before, tape, bytes, r, choices,
+    stop_if_refused("nth cut", quote_nth_cut(start, sizeof start, tape, bytes, r, choices,
                                              sizeof choices, nth, QUOTE_NTH_CUT_NUMBERS));
     size_t commands = (size_t)nth[QUOTE_NTH_CUT_COMMANDS];
-    stop_if_refused("cut", quote_cut(before, sizeof before, cut, sizeof cut, tape, bytes, commands,
+    stop_if_refused("cut", quote_cut(start, sizeof start, cut, sizeof cut, tape, bytes, commands,
                                      choices, sizeof choices));
     stop_if_refused("recover", quote_recover(cut, sizeof cut, work, sizeof work, redo, sizeof redo,
                                              answer, QUOTE_RECOVER_NUMBERS));
@@ -120,14 +123,17 @@ static void print_table(const struct found *found)
     print_row(all);
 }
 
-/* Tries every cut of the transaction of a list. */
-static void try_all_cuts(const char *name, const uint8_t *end)
+/* Tries every cut of a tape of so many bytes; or says why they are not given. */
+static void try_all_cuts(const char *name, size_t bytes)
 {
     uint64_t answer[QUOTE_COUNT_CUTS_NUMBERS];
     struct found found[QUOTE_MOST_CUT_COMMANDS + 1] = {{0, 0, 0}};
-    size_t bytes = transact(end);
-    stop_if_refused("count cuts", quote_count_cuts(before, sizeof before, tape, bytes, answer,
-                                                   QUOTE_COUNT_CUTS_NUMBERS));
+    uint8_t number = quote_count_cuts(start, sizeof start, tape, bytes, answer,
+                                      QUOTE_COUNT_CUTS_NUMBERS);
+    if (number != QUOTE_ACCEPTED) {
+        printf("%s: refused: %d, %s\n", name, number, words_of(number));
+        return;
+    }
     size_t cuts = (size_t)answer[QUOTE_COUNT_CUTS_CUTS];
     for (size_t r = 0; r < cuts; r += 1)
         try_cut(bytes, r, found);
@@ -135,30 +141,45 @@ static void try_all_cuts(const char *name, const uint8_t *end)
     print_table(found);
 }
 
+/* The power fails as soon as the mark of the transaction on the tape is durable: in
+ * start what the device then holds, and on the tape the recovery's commands. */
+static size_t fail_and_recover(size_t bytes)
+{
+    uint64_t answer[QUOTE_RECOVER_NUMBERS];
+    memset(choices, 0, sizeof choices);
+    for (size_t c = 0; quote_check(start, sizeof start) != QUOTE_MARK_WAITS; c += 1)
+        stop_if_refused("cut", quote_cut(before, sizeof before, start, sizeof start, tape, bytes, c,
+                                         choices, sizeof choices));
+    stop_if_refused("recover", quote_recover(start, sizeof start, work, sizeof work, tape,
+                                             sizeof tape, answer, QUOTE_RECOVER_NUMBERS));
+    return (size_t)answer[QUOTE_RECOVER_BYTES];
+}
+
 /* Without line stores a header goes through the log as 16 words, which is more
  * commands than cuts are given of. */
-static void try_words(const char *name, const uint8_t *end)
+static size_t transact_words(const uint8_t *end)
 {
-    uint64_t answer[QUOTE_TRANSACTION_NUMBERS], cuts[QUOTE_COUNT_CUTS_NUMBERS];
+    uint64_t answer[QUOTE_TRANSACTION_NUMBERS];
     stop_if_refused("transaction",
                     quote_transaction_words(before, sizeof before, after, sizeof after, tape,
                                             sizeof tape, edits, (size_t)(end - edits), answer,
                                             QUOTE_TRANSACTION_NUMBERS));
-    size_t bytes = (size_t)answer[QUOTE_TRANSACTION_BYTES];
-    uint8_t number = quote_count_cuts(before, sizeof before, tape, bytes, cuts,
-                                      QUOTE_COUNT_CUTS_NUMBERS);
-    printf("%s: refused: %d, %s\n", name, number, words_of(number));
+    return (size_t)answer[QUOTE_TRANSACTION_BYTES];
 }
 
 int main(void)
 {
     stop_if_refused("format", quote_format(before, sizeof before));
     fill();
+    memcpy(start, before, sizeof start);
     puts("each cut is recovered to the old quotes or to the new ones; finished: where recovery\n"
          "had a commit to finish");
-    try_all_cuts("an update", put_edit(edits, QUOTE_UPDATE, 5, "bid 101.50, ask 101.75"));
-    try_all_cuts("two deletes in two leaves",
-                 put_edit(put_edit(edits, QUOTE_DELETE, 5, ""), QUOTE_DELETE, 25, ""));
-    try_words("a delete without line stores", put_edit(edits, QUOTE_DELETE, 5, ""));
+    size_t bytes = transact(put_edit(edits, QUOTE_UPDATE, 5, "bid 101.50, ask 101.75"));
+    try_all_cuts("an update", bytes);
+    bytes = transact_words(put_edit(edits, QUOTE_DELETE, 5, ""));
+    try_all_cuts("a delete without line stores", bytes);
+    bytes = transact(put_edit(put_edit(edits, QUOTE_DELETE, 5, ""), QUOTE_DELETE, 25, ""));
+    try_all_cuts("two deletes in two leaves", bytes);
+    try_all_cuts("their recovery", fail_and_recover(bytes));
     return 0;
 }

@@ -99,7 +99,7 @@ static int holds_curve(int quotes, int shift)
     return holds;
 }
 
-/* Of its stores not yet flushed, each line keeps none, one, or all; or those of
+/* Of its stores not yet durable, each line keeps none, one, or all; or those of
  * every other line are kept and the rest lost. */
 static void choose(int pattern)
 {

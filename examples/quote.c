@@ -23,11 +23,17 @@ static size_t edits_length;
 
 static const uint64_t maturities[MATURITIES] = {2, 5, 10};
 
-/* Waits until all stores to this line are durable: on an x86 processor, clwb and
- * sfence. Plain memory has nothing to wait for. */
+/* Starts the write-back of this line: on an x86 processor, clwb. Plain memory has
+ * nothing to write back. */
 static void flush(const uint8_t *line)
 {
     (void)line;
+}
+
+/* Waits until every write-back that was started is done: on an x86 processor,
+ * sfence. */
+static void barrier(void)
+{
 }
 
 /* One command: says how many bytes of the tape it takes. A real device stores
@@ -38,6 +44,10 @@ static size_t carry_out(const uint8_t *command)
     size_t size = command[0] == QUOTE_WORD_STORE ? QUOTE_WORD_SIZE : QUOTE_LINE_SIZE;
     if (command[0] == QUOTE_FLUSH) {
         flush(image + QUOTE_LINE_SIZE * place);
+        return QUOTE_COMMAND_HEAD;
+    }
+    if (command[0] == QUOTE_BARRIER) {
+        barrier();
         return QUOTE_COMMAND_HEAD;
     }
     memcpy(image + size * place, command + QUOTE_COMMAND_HEAD, size);

@@ -127,15 +127,20 @@ enum quote_edit {
  *   WORD_STORE  stores 8 bytes at 8 times its place. A power failure leaves all
  *               of the old bytes there or all of the new ones.
  *   LINE_STORE  stores 64 bytes at 64 times its place, whole in the same way.
- *   FLUSH       does not end before all earlier stores to its line are durable.
- * A store may become durable before it is flushed, but none before an earlier
- * one to the same line. Nothing else is asked of a device: docs/USING.md. One for
- * the calls that end in _words needs no LINE_STORE.
+ *   FLUSH       starts the write-back of all earlier stores to its line.
+ *   BARRIER     does not end before every write-back that was started is done.
+ * So a store is durable once its line was flushed after it and a barrier came
+ * after that flush (document 02 (h)); a store between these two is not covered by
+ * them. A store may become durable earlier, but none before an earlier one to the
+ * same line. Nothing else is asked of a device: docs/USING.md. One for the calls
+ * that end in _words needs no LINE_STORE. On every tape that a call writes, one
+ * barrier follows each unbroken group of flushes, and none stands elsewhere.
  */
 enum quote_command {
     QUOTE_WORD_STORE = 1, /* place: number of the word; 8 bytes follow */
     QUOTE_LINE_STORE = 2, /* place: number of the line; 64 bytes follow */
-    QUOTE_FLUSH = 3       /* place: number of the line; nothing follows */
+    QUOTE_FLUSH = 3,      /* place: number of the line; nothing follows */
+    QUOTE_BARRIER = 4     /* place: 0; nothing follows */
 };
 #define QUOTE_COMMAND_HEAD 4 /* the bytes before what is stored */
 
@@ -143,15 +148,16 @@ enum quote_command {
  * A tape of this size is never too short, for either transaction on so many
  * pages: TAPE_SHORT is not answered (tape-suffices), and no more bytes are used
  * (tape-used). 100 bytes a line, 16 lines a page: 8 word stores of 12 bytes and a
- * flush of 4 for each line of pages 1 to N-1; page 0's share holds the commit,
- * and the header lines that go through the log are not stored before it.
+ * flush of 4 for each line of pages 1 to N-1; page 0's share holds the commit and
+ * the barriers, five at most, and the header lines that go through the log are not
+ * stored before it.
  */
 #define QUOTE_TAPE_SIZE(pages) ((size_t)(pages) * 1600)
 
 /* The same for a recovery (redo-suffices, redo-used): 72 bytes a header, for 15,
- * then 28; without line stores 100 bytes a header. */
-#define QUOTE_RECOVERY_TAPE_SIZE 1108
-#define QUOTE_RECOVERY_WORDS_TAPE_SIZE 1528
+ * then 36; without line stores 100 bytes a header. */
+#define QUOTE_RECOVERY_TAPE_SIZE 1116
+#define QUOTE_RECOVERY_WORDS_TAPE_SIZE 1536
 
 /* The length of `choices` for an image of so many pages: one byte a line. */
 #define QUOTE_CHOICES_SIZE(pages) ((size_t)(pages) * 16)
@@ -177,7 +183,7 @@ enum quote_answer {
     QUOTE_PAGES_OUT = 11,       /* an insert or update needs more new pages than are free */
     QUOTE_LOG_FULL = 12,        /* the edits change more than 15 headers */
     QUOTE_TAPE_SHORT = 13,      /* the tape has too few bytes */
-    QUOTE_BAD_TAPE = 14,        /* the tape has a malformed command, or a place outside the image */
+    QUOTE_BAD_TAPE = 14,        /* the tape has a malformed command (a barrier with a place is one), or a place outside the image */
     QUOTE_PAST_END = 15,        /* the cut comes after more commands than the tape has */
     QUOTE_BAD_CHOICES = 16,     /* the choices are not one byte a line */
     QUOTE_LONG_TAPE = 17,       /* the tape has more than 12 commands */
@@ -223,12 +229,12 @@ enum quote_transaction_answer {
     QUOTE_TRANSACTION_PLACE,   /* of the commit (enum quote_place) */
     QUOTE_TRANSACTION_PAGE,    /* whose header that is, or 0 */
     QUOTE_TRANSACTION_BYTES,   /* of the tape that are used */
-    QUOTE_TRANSACTION_FLUSHES, /* among the commands */
+    QUOTE_TRANSACTION_FLUSHES, /* among the commands; barriers are not counted */
     QUOTE_TRANSACTION_NUMBERS
 };
 enum quote_recover_answer {
     QUOTE_RECOVER_BYTES,   /* of the tape that are used */
-    QUOTE_RECOVER_FLUSHES, /* among the commands */
+    QUOTE_RECOVER_FLUSHES, /* among the commands; barriers are not counted */
     QUOTE_RECOVER_NUMBERS
 };
 enum quote_count_cuts_answer {
@@ -338,10 +344,10 @@ uint8_t quote_preview(const uint8_t *image, size_t image_length,
  *           KEY_MISSING, INDEX_FULL, PAGES_OUT; then LOG_FULL; TAPE_SHORT.
  * The cost of one quote. A list of one insert or update whose record fits below
  * the content start of the leaf that its key belongs to, an insert finding fewer
- * than 28 records there, takes at most 6 flushes, commits by the leaf's header,
- * and stores at most 27 words besides it (quote-cost). A list of one delete that
- * leaves its leaf with a record takes one flush and stores the header alone
- * (delete-cost).
+ * than 28 records there, takes at most 6 flushes and 2 barriers, commits by the
+ * leaf's header, and stores at most 27 words besides it (quote-cost). A list of one
+ * delete that leaves its leaf with a record takes one flush and one barrier, and
+ * stores the header alone (delete-cost).
  */
 uint8_t quote_transaction(const uint8_t *image, size_t image_length,
                           uint8_t *work, size_t work_length, uint8_t *tape,
@@ -406,9 +412,10 @@ uint8_t quote_run(const uint8_t *image, size_t image_length, uint8_t *work,
                   size_t work_length, const uint8_t *tape, size_t tape_length);
 
 /*
- * Cut: the same device when the power fails after c commands. Stores whose line
- * was flushed are kept. Of the others, each line keeps as many as its byte in
- * choices says, the earliest first, or all if there are fewer.
+ * Cut: the same device when the power fails after c commands. Stores that are
+ * durable by then are kept: those whose line was flushed after them, with a barrier
+ * after that flush. Of the others, each line keeps as many as its byte in choices
+ * says, the earliest first, or all if there are fewer.
  *   image   read.
  *   work    as long as the image. Accepted: what the device then holds.
  *           Refused: as it was.
@@ -425,8 +432,9 @@ uint8_t quote_cut(const uint8_t *image, size_t image_length, uint8_t *work,
 /*
  * Count cuts: how many cuts a tape of at most 12 commands has (document 02 (e)). A
  * cut is a count c of commands and a choice for each line, which is not above the
- * line's pending stores: of the first c commands, the stores to it after its last
- * flush. The call looks at nothing of the image but its length.
+ * line's pending stores: of the first c commands, the stores to it that are not
+ * durable. Flushes and barriers are commands too. The call looks at nothing of the
+ * image but its length.
  *   image   read.
  *   tape    read, whole, as in quote_run.
  *   answer  one number: how many cuts there are, 1 to QUOTE_MOST_CUTS. Refused: as

@@ -84,6 +84,7 @@ pub fn measure() {
         ("word stores", Mix::Words),
         ("line stores", Mix::Lines),
         ("flushes", Mix::Flushes),
+        ("barriers", Mix::Barriers),
         ("mix", Mix::All),
     ];
     for (name, ways) in [("run", RUN), ("cut", CUT)] {

@@ -1,9 +1,8 @@
 //! Document 02 (e), 'All cuts of a small tape': all of them are listed, in
 //! order.
 
-use crate::device::{check_length, decode, Command, LINE};
+use crate::device::{check_length, decode, Command, Pending, LINE};
 use crate::{refuse, Refusal};
-use std::collections::BTreeMap;
 
 /// "For at most 12 commands."
 pub const MOST_COMMANDS: usize = 12;
@@ -34,19 +33,11 @@ pub fn list(image: &[u8], tape: &[u8]) -> Result<Vec<Cut>, Refusal> {
     Ok(cuts)
 }
 
-/// The lines that have pending stores, rising, and how many each has. "A store
-/// is pending until its line is flushed."
+/// The lines that have pending stores, rising, and how many each has: not more
+/// than there are commands.
 pub fn pending(commands: &[Command]) -> Vec<(usize, u8)> {
-    let mut pending = BTreeMap::new();
-    for command in commands {
-        match command {
-            Command::Flush { line } => {
-                pending.remove(line);
-            }
-            store => *pending.entry(store.line()).or_default() += 1,
-        }
-    }
-    pending.into_iter().collect()
+    let lines = Pending::after(commands).stores.into_iter();
+    lines.map(|(line, stores)| (line, stores as u8)).collect()
 }
 
 /// "Compared line by line from line 0": for each choice of the first line, in

@@ -1,10 +1,11 @@
 //! Document 01, 'The transaction's tape', its last lines, and from 'Each call
-//! and when it says no' recovery.
+//! and when it says no' recovery. Its barriers are document 02 (h)'s.
 
 use crate::device::{check_length, check_work, Command, Device, LINE, PAGE};
 use crate::image::{check, read_page_zero, Mark};
 use crate::page::two_bytes;
-use crate::tape;
+use crate::tape::{self, Group};
+use crate::transaction::Fault;
 use crate::{refuse, Refusal};
 
 /// "Its answer gives bytes and flushes."
@@ -15,16 +16,17 @@ pub struct Recovered {
 }
 
 pub fn recover(image: &[u8], work: &mut [u8], tape: &mut [u8]) -> Result<Recovered, Refusal> {
-    recover_on(Device::Lines, image, work, tape)
+    recover_with(Device::Lines, Fault::None, image, work, tape)
 }
 
 /// Document 02 (d): the "recovery call" for modules without line stores.
 pub fn recover_words(image: &[u8], work: &mut [u8], tape: &mut [u8]) -> Result<Recovered, Refusal> {
-    recover_on(Device::Words, image, work, tape)
+    recover_with(Device::Words, Fault::None, image, work, tape)
 }
 
-pub fn recover_on(
+pub fn recover_with(
     device: Device,
+    fault: Fault,
     image: &[u8],
     work: &mut [u8],
     tape: &mut [u8],
@@ -37,7 +39,7 @@ pub fn recover_on(
     let (replayed, commands) = match zero.mark {
         // "Recovery with mark 0 gives no commands."
         None => (image.to_vec(), Vec::new()),
-        Some(mark) => replay(device, image, mark)?,
+        Some(mark) => replay(device, fault, image, mark)?,
     };
     // "4 if .. the replayed image is unsound."
     if check(&replayed).is_err() {
@@ -60,23 +62,29 @@ pub fn recover_on(
 /// The replayed image, "logged headers and new root in, mark 0", and the tape:
 /// "it stores every logged header, then flushes each, both in log order, and
 /// goes on as above".
-fn replay(device: Device, image: &[u8], mark: Mark) -> Result<(Vec<u8>, Vec<Command>), Refusal> {
+fn replay(
+    device: Device,
+    fault: Fault,
+    image: &[u8],
+    mark: Mark,
+) -> Result<(Vec<u8>, Vec<Command>), Refusal> {
     let mut replayed = image.to_vec();
-    let (mut stores, mut flushes, mut seen) = (Vec::new(), Vec::new(), Vec::new());
+    let (mut stores, mut pages) = (Vec::new(), Vec::new());
     for line in 1..=mark.headers {
         let header = &image[line * LINE..][..LINE];
         // "4 if .. logged page numbers repeat or leave 1 to N-1."
         let page = two_bytes(header, 6);
-        if page < 1 || page >= image.len() / PAGE || seen.contains(&page) {
+        if page < 1 || page >= image.len() / PAGE || pages.contains(&page) {
             return refuse(4);
         }
-        seen.push(page);
+        pages.push(page);
         replayed[page * PAGE..][..LINE].copy_from_slice(header);
         stores.extend(tape::header_stores(device, page, header));
-        flushes.push(tape::header_flush(page));
     }
     replayed[8..16].copy_from_slice(&(mark.root as u64).to_le_bytes());
     replayed[..8].fill(0);
-    let end = tape::finish(image, &replayed);
+    let lines: Vec<usize> = pages.into_iter().map(tape::header_line).collect();
+    let flushes = tape::flushed(fault, Group::Headers, &lines);
+    let end = tape::finish(fault, image, &replayed);
     Ok((replayed, [stores, flushes, end].concat()))
 }

@@ -1,6 +1,6 @@
 //! Document 01, 'The transaction's tape': the commands that lead from one
 //! image to the next, for a transaction and for recovery. Document 02 (d): the
-//! same on a device without line stores.
+//! same on a device without line stores. Document 02 (h): the barriers.
 
 use crate::device::{Command, Device, LINE, PAGE, WORD};
 use crate::image::{reached, Mark};
@@ -14,6 +14,17 @@ pub enum CommitPlace {
     Header { page: usize },
     Root,
     Log,
+}
+
+/// The groups of flushes of a tape: those of stage A, of the log lines, of the
+/// mark, of the headers, and the last one, of line 0 or of the one changed place.
+#[derive(Clone, Copy, Debug, PartialEq, Eq)]
+pub enum Group {
+    Records,
+    Log,
+    Mark,
+    Headers,
+    Last,
 }
 
 const LINES_IN_PAGE: usize = PAGE / LINE;
@@ -45,13 +56,24 @@ pub fn header_bytes(image: &[u8], page: usize) -> &[u8] {
 
 /// What stores a page's header line.
 pub fn header_stores(device: Device, page: usize, bytes: &[u8]) -> Vec<Command> {
-    line_stores(device, page * LINES_IN_PAGE, bytes)
+    line_stores(device, header_line(page), bytes)
 }
 
-pub fn header_flush(page: usize) -> Command {
-    Command::Flush {
-        line: page * LINES_IN_PAGE,
+/// The line of a page's header; page 0's is that of the mark and the root word.
+pub fn header_line(page: usize) -> usize {
+    page * LINES_IN_PAGE
+}
+
+/// Document 02 (h): "Each unbroken group of flushes on every tape is followed by
+/// one barrier." On every tape a store comes between two groups.
+pub fn flushed(fault: Fault, group: Group, lines: &[usize]) -> Vec<Command> {
+    let mut tape: Vec<Command> = (lines.iter())
+        .map(|&line| Command::Flush { line })
+        .collect();
+    if !tape.is_empty() && fault != Fault::NoBarrier(group) {
+        tape.push(Command::Barrier);
     }
+    tape
 }
 
 pub fn root_store(image: &[u8]) -> Command {
@@ -70,12 +92,11 @@ pub fn commands(
     after: &[u8],
     fault: Fault,
 ) -> Result<(Vec<Command>, CommitPlace), Refusal> {
-    let (mut tape, flushes) = stage_a(before, after);
-    let (early, late) = match fault {
-        Fault::RecordsFlushedLate => (Vec::new(), flushes),
-        _ => (flushes, Vec::new()),
-    };
-    tape.extend(early);
+    let (mut tape, lines) = stage_a(before, after);
+    let mut late = flushed(fault, Group::Records, &lines);
+    if fault != Fault::RecordsFlushedLate {
+        tape.append(&mut late);
+    }
     let headers = changed_headers(before, after);
     let root = before[8..16] != after[8..16];
     let by = written_by(device, fault);
@@ -84,12 +105,12 @@ pub fn commands(
         // one, goes through the log".
         (&[page], false) if device == Device::Lines => {
             tape.extend(header_stores(by, page, header_bytes(after, page)));
-            tape.push(header_flush(page));
+            tape.extend(flushed(fault, Group::Last, &[header_line(page)]));
             CommitPlace::Header { page }
         }
         ([], true) => {
             tape.push(root_store(after));
-            tape.push(header_flush(0));
+            tape.extend(flushed(fault, Group::Last, &[header_line(0)]));
             CommitPlace::Root
         }
         // No place changes only if an update wrote over the old bytes.
@@ -115,8 +136,8 @@ fn written_by(device: Device, fault: Fault) -> Device {
 
 /// "Stage A: a word store for each word that differs, outside page 0 and
 /// outside headers reached before, in rising order; then a flush of each line
-/// so stored, rising." Stores and flushes apart.
-fn stage_a(before: &[u8], after: &[u8]) -> (Vec<Command>, Vec<Command>) {
+/// so stored, rising." The stores, and those lines.
+fn stage_a(before: &[u8], after: &[u8]) -> (Vec<Command>, Vec<usize>) {
     let reached_before = reached(before);
     let mut stores = Vec::new();
     let mut lines = BTreeSet::new();
@@ -134,8 +155,7 @@ fn stage_a(before: &[u8], after: &[u8]) -> (Vec<Command>, Vec<Command>) {
         stores.push(word_store(word, &after[bytes]));
         lines.insert(line);
     }
-    let flushes = lines.into_iter().map(|line| Command::Flush { line });
-    (stores, flushes.collect())
+    (stores, lines.into_iter().collect())
 }
 
 /// "The changed places are headers of pages reached both before and after, and
@@ -164,33 +184,35 @@ fn logged(
     for (i, &page) in headers.iter().enumerate() {
         tape.extend(line_stores(device, 1 + i, header_bytes(after, page)));
     }
-    tape.extend((1..=k).map(|line| Command::Flush { line }));
+    let log: Vec<usize> = (1..=k).collect();
+    tape.extend(flushed(fault, Group::Log, &log));
     // "Bytes 2-3 = the new root page", also where the root stays.
     let root = u64::from_le_bytes(after[8..16].try_into().unwrap()) as usize;
     tape.push(mark_store(Some(Mark { headers: k, root })));
-    tape.push(header_flush(0));
+    tape.extend(flushed(fault, Group::Mark, &[header_line(0)]));
     for &page in headers {
         tape.extend(header_stores(device, page, header_bytes(after, page)));
     }
-    let flushes = headers.iter().map(|&page| header_flush(page));
+    let lines: Vec<usize> = headers.iter().map(|&page| header_line(page)).collect();
+    let flushes = flushed(fault, Group::Headers, &lines);
     if fault == Fault::MarkClearedEarly {
-        tape.extend(finish(before, after));
+        tape.extend(finish(fault, before, after));
         tape.extend(flushes);
     } else {
         tape.extend(flushes);
-        tape.extend(finish(before, after));
+        tape.extend(finish(fault, before, after));
     }
     tape
 }
 
 /// "The root word if it differs; mark 0; flush of line 0."
-pub fn finish(before: &[u8], after: &[u8]) -> Vec<Command> {
+pub fn finish(fault: Fault, before: &[u8], after: &[u8]) -> Vec<Command> {
     let mut tape = Vec::new();
     if before[8..16] != after[8..16] {
         tape.push(root_store(after));
     }
     tape.push(mark_store(None));
-    tape.push(header_flush(0));
+    tape.extend(flushed(fault, Group::Last, &[header_line(0)]));
     tape
 }
 
@@ -204,4 +226,10 @@ pub fn encode(commands: &[Command]) -> Vec<u8> {
 pub fn count_flushes(commands: &[Command]) -> usize {
     let flushes = (commands.iter()).filter(|command| matches!(command, Command::Flush { .. }));
     flushes.count()
+}
+
+/// Document 02 (h): the barriers on the tape, which no answer gives.
+pub fn count_barriers(commands: &[Command]) -> usize {
+    let barriers = (commands.iter()).filter(|&command| *command == Command::Barrier);
+    barriers.count()
 }

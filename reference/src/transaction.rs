@@ -5,7 +5,7 @@ use crate::device::{check_length, check_work, Device, LINE, PAGE};
 use crate::edits::{parse, Edit, Kind};
 use crate::image::{leaf_of, page_of, reached, sound_leaves};
 use crate::page::{Header, Record, INDEX, LEAF, SLOTS};
-use crate::tape::{self, CommitPlace};
+use crate::tape::{self, CommitPlace, Group};
 use crate::{refuse, Refusal};
 use std::collections::BTreeSet;
 
@@ -20,7 +20,8 @@ pub struct Accepted {
 }
 
 /// Document 01, 'Shortcuts that break a curve': each as a broken variant of the
-/// transaction, to see that the crash test finds it.
+/// transaction, to see that the crash test finds it. And one barrier of document
+/// 02 (h) left out, of the transaction's tape or of the recovery's.
 #[derive(Clone, Copy, Debug, PartialEq, Eq)]
 pub enum Fault {
     None,
@@ -29,6 +30,7 @@ pub enum Fault {
     MarkClearedEarly,
     FreedPageTaken,
     RecordsFlushedLate,
+    NoBarrier(Group),
 }
 
 pub fn transaction(

@@ -10,7 +10,7 @@ use cases::cuts::{any_cut_number, any_small_tape, cut_numbers, SmallTape};
 use cases::random::Random;
 use cases::tapes::any_choices;
 use reference::cuts::{pending, Cut, MOST_COMMANDS};
-use reference::device::decode;
+use reference::device::{decode, Command, Pending};
 use reference::Refusal;
 use std::collections::BTreeMap;
 
@@ -33,6 +33,9 @@ struct Tally {
     /// Cuts that keep two stores of one line or more.
     deep: usize,
     most: usize,
+    /// Tapes by what document 02 (h) is about.
+    flushed: usize,
+    finished: usize,
 }
 
 impl Tally {
@@ -42,6 +45,9 @@ impl Tally {
             // The last cut comes after all commands.
             self.commands[cuts[cuts.len() - 1].count] += 1;
             self.most = self.most.max(cuts.len());
+            let commands = decode(tape.tape, tape.image.len()).unwrap();
+            self.flushed += usize::from(commands_do(&commands, leaves_flushed));
+            self.finished += usize::from(commands_do(&commands, finishes));
         }
     }
 
@@ -50,6 +56,28 @@ impl Tally {
         let deep = answer.is_ok() && choices.iter().any(|&choice| choice > 1);
         self.deep += usize::from(deep);
     }
+}
+
+/// Whether some command does so, from what is pending before it and after it.
+fn commands_do(commands: &[Command], does: fn(&Command, [&Pending; 2]) -> bool) -> bool {
+    let mut before = Pending::default();
+    commands.iter().any(|command| {
+        let mut after = before.clone();
+        after.add(command);
+        let done = does(command, [&before, &after]);
+        before = after;
+        done
+    })
+}
+
+/// A flush, after which a store of its line is still pending.
+fn leaves_flushed(command: &Command, [_, after]: [&Pending; 2]) -> bool {
+    matches!(command, Command::Flush { line } if after.of(*line) > 0)
+}
+
+/// A barrier that makes stores durable.
+fn finishes(command: &Command, [before, after]: [&Pending; 2]) -> bool {
+    *command == Command::Barrier && before.stores != after.stores
 }
 
 /// Room for the answer: mostly for its one number.
@@ -107,6 +135,9 @@ fn cuts_are_the_references() {
     println!("tapes with every cut asked for: {}", tally.whole);
     println!("cuts with two stores of a line or more: {}", tally.deep);
     println!("the most cuts of a tape: {}", tally.most);
+    println!("tapes with a flushed store pending: {}", tally.flushed);
+    println!("tapes with one that a barrier finishes: {}", tally.finished);
+    assert!(tally.flushed > TAPES / 20 && tally.finished > TAPES / 30);
     assert!(tally.commands.iter().all(|&tapes| tapes > TAPES / 100));
     assert!(tally.whole > TAPES / 4 && tally.deep > TAPES);
     // 12 stores to 12 lines.

@@ -244,7 +244,7 @@ fn any_mark(random: &mut Random) -> [u8; 8] {
 }
 
 /// The points of a tape that a cut may come after.
-const POINTS: [&str; 11] = [
+const POINTS: [&str; 15] = [
     "nothing",
     "a word of a record",
     "the flush of a record",
@@ -256,25 +256,39 @@ const POINTS: [&str; 11] = [
     "the root word",
     "the mark's clearing",
     "the flush of line 0",
+    "the barrier of records",
+    "the barrier of log lines",
+    "the barrier of headers",
+    "the barrier of line 0",
 ];
 
-fn point(done: &[Command]) -> &'static str {
+/// The number of a point.
+fn point(done: &[Command]) -> usize {
+    let Some((last, before)) = done.split_last() else {
+        return 0;
+    };
     // Past the commit, and up to the root word, there are only headers.
     let past = done.iter().any(is_commit);
-    POINTS[match done.last() {
-        None => 0,
-        Some(Command::WordStore { word: 0, bytes }) if *bytes == [0; 8] => 9,
-        Some(Command::WordStore { word: 0, .. }) => 5,
-        Some(Command::WordStore { word: 1, .. }) => 8,
-        Some(Command::WordStore { word: 8..128, .. }) => 3,
-        Some(Command::WordStore { .. }) if !past => 1,
-        Some(Command::LineStore { line: 0..16, .. }) => 3,
-        Some(Command::WordStore { .. } | Command::LineStore { .. }) => 6,
-        Some(Command::Flush { line: 0 }) => 10,
-        Some(Command::Flush { line: 0..16 }) => 4,
-        Some(Command::Flush { .. }) if past => 7,
-        Some(Command::Flush { .. }) => 2,
-    }]
+    match last {
+        Command::WordStore { word: 0, bytes } if *bytes == [0; 8] => 9,
+        Command::WordStore { word: 0, .. } => 5,
+        Command::WordStore { word: 1, .. } => 8,
+        Command::WordStore { word: 8..128, .. } => 3,
+        Command::WordStore { .. } if !past => 1,
+        Command::LineStore { line: 0..16, .. } => 3,
+        Command::WordStore { .. } | Command::LineStore { .. } => 6,
+        Command::Flush { line: 0 } => 10,
+        Command::Flush { line: 0..16 } => 4,
+        Command::Flush { .. } if past => 7,
+        Command::Flush { .. } => 2,
+        // Of the flushes before it.
+        Command::Barrier => match point(before) {
+            2 => 11,
+            4 => 12,
+            7 => 13,
+            _ => 14,
+        },
+    }
 }
 
 /// The mark, or the line store of one header.
@@ -302,7 +316,7 @@ fn cut_anywhere(random: &mut Random, call: &Call, after: &Call, tally: &mut Tall
             1 => commands.len() - random.below(commands.len().min(6)),
             _ => commands.len() - random.below(commands.len().min(40)),
         };
-        tally.count(format!("cut after {}", point(&commands[..c])));
+        tally.count(format!("cut after {}", POINTS[point(&commands[..c])]));
         let crashed = any_cut(random, &call.image, tape, c);
         if read_page_zero(&crashed).is_some_and(|zero| zero.mark.is_some()) {
             if random.one_in(4) {

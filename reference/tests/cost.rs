@@ -1,8 +1,9 @@
 //! Document 02 (f), "The cost of one quote": transactions of one edit on the
 //! line-store device, by the reference and by the proved library. The image and
-//! the edit alone say whether (f) speaks of it; its cost is counted on the tape.
-//! Stores are filled and emptied by transactions, and the same edit is sent again
-//! after a power failure, when its record may lie there already.
+//! the edit alone say whether (f) speaks of it; its cost is counted on the tape,
+//! with the barriers of (h). Stores are filled and emptied by transactions, and
+//! the same edit is sent again after a power failure, when its record may lie
+//! there already.
 //!
 //! Here too, by hand: the most flushes and words, and the longest recoveries.
 
@@ -17,17 +18,19 @@ use reference::device::{cut, decode, Command, Device};
 use reference::edits::{parse, Edit, Kind};
 use reference::image::{lookup, sound_leaves, table};
 use reference::page::Record;
-use reference::tape::{count_flushes, encode};
+use reference::tape::{count_barriers, count_flushes, encode};
 use std::collections::BTreeMap;
-use writes::by_hand::{edit, flushes, outline, send, words};
+use writes::by_hand::{edit, flushes, outline, send, words, BARRIER};
 use writes::{compare_recovery, compare_transaction, Call};
 
 const SEED: u64 = 20_240_801;
 const CALLS: usize = 80_000;
 
 /// "At most six flushes": a record has 216 bytes at most, so 27 words, which lie
-/// in five lines at most; and the header is a line.
+/// in five lines at most; and the header is a line. Document 02 (h): "(f) gains at
+/// most two barriers", one behind the record's flushes and one behind the header's.
 const MOST_FLUSHES: usize = 6;
+const MOST_BARRIERS: usize = 2;
 const MOST_WORDS: usize = 27;
 
 /// How often each thing came.
@@ -83,6 +86,7 @@ struct Sent {
     place: (u64, usize),
     bytes: usize,
     flushes: usize,
+    barriers: usize,
     commands: Vec<Command>,
 }
 
@@ -92,6 +96,7 @@ impl Sent {
             unreachable!("there is room for five numbers");
         };
         let ground = Ground::of(image, edit.key).expect("the image is sound");
+        let commands = decode(&after.tape[..bytes as usize], image.len()).unwrap();
         Sent {
             edit: edit.clone(),
             ground,
@@ -99,7 +104,8 @@ impl Sent {
             place: (kind, page as usize),
             bytes: bytes as usize,
             flushes: flushes as usize,
-            commands: decode(&after.tape[..bytes as usize], image.len()).unwrap(),
+            barriers: count_barriers(&commands),
+            commands,
         }
     }
 
@@ -110,7 +116,7 @@ impl Sent {
     /// The last store is the line of this page's header, and only words are stored
     /// before it: how many.
     fn words_before(&self, header: usize) -> usize {
-        let is_store = |command: &&Command| !matches!(command, Command::Flush { .. });
+        let is_store = |command: &&Command| command.stored_line().is_some();
         let stores: Vec<&Command> = self.commands.iter().filter(is_store).collect();
         let (last, words) = stores.split_last().expect("a header is stored");
         assert!(matches!(last, Command::LineStore { line, .. } if *line == 16 * header));
@@ -131,13 +137,16 @@ impl Sent {
     }
 
     /// "One insert or update whose record fits .. must be shown to need at most
-    /// six flushes": by the leaf's header, and with at most 27 words besides.
+    /// six flushes": by the leaf's header, and with at most 27 words besides. It
+    /// "gains at most two barriers", one where no word differs.
     fn put(&self, tally: &mut Tally) {
         assert_eq!(self.place, (1, self.ground.page));
         let (words, flushes) = (self.words_before(self.ground.page), self.flushes);
         assert!(words <= MOST_WORDS, "{words} words");
         assert!(flushes <= MOST_FLUSHES, "{flushes} flushes");
         assert!(words > 0 || flushes == 1, "no word, {flushes} flushes");
+        let barriers = if words > 0 { MOST_BARRIERS } else { 1 };
+        assert_eq!(self.barriers, barriers, "{words} words");
         tally.lengths[self.edit.value.len()] += 1;
         tally.count("put");
         tally.count(format!("put: flushes {flushes}"));
@@ -162,11 +171,12 @@ impl Sent {
     }
 
     /// "An accepted delete alone that leaves its leaf with a record needs exactly
-    /// one": the header's line store of 68 bytes and its flush are the whole tape.
+    /// one": the header's line store of 68 bytes, its flush and its barrier are the
+    /// whole tape.
     fn delete(&self, tally: &mut Tally) {
         assert_eq!(self.place, (1, self.ground.page));
         assert_eq!(self.words_before(self.ground.page), 0);
-        assert_eq!((self.flushes, self.bytes), (1, 72));
+        assert_eq!((self.flushes, self.barriers, self.bytes), (1, 1, 76));
         tally.count("delete");
     }
 
@@ -179,7 +189,7 @@ impl Sent {
         };
         assert_eq!(self.place, (1, page));
         assert_eq!(self.words_before(page), 0);
-        assert_eq!((self.flushes, self.bytes), (1, 72));
+        assert_eq!((self.flushes, self.barriers, self.bytes), (1, 1, 76));
         tally.count(what);
     }
 
@@ -243,9 +253,11 @@ fn one_edit(random: &mut Random, image: &[u8], edit: &Edit, tally: &mut Tally) {
     if !(sent.is_put() && sent.met && random.one_in(3)) {
         return;
     }
-    // Past all word stores, or past their flushes too.
-    let before_commit = sent.commands.len() - 2;
-    let c = before_commit - random.pick(&[0, sent.flushes - 1]);
+    // Past all word stores, past their flushes too, or past their barrier: the
+    // header's line, its flush and its barrier are left out.
+    let before_commit = sent.commands.len() - 3;
+    let barrier = sent.barriers - 1;
+    let c = before_commit - random.pick(&[0, barrier, sent.flushes - 1 + barrier]);
     let choices: Vec<u8> = (0..image.len() / 64)
         .map(|_| random.below(9) as u8)
         .collect();
@@ -347,6 +359,9 @@ fn cost_of_one_edit() {
     tally.came(100, &limits);
 }
 
+/// The commit by the header of page 2: its line, its flush and a barrier.
+const HEADER: [(u8, usize); 3] = [(2, 32), (3, 32), BARRIER];
+
 /// A record of 48 bytes leaves the content start at 976. One of 216, no word of it
 /// zero, then lies from 760, which is word 95 of page 2 and the last of its line,
 /// to 976, two words into the fifth line from there.
@@ -356,44 +371,44 @@ fn six_flushes() {
     let (five, tape, _) = send(Device::Lines, &image, edit(Kind::Insert, 102, 200));
     let first = 2 * 128 + 95;
     let record = [words(first, first + 26), flushes(43, 47)].concat();
-    let header = vec![(2, 32), (3, 32)];
-    assert_eq!(outline(&tape, &image), [record, header].concat());
-    assert_eq!(five, [0, 1, 2, 27 * 12 + 5 * 4 + 68 + 4, 6]);
-    assert_eq!(five[3], 416);
+    assert_eq!(outline(&tape, &image), [record, HEADER.to_vec()].concat());
+    assert_eq!(five, [0, 1, 2, (27 * 12 + 5 * 4 + 4) + (68 + 4 + 4), 6]);
+    assert_eq!(five[3], 424);
 }
 
 /// A delete that leaves a record, and one that leaves none in the only leaf: the
-/// header's line and its flush.
+/// header's line, its flush and its barrier.
 #[test]
 fn one_flush_for_a_delete() {
     let two = [101, 102].map(|key| edit(Kind::Insert, key, 8)).concat();
     let (_, _, mut image) = send(Device::Lines, &fresh(8), two);
     for key in [101, 102] {
         let (five, tape, work) = send(Device::Lines, &image, edit(Kind::Delete, key, 0));
-        assert_eq!(outline(&tape, &image), [(2, 32), (3, 32)]);
-        assert_eq!(five, [0, 1, 2, 72, 1]);
+        assert_eq!(outline(&tape, &image), HEADER);
+        assert_eq!(five, [0, 1, 2, 76, 1]);
         image = work;
     }
 }
 
 /// The power fails just before the header is stored, and the insert is sent again:
-/// no word of the record differs, so the header's flush is the only one.
+/// no word of the record differs, so the header's flush and barrier are the only
+/// ones.
 #[test]
 fn one_flush_for_a_record_that_lies_there() {
     let (image, insert) = (fresh(8), edit(Kind::Insert, 101, 200));
     let (_, tape, work) = send(Device::Lines, &image, insert.clone());
     let mut failed = vec![0; image.len()];
-    let c = outline(&tape, &image).len() - 2;
+    let c = outline(&tape, &image).len() - HEADER.len();
     cut(&image, &mut failed, &tape, c, &[0; 128]).unwrap();
     let (five, tape, again) = send(Device::Lines, &failed, insert);
-    assert_eq!(outline(&tape, &image), [(2, 32), (3, 32)]);
-    assert_eq!(five, [0, 1, 2, 72, 1]);
+    assert_eq!(outline(&tape, &image), HEADER);
+    assert_eq!(five, [0, 1, 2, 76, 1]);
     assert!(again == work);
 }
 
 /// An update in each of 16 leaves, where one leaf and the index have no room: these
 /// two are copied, so that the root moves, and the log has 15 headers. The power
-/// fails once the mark is flushed.
+/// fails once the mark is flushed and past its barrier.
 fn longest_log() -> Vec<u8> {
     let mut built = even(&mut Random::new(1), 64, 16, 32);
     for page in [built.index.page, built.leaves[0].page] {
@@ -406,19 +421,20 @@ fn longest_log() -> Vec<u8> {
     let commands = outline(&tape, &built.image);
     let mark = commands.iter().position(|&command| command == (1, 0));
     let mut failed = vec![0; built.image.len()];
-    let c = mark.expect("a log has a mark") + 2;
+    let c = mark.expect("a log has a mark") + 3;
     cut(&built.image, &mut failed, &tape, c, &[0; 1024]).unwrap();
     assert_eq!(failed[..2], [1, 15]);
     assert_ne!(failed[2], failed[8]);
     failed
 }
 
-/// The longest recovery: 15 headers of 68 bytes, by words 96, and flushes of 4; root
-/// word and mark of 12; a flush. A tape one byte shorter is too short.
+/// The longest recovery: 15 headers of 68 bytes, by words 96, and flushes of 4, and a
+/// barrier of 4; root word and mark of 12; a flush and a barrier. A tape one byte
+/// shorter is too short.
 #[test]
 fn longest_recoveries() {
     let image = longest_log();
-    for (device, size) in [(Device::Lines, 1108), (Device::Words, 1528)] {
+    for (device, size) in [(Device::Lines, 1116), (Device::Words, 1536)] {
         let mut call = Call::new(&mut Random::new(1), &image, Vec::new());
         call.answer.truncate(2);
         call.tape.truncate(size);

@@ -1,17 +1,22 @@
 //! Random transactions, their tapes cut at every command, chains of cut
 //! recoveries, all held to the ledger. And each line of 'Shortcuts that break a
-//! curve', which the same test must catch. All of it on a device with line
-//! stores, and on one without (document 02 (d)). The last tenth starts from
-//! stores in which transactions left empty values (document 02 (g)).
+//! curve', and each barrier of document 02 (h) left out, which the same test must
+//! catch. All of it on a device with line stores, and on one without (document 02
+//! (d)). The last tenth starts from stores in which transactions left empty values
+//! (document 02 (g)).
 
 mod crashes;
 mod earlier;
 
 use cases::random::Random;
 use cases::stores::any_store;
-use crashes::{calls, caught, Cuttable, Phase, Sent, Stores, Test, BUILT_EMPTY, OUTCOMES, SEED};
-use reference::device::{Command, Device};
+use crashes::{
+    calls, caught, Cuttable, Faults, Phase, Sent, Stores, Test, BUILT_EMPTY, OUTCOMES, SEED,
+    UNBROKEN,
+};
+use reference::device::{Device, Pending};
 use reference::ledger::Ledger;
+use reference::tape::Group;
 use reference::transaction::Fault;
 
 /// At a point of a tape where a cut may keep pending stores in at most so many
@@ -34,7 +39,7 @@ impl Plan {
     fn ways(&self, phase: Phase) -> Ways {
         match phase {
             Phase::BeforeCommit => self.before_commit,
-            Phase::CommitPending | Phase::CommitFlushed => self.from_commit,
+            _ => self.from_commit,
         }
     }
 }
@@ -61,50 +66,36 @@ const BUILT: Stores = (any_store, 16, BUILT_EMPTY);
 const EARLIER: Stores = (earlier::any_store, 16, EARLIER_EMPTY);
 const EARLIER_EMPTY: &str = "empty value, by the earlier rule";
 
-/// The pending stores of each line that has some, as commands are done.
-#[derive(Default)]
-struct Pending(Vec<(usize, u8)>);
+/// "An accepted call .. completes when its whole tape is done."
+const TAPE_PENDING: &str = "a whole tape leaves stores pending";
+const RECOVERY_PENDING: &str = "a whole recovery leaves stores pending";
 
-impl Pending {
-    fn add(&mut self, command: &Command) {
-        let at = self.0.iter().position(|&(line, _)| line == command.line());
-        match (command, at) {
-            (Command::Flush { .. }, Some(at)) => {
-                self.0.swap_remove(at);
-            }
-            (Command::Flush { .. }, None) => {}
-            (_, Some(at)) => self.0[at].1 += 1,
-            (_, None) => self.0.push((command.line(), 1)),
-        }
+/// In how many ways a cut can keep "for each line on its own, some first part of
+/// its pending stores".
+fn ways(pending: &Pending) -> usize {
+    let ways = |all: usize, &stores: &usize| all.saturating_mul(stores + 1);
+    pending.stores.values().fold(1, ways)
+}
+
+/// Sets the choices to one of the ways by its number.
+fn choose(pending: &Pending, mut way: usize, choices: &mut [u8]) {
+    for (&line, &stores) in &pending.stores {
+        choices[line] = (way % (stores + 1)) as u8;
+        way /= stores + 1;
     }
+}
 
-    /// In how many ways a cut can keep "for each line on its own, some first
-    /// part of its pending stores".
-    fn ways(&self) -> usize {
-        let ways = |all: usize, &(_, stores): &(usize, u8)| all.saturating_mul(stores as usize + 1);
-        self.0.iter().fold(1, ways)
-    }
-
-    /// Sets the choices to one of the ways by its number.
-    fn choose(&self, mut way: usize, choices: &mut [u8]) {
-        for &(line, stores) in &self.0 {
-            choices[line] = (way % (stores as usize + 1)) as u8;
-            way /= stores as usize + 1;
-        }
-    }
-
-    /// Sets the choices to any way: mostly all stores ("or all if fewer"),
-    /// mostly none, or between.
-    fn choose_any(&self, random: &mut Random, choices: &mut [u8]) {
-        let manner = random.below(3);
-        for &(line, stores) in &self.0 {
-            let between = random.between(0, stores as usize) as u8;
-            choices[line] = match manner {
-                0 if !random.one_in(4) => 0,
-                1 if !random.one_in(4) => 255,
-                _ => between,
-            };
-        }
+/// Sets the choices to any way: mostly all stores ("or all if fewer"), mostly none,
+/// or between.
+fn choose_any(pending: &Pending, random: &mut Random, choices: &mut [u8]) {
+    let manner = random.below(3);
+    for (&line, &stores) in &pending.stores {
+        let between = random.between(0, stores) as u8;
+        choices[line] = match manner {
+            0 if !random.one_in(4) => 0,
+            1 if !random.one_in(4) => 255,
+            _ => between,
+        };
     }
 }
 
@@ -168,9 +159,8 @@ impl Test {
                 }
             }
         }
-        // "An accepted call .. completes when its whole tape is done."
-        if phase != Phase::CommitFlushed || !pending.0.is_empty() {
-            return Err("a whole tape leaves stores pending".into());
+        if phase != Phase::CommitDurable || !pending.stores.is_empty() {
+            return Err(TAPE_PENDING.into());
         }
         Ok(going_on)
     }
@@ -186,14 +176,14 @@ impl Test {
     ) -> Vec<Vec<u8>> {
         // A line with nothing pending may have any choice.
         let mut choices = vec![self.random.byte(); tape.image.len() / 64];
-        let ways = pending.ways();
+        let ways = ways(pending);
         let count = if ways <= all { ways } else { some };
         let mut images = Vec::new();
         for way in 0..count {
             if ways <= all {
-                pending.choose(way, &mut choices);
+                choose(pending, way, &mut choices);
             } else {
-                pending.choose_any(&mut self.random, &mut choices);
+                choose_any(pending, &mut self.random, &mut choices);
             }
             images.push(tape.cut(c, &mut choices));
         }
@@ -215,8 +205,8 @@ impl Test {
                 self.judge(&recovered, ledger, phase)?;
             }
         }
-        if !pending.0.is_empty() {
-            return Err("a whole recovery leaves stores pending".into());
+        if !pending.stores.is_empty() {
+            return Err(RECOVERY_PENDING.into());
         }
         Ok(())
     }
@@ -238,10 +228,7 @@ impl Test {
             }
             let mut tape = Cuttable::new(&image, &tape);
             let c = self.random.between(0, tape.commands.len());
-            let mut pending = Pending::default();
-            tape.commands[..c]
-                .iter()
-                .for_each(|command| pending.add(command));
+            let pending = Pending::after(&tape.commands[..c]);
             let mut cuts = self.cuts_after(&mut tape, c, &pending, (0, 1));
             image = cuts.remove(0);
             self.tally.count("recovery cut");
@@ -251,7 +238,7 @@ impl Test {
     /// "13, work then holding the image", if there is anything to store.
     fn without_tape(&mut self, image: &mut [u8]) -> Result<(), String> {
         let mut work = vec![0; image.len()];
-        match calls::recover(self.device, image, &mut work, &mut []) {
+        match calls::recover((self.device, Fault::None), image, &mut work, &mut []) {
             (0, [0, 0]) => {}
             (13, _) => self.tally.count("recovery refused 13"),
             answer => return Err(format!("recovery without a tape: {answer:?}")),
@@ -266,7 +253,7 @@ impl Test {
 /// Every cut on this device recovers, and all of this came besides.
 fn every_cut_recovers(device: Device, places: &[&str]) {
     println!("{device:?}, seed {SEED}");
-    let mut test = Test::new(device, Fault::None);
+    let mut test = Test::new(device, UNBROKEN);
     let answer = test.survive();
     test.tally.print();
     assert_eq!(answer, Ok(()));
@@ -303,29 +290,87 @@ const BOTH: [Device; 2] = [Device::Lines, Device::Words];
 /// On a device without line stores such a header goes through the log.
 #[test]
 fn header_by_words_is_caught() {
-    caught(Fault::HeaderByWords, &[Device::Lines], Test::survive);
+    caught(
+        (Fault::HeaderByWords, Fault::None),
+        &[Device::Lines],
+        Test::survive,
+    );
 }
 
 /// "An update over the old bytes because the length matches."
 #[test]
 fn update_in_place_is_caught() {
-    caught(Fault::UpdateInPlace, &BOTH, Test::survive);
+    caught((Fault::UpdateInPlace, Fault::None), &BOTH, Test::survive);
 }
 
 /// "The mark cleared before the headers are flushed."
 #[test]
 fn mark_cleared_early_is_caught() {
-    caught(Fault::MarkClearedEarly, &BOTH, Test::survive);
+    caught((Fault::MarkClearedEarly, Fault::None), &BOTH, Test::survive);
 }
 
 /// "A page freed in a transaction taken again in it."
 #[test]
 fn freed_page_taken_is_caught() {
-    caught(Fault::FreedPageTaken, &BOTH, Test::survive);
+    caught((Fault::FreedPageTaken, Fault::None), &BOTH, Test::survive);
 }
 
 /// "Record lines flushed after the header."
 #[test]
 fn records_flushed_late_is_caught() {
-    caught(Fault::RecordsFlushedLate, &BOTH, Test::survive);
+    caught(
+        (Fault::RecordsFlushedLate, Fault::None),
+        &BOTH,
+        Test::survive,
+    );
+}
+
+/// A variant without a barrier: what it breaks is a cut's store, and not that
+/// stores are pending at the end.
+fn loses_a_store(faults: Faults) {
+    for broken in caught(faults, &BOTH, Test::survive) {
+        assert!(![TAPE_PENDING, RECOVERY_PENDING].contains(&&broken[..]));
+    }
+}
+
+/// Document 02 (h): "a store counts as durable once its line has been flushed after
+/// it and a barrier has come after that flush". Without the first barrier a header
+/// may be kept and the record that it lists lost.
+#[test]
+fn no_barrier_after_the_records_is_caught() {
+    loses_a_store((Fault::NoBarrier(Group::Records), Fault::None));
+}
+
+/// The mark may be kept and a log line lost.
+#[test]
+fn no_barrier_after_the_log_is_caught() {
+    loses_a_store((Fault::NoBarrier(Group::Log), Fault::None));
+}
+
+/// A header may be kept and the mark lost.
+#[test]
+fn no_barrier_after_the_mark_is_caught() {
+    loses_a_store((Fault::NoBarrier(Group::Mark), Fault::None));
+}
+
+/// The mark's clearing may be kept and a header lost; in a recovery too.
+#[test]
+fn no_barrier_after_the_headers_is_caught() {
+    loses_a_store((Fault::NoBarrier(Group::Headers), Fault::None));
+    loses_a_store((Fault::None, Fault::NoBarrier(Group::Headers)));
+}
+
+/// The whole tape is done and its commit, or the mark's clearing, may still be lost.
+#[test]
+fn no_last_barrier_is_caught() {
+    let last = Fault::NoBarrier(Group::Last);
+    let rows = [
+        ((last, Fault::None), TAPE_PENDING),
+        ((Fault::None, last), RECOVERY_PENDING),
+    ];
+    for (faults, wanted) in rows {
+        for broken in caught(faults, &BOTH, Test::survive) {
+            assert_eq!(broken, wanted);
+        }
+    }
 }

@@ -1,5 +1,5 @@
-//! Document 02 (e), "All cuts of a small tape", on tapes worked out by hand. Each
-//! call is made by the reference and by the proved library.
+//! Document 02 (e), "All cuts of a small tape", on tapes worked out by hand, by
+//! the rule of (h). Each call is made by the reference and by the proved library.
 
 mod both;
 
@@ -26,6 +26,10 @@ fn whole(line: usize) -> Vec<u8> {
 
 fn flush(line: usize) -> Vec<u8> {
     command(3, line, 0)
+}
+
+fn barrier() -> Vec<u8> {
+    command(4, 0, 0)
 }
 
 fn command(kind: u8, place: usize, size: usize) -> Vec<u8> {
@@ -84,26 +88,81 @@ fn one_store() {
     }
 }
 
-/// Flushes count as commands.
+/// Flushes and barriers count as commands.
 #[test]
-fn one_flush() {
+fn one_flush_or_barrier() {
     all(&[flush(5)], &[(0, vec![]), (1, vec![])]);
+    all(&[barrier()], &[(0, vec![]), (1, vec![])]);
 }
 
-/// Flushed, the store is no longer pending.
+/// Flushed, the store is still pending; past the barrier it is not: 1 + 2 + 2 + 1.
 #[test]
-fn store_and_flush() {
-    let rows = [(0, vec![]), (1, vec![]), (1, vec![(5, 1)]), (2, vec![])];
-    all(&[word(5), flush(5)], &rows);
+fn store_flush_and_barrier() {
+    let rows = [
+        (0, vec![]),
+        (1, vec![]),
+        (1, vec![(5, 1)]),
+        (2, vec![]),
+        (2, vec![(5, 1)]),
+        (3, vec![]),
+    ];
+    let tape = [word(5), flush(5), barrier()];
+    all(&tape[..2], &rows[..5]);
+    all(&tape, &rows);
 }
 
-/// The flush of another line leaves it pending: 1 + 2 + 2.
+/// A barrier waits for the flushes before it, not for later ones: 1 + 2 + 2 + 2,
+/// and 1 past a second barrier.
+#[test]
+fn barrier_before_the_flush() {
+    let rows = [
+        (0, vec![]),
+        (1, vec![]),
+        (1, vec![(5, 1)]),
+        (2, vec![]),
+        (2, vec![(5, 1)]),
+        (3, vec![]),
+        (3, vec![(5, 1)]),
+        (4, vec![]),
+    ];
+    all(&[word(5), barrier(), flush(5), barrier()], &rows);
+}
+
+/// What is stored between the flush and the barrier is not covered by them, and
+/// is counted from there: 1 + 2 + 2 + 3 + 2.
+#[test]
+fn store_between_flush_and_barrier() {
+    let rows = [
+        (0, vec![]),
+        (1, vec![]),
+        (1, vec![(5, 1)]),
+        (2, vec![]),
+        (2, vec![(5, 1)]),
+        (3, vec![]),
+        (3, vec![(5, 1)]),
+        (3, vec![(5, 2)]),
+        (4, vec![]),
+        (4, vec![(5, 1)]),
+    ];
+    all(&[word(5), flush(5), whole(5), barrier()], &rows);
+}
+
+/// The flush of another line leaves it pending: 1 + 2 + 2 + 2.
 #[test]
 fn store_and_flush_of_another_line() {
-    let one = vec![(5, 1)];
-    let counts = [(1, vec![]), (1, one.clone()), (2, vec![]), (2, one)];
-    let rows = [vec![(0, vec![])], counts.to_vec()].concat();
-    all(&[word(5), flush(4)], &rows);
+    let each = |c| [(c, vec![]), (c, vec![(5, 1)])];
+    let counts = [each(1), each(2), each(3)].concat();
+    let rows = [vec![(0, vec![])], counts].concat();
+    all(&[word(5), flush(4), barrier()], &rows);
+}
+
+/// One barrier is enough for the flushes of two lines: 1 + 2 + 4 + 4 + 4 + 1.
+#[test]
+fn two_lines_and_one_barrier() {
+    let tape = [word(5), word(6), flush(6), flush(5), barrier()];
+    assert_eq!(count(&tape), 16);
+    assert_eq!(cut(&tape, 14), (4, vec![(5, 1), (6, 1)]));
+    assert_eq!(cut(&tape, 15), (5, vec![]));
 }
 
 /// Line 2 is the more significant one, though it is stored to after line 5.
@@ -150,9 +209,9 @@ fn one_line_twice() {
     all(&[word(5), last_word(5)], &rows);
 }
 
-/// One flush is enough for both: 1 + 2 + 3 + 1.
+/// One flush and one barrier are enough for both: 1 + 2 + 3 + 3 + 1.
 #[test]
-fn one_line_twice_and_flush() {
+fn one_line_twice_flush_and_barrier() {
     let rows = [
         (0, vec![]),
         (1, vec![]),
@@ -161,26 +220,31 @@ fn one_line_twice_and_flush() {
         (2, vec![(5, 1)]),
         (2, vec![(5, 2)]),
         (3, vec![]),
+        (3, vec![(5, 1)]),
+        (3, vec![(5, 2)]),
+        (4, vec![]),
     ];
-    all(&[word(5), word(5), flush(5)], &rows);
+    all(&[word(5), word(5), flush(5), barrier()], &rows);
 }
 
-/// What is stored after a flush is counted from there: 1 + 2 + 1 + 2 + 4.
+/// What is stored after a barrier is counted from there: 1 + 2 + 2 + 1 + 2 + 4.
 #[test]
-fn store_after_a_flush() {
+fn store_after_a_barrier() {
     let rows = [
         (0, vec![]),
         (1, vec![]),
         (1, vec![(5, 1)]),
         (2, vec![]),
+        (2, vec![(5, 1)]),
         (3, vec![]),
-        (3, vec![(5, 1)]),
         (4, vec![]),
-        (4, vec![(6, 1)]),
         (4, vec![(5, 1)]),
-        (4, vec![(5, 1), (6, 1)]),
+        (5, vec![]),
+        (5, vec![(6, 1)]),
+        (5, vec![(5, 1)]),
+        (5, vec![(5, 1), (6, 1)]),
     ];
-    all(&[word(5), flush(5), whole(5), word(6)], &rows);
+    all(&[word(5), flush(5), barrier(), whole(5), word(6)], &rows);
 }
 
 /// 1 + 2 + 4 and so on to 4,096: the most cuts that a tape can have.
@@ -213,15 +277,17 @@ fn one_line_twelve_times() {
 fn refusals_in_order() {
     let past = usize::MAX;
     let one = word(5);
-    let twelve = vec![flush(5); 12].concat();
-    let thirteen = vec![flush(5); 13].concat();
-    let bad = [&thirteen[..], &[4, 0, 0, 0]].concat();
+    let twelve = [vec![flush(5); 11], vec![barrier()]].concat().concat();
+    let thirteen = [&twelve[..], &barrier()].concat();
+    let bad = [&thirteen[..], &[5, 0, 0, 0]].concat();
     assert_eq!(refused(&[0xee; 8191], &bad, past, 0), (1, 1));
     assert_eq!(refused(&[0xee; 7 * 1024], &bad, past, 0), (1, 1));
     assert_eq!(refused(&[0xee; 65 * 1024], &one, 0, 65 * 16), (1, 1));
     assert_eq!(refused(&IMAGE, &bad, past, 0), (14, 14));
     assert_eq!(refused(&IMAGE, &word(LINES), past, 0), (14, 14));
     assert_eq!(refused(&IMAGE, &one[..11], 0, LINES), (14, 14));
+    assert_eq!(refused(&IMAGE, &[4, 0, 1, 0], 0, LINES), (14, 14));
+    assert_eq!(refused(&IMAGE, &[4, 1, 0, 0], 0, LINES), (14, 14));
     assert_eq!(refused(&IMAGE, &thirteen, past, 0), (17, 17));
     assert_eq!(refused(&IMAGE, &thirteen, 0, LINES), (17, 17));
     assert_eq!(refused(&IMAGE, &one, past, LINES - 1), (0, 16));

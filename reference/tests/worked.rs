@@ -94,28 +94,32 @@ fn header(image: &[u8], page: usize) -> Header {
     Header::read(&image[page * 1024..][..1024]).unwrap()
 }
 
-/// A command as (kind, place).
+/// A command as (kind, place); a barrier's place is 0.
 fn outline(commands: &[Command]) -> Vec<(u8, usize)> {
     let short = |command: &Command| match command {
         Command::WordStore { word, .. } => (1, *word),
         Command::LineStore { line, .. } => (2, *line),
         Command::Flush { line } => (3, *line),
+        Command::Barrier => (4, 0),
     };
     commands.iter().map(short).collect()
 }
 
 /// "Fresh, 8 pages; insert 101 with 8 value bytes, none zero: offset 1,000;
-/// words 381-383; flush 47; line 32; flush 32; 112 bytes, 2 flushes."
+/// words 381-383; flush 47; line 32; flush 32; 112 bytes, 2 flushes." Document 02
+/// (h), a barrier behind each flush: "The first two worked tapes become 120 and
+/// 108 bytes."
 #[test]
 fn first_insert() {
     let mut image = fresh();
     let (answer, commands) = send(&mut image, &[insert(101, 8)]).unwrap();
     assert_eq!(header(&image, 2).slots, [1000]);
     assert_eq!(lookup(&image, 101), Ok(Some((2 * 1024 + 1016, 8))));
-    let wanted = [(1, 381), (1, 382), (1, 383), (3, 47), (2, 32), (3, 32)];
-    assert_eq!(outline(&commands), wanted);
+    let record = [(1, 381), (1, 382), (1, 383), (3, 47), (4, 0)];
+    let header = [(2, 32), (3, 32), (4, 0)];
+    assert_eq!(outline(&commands), [&record[..], &header].concat());
     let place = CommitPlace::Header { page: 2 };
-    let (bytes, flushes) = (112, 2);
+    let (bytes, flushes) = (120, 2);
     assert_eq!(
         answer,
         Accepted {
@@ -126,12 +130,12 @@ fn first_insert() {
     );
 }
 
-/// "The same, value all zero bytes: 100 bytes."
+/// "The same, value all zero bytes: 100 bytes." With the two barriers 108.
 #[test]
 fn first_insert_of_zeros() {
     let zeros = edit(Kind::Insert, 101, &[0; 8]);
     let (answer, _) = send(&mut fresh(), &[zeros]).unwrap();
-    assert_eq!(answer.bytes, 100);
+    assert_eq!(answer.bytes, 108);
 }
 
 /// "Empty list: 5. Seventeen edits: 5, edit 16."

@@ -287,8 +287,8 @@ static void bad_leaf_in_a_preview(void)
 }
 
 /* The two kinds of memory: their calls; tape bytes, flushes, commit place and its
- * page of document 01's first worked row; tape bytes of a recovery of one header,
- * and of the longest one. */
+ * page of document 01's first worked row, where each flush has a barrier of its own;
+ * tape bytes of a recovery of one header, and of the longest one. */
 static const struct device {
     transaction_call *transaction;
     recover_call *recover;
@@ -296,16 +296,16 @@ static const struct device {
     uint64_t row_flushes, place, page;
     size_t recovery_bytes, longest;
 } devices[] = {
-    {quote_transaction, quote_recover, 112, 2, QUOTE_PLACE_HEADER, 2, 88,
+    {quote_transaction, quote_recover, 120, 2, QUOTE_PLACE_HEADER, 2, 96,
      QUOTE_RECOVERY_TAPE_SIZE},
-    {quote_transaction_words, quote_recover_words, 272, 5, QUOTE_PLACE_LOG, 0, 116,
+    {quote_transaction_words, quote_recover_words, 292, 5, QUOTE_PLACE_LOG, 0, 124,
      QUOTE_RECOVERY_WORDS_TAPE_SIZE},
 };
 
 /* How many commands of a kind are on a tape of so many bytes. */
 static int count_commands(struct bytes tape, size_t bytes, uint8_t kind)
 {
-    static const size_t sizes[] = {0, 12, 68, 4};
+    static const size_t sizes[] = {0, 12, 68, 4, 4};
     int count = 0;
     for (size_t at = 0; at < bytes; at += sizes[tape.at[at]])
         count += tape.at[at] == kind;
@@ -339,7 +339,9 @@ static void transaction_answers(const struct device *device)
     EXPECT(answer[QUOTE_TRANSACTION_FLUSHES] == device->row_flushes);
     EXPECT(answer[QUOTE_TRANSACTION_NUMBERS] == 7);
     EXPECT(tape.at[0] == QUOTE_WORD_STORE && tape.at[36] == QUOTE_FLUSH);
+    EXPECT(memcmp(tape.at + 40, "\4\0\0", 4) == 0 && tape.at[bytes - 4] == QUOTE_BARRIER);
     EXPECT(count_commands(tape, bytes, QUOTE_FLUSH) == (int)device->row_flushes);
+    EXPECT(count_commands(tape, bytes, QUOTE_BARRIER) == (int)device->row_flushes);
     EXPECT(count_commands(tape, bytes, QUOTE_LINE_STORE) == (device->place == QUOTE_PLACE_HEADER));
     EXPECT(quote_check(work.at, work.length) == QUOTE_ACCEPTED);
     EXPECT(worked_row(device, work, other, answer, 5) == QUOTE_TAPE_SHORT);
@@ -355,8 +357,9 @@ static void transaction_answers(const struct device *device)
 }
 
 /* One edit, with line stores: commits by the header of page 2, with this many words
- * stored besides it, and flushes. */
-static void one_quote_takes(struct bytes *image, struct bytes list, int words, int flushes)
+ * stored besides it, flushes and barriers. */
+static void one_quote_takes(struct bytes *image, struct bytes list, int words, int flushes,
+                            int barriers)
 {
     uint64_t answer[QUOTE_TRANSACTION_NUMBERS];
     struct bytes work = lend(image->length), tape = lend(QUOTE_TAPE_SIZE(8));
@@ -368,6 +371,7 @@ static void one_quote_takes(struct bytes *image, struct bytes list, int words, i
     EXPECT(count_commands(tape, bytes, QUOTE_WORD_STORE) == words);
     EXPECT(count_commands(tape, bytes, QUOTE_LINE_STORE) == 1);
     EXPECT(count_commands(tape, bytes, QUOTE_FLUSH) == flushes);
+    EXPECT(count_commands(tape, bytes, QUOTE_BARRIER) == barriers);
     EXPECT(answer[QUOTE_TRANSACTION_FLUSHES] == (uint64_t)flushes);
     give_back(list);
     give_back(tape);
@@ -375,14 +379,14 @@ static void one_quote_takes(struct bytes *image, struct bytes list, int words, i
     *image = work;
 }
 
-/* The header's 'cost of one quote': the most flushes and words, for a record that
- * lies in five lines, and a delete. */
+/* The header's 'cost of one quote': the most flushes, barriers and words, for a
+ * record that lies in five lines, and a delete. */
 static void one_quote_costs(void)
 {
     struct bytes image = fresh(8);
-    one_quote_takes(&image, one_edit(QUOTE_INSERT, 101, 32, 'p'), 6, 2);
-    one_quote_takes(&image, one_edit(QUOTE_INSERT, 102, QUOTE_LONGEST_VALUE, 'p'), 27, 6);
-    one_quote_takes(&image, one_edit(QUOTE_DELETE, 101, 0, 0), 0, 1);
+    one_quote_takes(&image, one_edit(QUOTE_INSERT, 101, 32, 'p'), 6, 2, 2);
+    one_quote_takes(&image, one_edit(QUOTE_INSERT, 102, QUOTE_LONGEST_VALUE, 'p'), 27, 6, 2);
+    one_quote_takes(&image, one_edit(QUOTE_DELETE, 101, 0, 0), 0, 1, 1);
     give_back(image);
 }
 
@@ -673,14 +677,18 @@ static uint8_t run(struct bytes image, struct bytes work, const char *tape, size
 static void run_carries_out(void)
 {
     struct bytes image = lend_filled(8192, 1), work = lend_filled(8192, 77);
-    EXPECT(run(image, work, "\4\0\0\0", 4) == QUOTE_BAD_TAPE);    /* unknown kind */
+    EXPECT(run(image, work, "\5\0\0\0", 4) == QUOTE_BAD_TAPE);    /* unknown kind */
     EXPECT(run(image, work, "\3\1\0\0", 4) == QUOTE_BAD_TAPE);    /* second byte */
     EXPECT(run(image, work, "\3\0\200\0", 4) == QUOTE_BAD_TAPE);  /* line 128 */
     EXPECT(run(image, work, "\3\0\0", 3) == QUOTE_BAD_TAPE);      /* head short */
+    EXPECT(run(image, work, "\4\0\1\0", 4) == QUOTE_BAD_TAPE);    /* barrier with a place */
+    EXPECT(run(image, work, "\4\0\0\1", 4) == QUOTE_BAD_TAPE);    /* place 256 */
+    EXPECT(run(image, work, "\4\1\0\0", 4) == QUOTE_BAD_TAPE);    /* and its second byte */
     EXPECT(run(image, work, "\1\0\0\0abcdefg", 11) == QUOTE_BAD_TAPE); /* word short */
     EXPECT(all_are(work, 77));
     EXPECT(run(image, work, "", 0) == QUOTE_ACCEPTED && same(work, image));
-    EXPECT(run(image, work, "\1\0\377\3abcdefgh\3\0\177\0", 16) == QUOTE_ACCEPTED);
+    EXPECT(run(image, work, "\4\0\0\0\4\0\0\0", 8) == QUOTE_ACCEPTED && same(work, image));
+    EXPECT(run(image, work, "\1\0\377\3abcdefgh\3\0\177\0\4\0\0\0", 20) == QUOTE_ACCEPTED);
     EXPECT(memcmp(work.at + 8184, "abcdefgh", 8) == 0);
     image.length -= 1;
     EXPECT(run(image, work, "", 0) == QUOTE_IMAGE_SIZE_WRONG);
@@ -690,22 +698,61 @@ static void run_carries_out(void)
     give_back(work);
 }
 
-static void cut_keeps_what_was_flushed(void)
+/* Whether the cut after c commands keeps these eight bytes of word 0, with a choice for
+ * each line. */
+static int cut_keeps(const char *text, size_t length, size_t c, int choice, const char *word)
 {
-    /* Two stores of word 0, the first flushed. */
-    static const char text[] = "\1\0\0\0aaaaaaaa\3\0\0\0\1\0\0\0bbbbbbbb";
     struct bytes image = lend_filled(8192, 1), work = lend(8192);
-    struct bytes tape = lend_copy((const uint8_t *)text, 28), choices = lend_filled(128, 0);
+    struct bytes tape = lend_copy((const uint8_t *)text, length);
+    struct bytes choices = lend_filled(QUOTE_CHOICES_SIZE(8), choice);
+    uint8_t number = quote_cut(image.at, image.length, work.at, work.length, tape.at, tape.length,
+                               c, choices.at, choices.length);
+    struct bytes others = {work.at + 8, work.length - 8};
+    int keeps = number == QUOTE_ACCEPTED && memcmp(work.at, word, 8) == 0 && all_are(others, 1);
+    give_back(image);
+    give_back(work);
+    give_back(tape);
+    give_back(choices);
+    return keeps;
+}
+
+#define OLD_WORD "\1\1\1\1\1\1\1\1"
+#define STORE_A "\1\0\0\0aaaaaaaa"
+#define STORE_B "\1\0\0\0bbbbbbbb"
+#define FLUSH_0 "\3\0\0\0"
+#define BARRIER "\4\0\0\0"
+/* A text without the zero at its end, and its length. */
+#define TEXT(text) text, sizeof text - 1
+
+static void cut_keeps_what_is_durable(void)
+{
+    /* Flushed is not durable; past the barrier it is, and a choice counts from there. */
+    EXPECT(cut_keeps(TEXT(STORE_A FLUSH_0 BARRIER STORE_B), 1, 0, OLD_WORD));
+    EXPECT(cut_keeps(TEXT(STORE_A FLUSH_0 BARRIER STORE_B), 2, 0, OLD_WORD));
+    EXPECT(cut_keeps(TEXT(STORE_A FLUSH_0 BARRIER STORE_B), 2, 1, "aaaaaaaa"));
+    EXPECT(cut_keeps(TEXT(STORE_A FLUSH_0 BARRIER STORE_B), 3, 0, "aaaaaaaa"));
+    EXPECT(cut_keeps(TEXT(STORE_A FLUSH_0 BARRIER STORE_B), 4, 0, "aaaaaaaa"));
+    EXPECT(cut_keeps(TEXT(STORE_A FLUSH_0 BARRIER STORE_B), 4, 1, "bbbbbbbb"));
+    /* A barrier before the flush does not count. */
+    EXPECT(cut_keeps(TEXT(STORE_A BARRIER FLUSH_0), 3, 0, OLD_WORD));
+    /* A store between the flush and the barrier is not covered by them. */
+    EXPECT(cut_keeps(TEXT(STORE_A FLUSH_0 STORE_B BARRIER), 4, 0, "aaaaaaaa"));
+    EXPECT(cut_keeps(TEXT(STORE_A FLUSH_0 STORE_B BARRIER), 4, 1, "bbbbbbbb"));
+}
+
+static void cut_refuses(void)
+{
+    struct bytes image = lend_filled(8192, 1), work = lend_filled(8192, 77);
+    struct bytes tape = lend_copy((const uint8_t *)STORE_A FLUSH_0 BARRIER, 20);
+    struct bytes choices = lend_filled(128, 0);
 #define CUT(c) quote_cut(image.at, 8192, work.at, 8192, tape.at, tape.length, c, choices.at, choices.length)
-    EXPECT(CUT(1) == QUOTE_ACCEPTED && same(work, image));
-    EXPECT(CUT(3) == QUOTE_ACCEPTED && memcmp(work.at, "aaaaaaaa\1", 9) == 0);
-    choices.at[0] = 1;
-    EXPECT(CUT(3) == QUOTE_ACCEPTED && memcmp(work.at, "bbbbbbbb\1", 9) == 0);
     EXPECT(CUT(4) == QUOTE_PAST_END && CUT(SIZE_MAX) == QUOTE_PAST_END);
-    tape.length -= 1;
+    tape.at[18] = 1; /* the barrier's place */
+    EXPECT(CUT(0) == QUOTE_BAD_TAPE);
+    tape.length -= 5;
     EXPECT(CUT(0) == QUOTE_BAD_TAPE);
     choices.length -= 1;
-    EXPECT(CUT(0) == QUOTE_BAD_CHOICES && memcmp(work.at, "bbbbbbbb\1", 9) == 0);
+    EXPECT(CUT(0) == QUOTE_BAD_CHOICES && all_are(work, 77));
 #undef CUT
     give_back(image);
     give_back(work);
@@ -731,22 +778,24 @@ static struct bytes stores_to_lines(size_t lines)
     return tape;
 }
 
-/* Line 1 stored to twice, then line 0, then line 1 flushed: all cuts, as the count
- * of commands and the choices of these two lines. */
+/* Line 1 stored to twice, then line 0, then line 1 flushed, then a barrier: all cuts,
+ * as the count of commands and the choices of these two lines. */
 static const uint64_t cuts_by_hand[][3] = {
     {0, 0, 0}, {1, 0, 0}, {1, 0, 1}, {2, 0, 0}, {2, 0, 1}, {2, 0, 2}, {3, 0, 0},
-    {3, 0, 1}, {3, 0, 2}, {3, 1, 0}, {3, 1, 1}, {3, 1, 2}, {4, 0, 0}, {4, 1, 0}};
+    {3, 0, 1}, {3, 0, 2}, {3, 1, 0}, {3, 1, 1}, {3, 1, 2}, {4, 0, 0}, {4, 0, 1},
+    {4, 0, 2}, {4, 1, 0}, {4, 1, 1}, {4, 1, 2}, {5, 0, 0}, {5, 1, 0}};
 
 static void cuts_are_given_in_order(void)
 {
-    static const char text[] = "\1\0\10\0aaaaaaaa\1\0\17\0bbbbbbbb\1\0\0\0cccccccc\3\0\1\0";
+    static const char text[] =
+        "\1\0\10\0aaaaaaaa\1\0\17\0bbbbbbbb\1\0\0\0cccccccc\3\0\1\0\4\0\0\0";
     size_t number = sizeof cuts_by_hand / sizeof *cuts_by_hand;
     uint64_t answer[2] = {7, 7};
     struct bytes image = lend_filled(8192, 1), work = lend(8192), choices = lend_filled(128, 77);
-    struct bytes tape = lend_copy((const uint8_t *)text, 40);
-    EXPECT(quote_count_cuts(image.at, 8192, tape.at, 40, answer, 0) == QUOTE_ACCEPTED);
+    struct bytes tape = lend_copy((const uint8_t *)text, 44);
+    EXPECT(quote_count_cuts(image.at, 8192, tape.at, 44, answer, 0) == QUOTE_ACCEPTED);
     EXPECT(answer[0] == 7);
-    EXPECT(quote_count_cuts(image.at, 8192, tape.at, 40, answer, 2) == QUOTE_ACCEPTED);
+    EXPECT(quote_count_cuts(image.at, 8192, tape.at, 44, answer, 2) == QUOTE_ACCEPTED);
     EXPECT(answer[QUOTE_COUNT_CUTS_CUTS] == number && answer[QUOTE_COUNT_CUTS_NUMBERS] == 7);
     for (size_t r = 0; r < number; r += 1) {
         EXPECT(nth_cut(image, tape, r, choices, answer, 2) == QUOTE_ACCEPTED);
@@ -754,14 +803,14 @@ static void cuts_are_given_in_order(void)
         EXPECT(choices.at[0] == cuts_by_hand[r][1] && choices.at[1] == cuts_by_hand[r][2]);
         struct bytes others = {choices.at + 2, 126};
         EXPECT(all_are(others, 0) && answer[QUOTE_NTH_CUT_NUMBERS] == 7);
-        EXPECT(quote_cut(image.at, 8192, work.at, 8192, tape.at, 40, answer[0], choices.at,
+        EXPECT(quote_cut(image.at, 8192, work.at, 8192, tape.at, 44, answer[0], choices.at,
                          128) == QUOTE_ACCEPTED);
         memset(choices.at, 77, 128);
     }
     EXPECT(nth_cut(image, tape, number, choices, answer, 2) == QUOTE_NO_SUCH_CUT);
-    EXPECT(answer[0] == 4 && all_are(choices, 77));
+    EXPECT(answer[0] == 5 && all_are(choices, 77));
     EXPECT(nth_cut(image, tape, 0, choices, answer, 0) == QUOTE_ACCEPTED);
-    EXPECT(answer[0] == 4 && all_are(choices, 0));
+    EXPECT(answer[0] == 5 && all_are(choices, 0));
     give_back(image);
     give_back(work);
     give_back(choices);
@@ -849,7 +898,8 @@ int main(void)
         recovery_finishes_a_commit(&devices[i], QUOTE_MOST_PAGES);
     }
     run_carries_out();
-    cut_keeps_what_was_flushed();
+    cut_keeps_what_is_durable();
+    cut_refuses();
     cuts_are_given_in_order();
     most_cuts(QUOTE_LEAST_PAGES);
     most_cuts(QUOTE_MOST_PAGES);

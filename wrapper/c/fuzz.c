@@ -108,17 +108,22 @@ static void transaction_and_recovery(transaction_call *transaction, recover_call
     give_back(tape);
 }
 
-/* Noise, or up to 14 good commands in lines 0 to 7. */
+/* Noise, or up to 14 commands in lines 0 to 7, good but for a barrier that has a place
+ * or a second byte at times. */
 static struct bytes any_tape(void)
 {
+    static const uint8_t kinds[] = {QUOTE_WORD_STORE, QUOTE_WORD_STORE, QUOTE_WORD_STORE,
+                                    QUOTE_FLUSH, QUOTE_FLUSH, QUOTE_BARRIER};
     uint8_t room[14 * (QUOTE_COMMAND_HEAD + QUOTE_WORD_SIZE)] = {0}, *end = room;
     if (below(2) == 0)
         return noise(below(3) == 0 ? below(100) : 4 * below(3));
     for (size_t i = below(15); i > 0; i -= 1) {
-        int flush = below(3) == 0;
-        end[0] = flush ? QUOTE_FLUSH : QUOTE_WORD_STORE;
-        end[2] = (uint8_t)below(flush ? 8 : 64);
-        end += QUOTE_COMMAND_HEAD + (flush ? 0 : QUOTE_WORD_SIZE);
+        end[0] = kinds[below(sizeof kinds)];
+        if (end[0] != QUOTE_BARRIER)
+            end[2] = (uint8_t)below(end[0] == QUOTE_FLUSH ? 8 : 64);
+        else if (below(40) == 0)
+            end[1 + below(3)] = 1;
+        end += QUOTE_COMMAND_HEAD + (end[0] == QUOTE_WORD_STORE ? QUOTE_WORD_SIZE : 0);
     }
     return lend_copy(room, (size_t)(end - room));
 }

@@ -264,12 +264,12 @@ pub fn transaction(
 /// let edits = encode(&[Edit::Insert { key: 101, value: &[1; 8] }]);
 /// let commit = calls::transaction(&image, &mut work, &mut tape, &edits)?;
 /// assert_eq!(commit.place, CommitPlace::Header { page: 2 });
-/// assert_eq!((commit.bytes, commit.flushes), (112, 2));
+/// assert_eq!((commit.bytes, commit.flushes), (120, 2));
 ///
 /// let mut other = image.clone();
 /// let commit = calls::transaction_words(&image, &mut other, &mut tape, &edits)?;
 /// assert_eq!(commit.place, CommitPlace::Log);
-/// assert_eq!((commit.bytes, commit.flushes), (272, 5));
+/// assert_eq!((commit.bytes, commit.flushes), (292, 5));
 /// assert!(other[..64] == work[..64] && other[1024..] == work[1024..]);
 /// # Ok::<(), quote_store::Refusal>(())
 /// ```
@@ -324,8 +324,8 @@ fn transaction_by(
 /// assert_eq!(calls::check(&image), Err(Refusal::MarkWaits));
 ///
 /// let mut work = image.clone();
-/// let recovery = calls::recover(&image, &mut work, &mut [0; 1108])?;
-/// assert_eq!((recovery.bytes, recovery.flushes), (88, 2));
+/// let recovery = calls::recover(&image, &mut work, &mut [0; 1116])?;
+/// assert_eq!((recovery.bytes, recovery.flushes), (96, 2));
 /// assert_eq!(calls::check(&work), Ok(()));
 /// # Ok::<(), Refusal>(())
 /// ```
@@ -345,9 +345,9 @@ pub fn recover(image: &[u8], work: &mut [u8], tape: &mut [u8]) -> Result<Recover
 /// image.copy_within(1024..1024 + 64, 64);
 ///
 /// let (mut work, mut other) = (image.clone(), image.clone());
-/// let recovery = calls::recover_words(&image, &mut work, &mut [0; 1528])?;
-/// assert_eq!((recovery.bytes, recovery.flushes), (116, 2));
-/// calls::recover(&image, &mut other, &mut [0; 1108])?;
+/// let recovery = calls::recover_words(&image, &mut work, &mut [0; 1536])?;
+/// assert_eq!((recovery.bytes, recovery.flushes), (124, 2));
+/// calls::recover(&image, &mut other, &mut [0; 1116])?;
 /// assert!(work == other);
 /// # Ok::<(), Refusal>(())
 /// ```
@@ -408,10 +408,11 @@ pub fn run(image: &[u8], work: &mut [u8], tape: &[u8]) -> Result<(), Refusal> {
     judged(number, 0)
 }
 
-/// The same device when the power fails after c commands. Stores whose line was
-/// flushed are kept. Of the others, each line keeps as many as its choice says,
-/// the earliest first, or all if there are fewer. A choice is a byte for each
-/// line of the image ([`LINE`](crate::LINE)). `c` may be raised until
+/// The same device when the power fails after c commands. Stores that are durable
+/// by then are kept: those whose line was flushed after them, with a barrier after
+/// that flush. Of the others, each line keeps as many as its choice says, the
+/// earliest first, or all if there are fewer. A choice is a byte for each line of
+/// the image ([`LINE`](crate::LINE)). `c` may be raised until
 /// [`Refusal::PastEnd`] to find the number of commands.
 ///
 /// ```
@@ -419,9 +420,16 @@ pub fn run(image: &[u8], work: &mut [u8], tape: &[u8]) -> Result<(), Refusal> {
 ///
 /// let (image, mut work) = ([0; 8192], [9; 8192]);
 /// let store_word_2 = [1, 0, 2, 0, 11, 12, 13, 14, 15, 16, 17, 18];
-/// calls::cut(&image, &mut work, &store_word_2, 1, &[0; 128])?;
-/// assert_eq!(work, image);
-/// calls::cut(&image, &mut work, &store_word_2, 1, &[1; 128])?;
+/// let (flush_line_0, barrier) = ([3, 0, 0, 0], [4, 0, 0, 0]);
+/// let tape = [&store_word_2[..], &flush_line_0, &barrier].concat();
+/// // The store may be lost before its line is flushed, and until the barrier.
+/// for c in [1, 2] {
+///     calls::cut(&image, &mut work, &tape, c, &[0; 128])?;
+///     assert_eq!(work, image);
+///     calls::cut(&image, &mut work, &tape, c, &[1; 128])?;
+///     assert_ne!(work, image);
+/// }
+/// calls::cut(&image, &mut work, &tape, 3, &[0; 128])?;
 /// assert_ne!(work, image);
 /// # Ok::<(), quote_store::Refusal>(())
 /// ```
@@ -453,7 +461,8 @@ pub fn cut(
 /// How many cuts a tape has, of at most
 /// [`MOST_CUT_COMMANDS`](crate::MOST_CUT_COMMANDS) commands. A cut is a count of
 /// commands and a choice for each line, which is not above the line's pending
-/// stores: those since its last flush. Of the image only the length matters.
+/// stores: those that are not durable. Flushes and barriers are commands too. Of the
+/// image only the length matters.
 ///
 /// ```
 /// use quote_store::{calls, Refusal};
@@ -539,7 +548,7 @@ pub fn nth_cut(image: &[u8], tape: &[u8], r: usize, choices: &mut [u8]) -> Resul
 ///     assert!(there || found.iter().count() == 0);
 ///     times[usize::from(there)] += 1;
 /// }
-/// assert_eq!(times, [12, 2]);
+/// assert_eq!(times, [17, 3]);
 /// # Ok::<(), quote_store::Refusal>(())
 /// ```
 pub fn cuts<'a>(image: &'a [u8], tape: &'a [u8]) -> Result<Cuts<'a>, Refusal> {

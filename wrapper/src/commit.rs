@@ -30,8 +30,8 @@ pub enum CommitPlace {
 ///
 /// let mut store = Store::fresh(8)?;
 /// let commit = store.apply(&[Edit::Insert { key: 101, value: &[1; 8] }])?;
-/// assert_eq!((commit.bytes, commit.flushes), (112, 2));
-/// assert_eq!(store.take_tape().len(), 112);
+/// assert_eq!((commit.bytes, commit.flushes), (120, 2));
+/// assert_eq!(store.take_tape().len(), 120);
 /// # Ok::<(), quote_store::Refusal>(())
 /// ```
 #[derive(Clone, Copy, Debug, PartialEq, Eq)]
@@ -39,9 +39,10 @@ pub struct Commit {
     pub place: CommitPlace,
     /// The tape bytes used.
     pub bytes: usize,
-    /// The flush commands on the tape. With line stores a list of one insert or
-    /// update that its leaf has room for has 6 at most, and one of a delete that
-    /// leaves the leaf a quote has 1: this is proved.
+    /// The flush commands on the tape; barriers are not counted. With line stores a
+    /// list of one insert or update that its leaf has room for has 6 at most, and 2
+    /// barriers, and one of a delete that leaves the leaf a quote has 1, and 1
+    /// barrier: this is proved.
     pub flushes: usize,
 }
 
@@ -77,6 +78,6 @@ impl Commit {
 pub struct Recovery {
     /// The tape bytes used.
     pub bytes: usize,
-    /// The flush commands on the tape.
+    /// The flush commands on the tape; barriers are not counted.
     pub flushes: usize,
 }

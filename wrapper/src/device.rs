@@ -17,10 +17,11 @@
 /// ```
 #[derive(Clone, Copy, Debug, Default, PartialEq, Eq)]
 pub enum Device {
-    /// A line of 64 bytes: its commands are word stores, line stores and flushes.
+    /// A line of 64 bytes: its commands are word stores, line stores, flushes and
+    /// barriers.
     #[default]
     Lines,
-    /// A word of 8 bytes alone: its commands are word stores and flushes. Each
-    /// header that a transaction changes goes through the log.
+    /// A word of 8 bytes alone: its commands are word stores, flushes and barriers.
+    /// Each header that a transaction changes goes through the log.
     Words,
 }

@@ -131,12 +131,13 @@ pub const fn tape_length(image_length: usize) -> usize {
     image_length / LINE * 100
 }
 
-/// The bytes of a line, the unit of a flush; a page has 16.
+/// The bytes of a line, the unit of a flush; a page has 16. A barrier is for all
+/// lines flushed before it.
 ///
 /// ```
 /// use quote_store::{calls, LINE, PAGE};
 ///
-/// // No line keeps a store that was not flushed.
+/// // No line keeps a store that is not durable.
 /// let (image, mut work) = ([0; 8 * PAGE], [9; 8 * PAGE]);
 /// calls::cut(&image, &mut work, &[], 0, &[0; 8 * PAGE / LINE])?;
 /// assert_eq!(work, image);

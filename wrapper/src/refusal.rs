@@ -60,7 +60,8 @@ pub enum Refusal {
     /// 13: the tape is too short, which one of
     /// [`tape_length`](crate::tape_length) never is.
     TapeShort,
-    /// 14: the tape has a malformed command, or a place outside the image.
+    /// 14: the tape has a malformed command (a barrier with a place is one), or a
+    /// place outside the image.
     BadTape,
     /// 15: the cut comes after more commands than the tape has.
     PastEnd,

@@ -73,10 +73,10 @@ impl Store {
     /// let mut store = Store::fresh_on(Device::Words, 8)?;
     /// assert!(store.image() == Store::fresh(8)?.image());
     /// store.apply(&[Edit::Insert { key: 101, value: b"101.25" }])?;
-    /// // Word stores have 12 bytes, flushes 4; there is no line store.
+    /// // Word stores have 12 bytes, flushes and barriers 4; there is no line store.
     /// let mut tape = &store.take_tape()[..];
     /// while let [kind, ..] = *tape {
-    ///     assert!(kind == 1 || kind == 3);
+    ///     assert!([1, 3, 4].contains(&kind));
     ///     tape = &tape[if kind == 1 { 12 } else { 4 }..];
     /// }
     /// # Ok::<(), quote_store::Refusal>(())
@@ -356,9 +356,10 @@ impl Store {
     /// store.apply(&[Edit::Insert { key: 101, value: b"101.25" }])?;
     /// store.apply(&[Edit::Delete { key: 101 }])?;
     /// let tape = store.take_tape();
-    /// // The first command stores a word, the last one flushes line 32, page 2's header.
+    /// // The first command stores a word; the last two flush line 32, page 2's header,
+    /// // and wait for it: a barrier.
     /// assert_eq!(tape[0], 1);
-    /// assert!(tape.ends_with(&[3, 0, 32, 0]));
+    /// assert!(tape.ends_with(&[3, 0, 32, 0, 4, 0, 0, 0]));
     /// assert_eq!(store.waiting(), 0);
     /// # Ok::<(), quote_store::Refusal>(())
     /// ```

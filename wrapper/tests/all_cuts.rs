@@ -25,6 +25,8 @@ fn flush(line: u8) -> Vec<u8> {
     vec![3, 0, line, 0]
 }
 
+const BARRIER: [u8; 4] = [4, 0, 0, 0];
+
 /// A word store to each of so many lines.
 fn spread(lines: usize) -> Vec<u8> {
     (0..lines).flat_map(|line| word_store(line, 0)).collect()
@@ -34,25 +36,31 @@ fn spread(lines: usize) -> Vec<u8> {
 #[test]
 fn numbers_worked_by_hand() {
     let (store, other) = (word_store(0, 0), word_store(1, 0));
-    let same_line = word_store(0, 1);
-    let rows: [(&[&[u8]], usize); 11] = [
+    let (same_line, flush_0, flush_1) = (word_store(0, 1), flush(0), flush(1));
+    let rows: [(&[&[u8]], usize); 15] = [
         (&[], 1),
-        (&[&flush(0)], 1 + 1),
+        (&[&flush_0], 1 + 1),
+        (&[&BARRIER], 1 + 1),
         (&[&store], 1 + 2),
         (&[&line_store(127)], 1 + 2),
-        (&[&store, &flush(0)], 1 + 2 + 1),
-        (&[&store, &flush(1)], 1 + 2 + 2),
         (&[&store, &other], 1 + 2 + 4),
         (&[&store, &same_line], 1 + 2 + 3),
         (&[&store, &same_line, &line_store(1)], 1 + 2 + 3 + 6),
-        (&[&store, &same_line, &flush(0), &store], 1 + 2 + 3 + 1 + 2),
-        (&[&store, &other, &flush(0), &flush(0)], 1 + 2 + 4 + 2 + 2),
+        // Flushed it is still pending; past the barrier it is not.
+        (&[&store, &flush_0], 1 + 2 + 2),
+        (&[&store, &flush_0, &BARRIER], 1 + 2 + 2 + 1),
+        (&[&store, &flush_1, &BARRIER], 1 + 2 + 2 + 2),
+        (&[&store, &BARRIER, &flush_0], 1 + 2 + 2 + 2),
+        (&[&store, &flush_0, &same_line, &BARRIER], 1 + 2 + 2 + 3 + 2),
+        (&[&store, &flush_0, &BARRIER, &store], 1 + 2 + 2 + 1 + 2),
+        (&[&store, &other, &flush_0, &BARRIER], 1 + 2 + 4 + 4 + 2),
     ];
     for (commands, number) in rows {
         assert_eq!(calls::count_cuts(&IMAGE, &commands.concat()), Ok(number));
     }
     for (tape, number) in [
         (flush(0).repeat(12), 13),
+        (BARRIER.repeat(12), 13),
         (store.repeat(12), 13 * 14 / 2),
         (spread(12), 8_191),
     ] {
@@ -90,11 +98,13 @@ fn order_worked_by_hand() {
     assert_eq!(choices_of_two(&falling, [0, 127]), wanted);
 
     let twice = [word_store(64, 0), word_store(64, 0)].concat();
-    let tape = [twice, word_store(63, 7), flush(64), word_store(64, 1)].concat();
-    let each: [&[[u8; 2]]; 6] = [
+    let finished = [flush(64), BARRIER.to_vec()].concat();
+    let tape = [twice, word_store(63, 7), finished, word_store(64, 1)].concat();
+    let each: [&[[u8; 2]]; 7] = [
         &[[0, 0]],
         &[[0, 0], [0, 1]],
         &[[0, 0], [0, 1], [0, 2]],
+        &[[0, 0], [0, 1], [0, 2], [1, 0], [1, 1], [1, 2]],
         &[[0, 0], [0, 1], [0, 2], [1, 0], [1, 1], [1, 2]],
         &[[0, 0], [1, 0]],
         &[[0, 0], [0, 1], [1, 0], [1, 1]],
@@ -104,30 +114,53 @@ fn order_worked_by_hand() {
     assert_eq!(choices_of_two(&tape, [63, 64]), wanted.concat());
 }
 
-/// A command of a random tape: its line, and whether it stores.
-type Command = (usize, bool);
+/// A command of a random tape, with its line.
+#[derive(Clone, Copy, PartialEq)]
+enum Command {
+    Store(usize),
+    Flush(usize),
+    Barrier,
+}
 
 fn any_commands(random: &mut Random) -> Vec<Command> {
     let lines = random.between(1, 6);
     let count = random.between(0, MOST_CUT_COMMANDS);
-    (0..count)
-        .map(|_| (25 * random.below(lines), !random.one_in(4)))
-        .collect()
+    let any = |_| {
+        let line = 25 * random.below(lines);
+        match random.below(8) {
+            0 => Command::Barrier,
+            1 | 2 => Command::Flush(line),
+            _ => Command::Store(line),
+        }
+    };
+    (0..count).map(any).collect()
 }
 
 fn tape_of(commands: &[Command]) -> Vec<u8> {
-    let bytes = |&(line, stores): &Command| match stores {
-        true => word_store(line, 3),
-        false => flush(line as u8),
+    let bytes = |command: &Command| match *command {
+        Command::Store(line) => word_store(line, 3),
+        Command::Flush(line) => flush(line as u8),
+        Command::Barrier => BARRIER.to_vec(),
     };
     commands.iter().flat_map(bytes).collect()
+}
+
+/// Document 02 (h): whether a store to the line is durable once these commands after
+/// it are done, "once its line has been flushed after it and a barrier has come after
+/// that flush".
+fn is_durable(line: usize, later: &[Command]) -> bool {
+    let mut later = later.iter();
+    later.any(|command| *command == Command::Flush(line))
+        && later.any(|command| *command == Command::Barrier)
 }
 
 /// How many stores of each line are pending after these commands.
 fn pending(commands: &[Command]) -> Vec<u8> {
     let mut pending = vec![0; LINES];
-    for &(line, stores) in commands {
-        pending[line] = if stores { pending[line] + 1 } else { 0 };
+    for (i, command) in commands.iter().enumerate() {
+        if let Command::Store(line) = *command {
+            pending[line] += u8::from(!is_durable(line, &commands[i + 1..]));
+        }
     }
     pending
 }
@@ -164,15 +197,18 @@ fn every_cut_and_none_twice() {
 /// Each ground comes before those after it, and a refused call leaves the choices.
 #[test]
 fn refusals_in_their_order() {
-    let (outside, long) = (flush(128), flush(0).repeat(13));
+    let (outside, long) = (flush(128), BARRIER.repeat(13));
     let long_outside = [&long[..], &outside].concat();
     let last = [&flush(0).repeat(11)[..], &[3, 0, 0]].concat();
+    let (place, second) = (vec![4, 0, 0, 1], vec![4, 1, 0, 0]);
     let rows = [
         (&IMAGE[1..], &outside, 127, Refusal::ImageSize),
         (&IMAGE[..7 * PAGE], &long_outside, 127, Refusal::ImageSize),
         (&IMAGE[..], &long_outside, 127, Refusal::BadTape),
         (&IMAGE[..], &outside, 128, Refusal::BadTape),
         (&IMAGE[..], &last, 127, Refusal::BadTape),
+        (&IMAGE[..], &place, 127, Refusal::BadTape),
+        (&IMAGE[..], &second, 127, Refusal::BadTape),
         (&IMAGE[..], &long, 127, Refusal::LongTape),
         (&IMAGE[..], &long, 128, Refusal::LongTape),
     ];
@@ -265,9 +301,8 @@ fn two_leaves(kind: Device) -> Store {
     store
 }
 
-/// A record of three words in one line or two, then its header: a store and a
-/// flush. A delete has these alone; two in two leaves go through the log, whose
-/// tape has 12 commands.
+/// A record of three words in one line, a flush and a barrier, then its header: a
+/// store, a flush and a barrier. A delete has these three alone.
 #[test]
 fn small_transactions_hold_the_old_quotes_or_the_new() {
     let insert = Edit::Insert {
@@ -278,34 +313,40 @@ fn small_transactions_hold_the_old_quotes_or_the_new() {
         key: 10,
         value: b"price 02",
     };
-    let deletes = [10, 290].map(|key| Edit::Delete { key });
-    let rows: [(&[Edit], [usize; 3]); 4] = [
-        (&[insert], [12, 2, 0]),
-        (&[update], [12, 2, 0]),
-        (&deletes[..1], [2, 2, 0]),
-        // Old up to the mark's store: 1 + 2 + 4 + 2 + 1 + 1.
-        (&deletes, [11, 14, 12]),
+    let delete = Edit::Delete { key: 10 };
+    // Old: 1 + 2 + 3 + 4 and again 4 up to the record's flush, 1 past the barrier; one
+    // of two past the header's store, and past its flush.
+    let rows = [
+        (insert, [17, 3, 0]),
+        (update, [17, 3, 0]),
+        (delete, [3, 3, 0]),
     ];
-    for (edits, times) in rows {
+    for (edit, times) in rows {
         let mut store = two_leaves(Device::Lines);
         let old = Store::open(store.image()).unwrap();
-        store.apply(edits).unwrap();
+        store.apply(&[edit]).unwrap();
         let tape = store.take_tape();
         let found = recovered(Device::Lines, old.image(), &tape, [&old, &store]);
-        assert_eq!(found, times, "{edits:?}");
+        assert_eq!(found, times, "{edit:?}");
     }
 }
 
-/// Without line stores even a delete has more commands; the recovery of one header
-/// has 11: eight words and their flush, the mark cleared and its flush.
+/// A log has more commands, also one of a header alone without line stores. The
+/// recovery of two headers has 8: both stored and flushed, a barrier, the mark cleared
+/// and flushed, a barrier.
 #[test]
 fn cut_recoveries_are_recovered() {
-    let kind = Device::Words;
-    let mut store = two_leaves(kind);
+    let mut store = two_leaves(Device::Lines);
     let before = store.image().to_vec();
-    store.apply(&[Edit::Delete { key: 10 }]).unwrap();
+    let mut words = Store::open_on(Device::Words, &before).unwrap();
+    words.apply(&[Edit::Delete { key: 10 }]).unwrap();
+    store
+        .apply(&[10, 290].map(|key| Edit::Delete { key }))
+        .unwrap();
     let tape = store.take_tape();
-    assert_eq!(calls::count_cuts(&before, &tape), Err(Refusal::LongTape));
+    for long in [&tape, &words.take_tape()] {
+        assert_eq!(calls::count_cuts(&before, long), Err(Refusal::LongTape));
+    }
 
     let mut device = before.clone();
     let waits = (0..).find(|&c| {
@@ -313,9 +354,10 @@ fn cut_recoveries_are_recovered() {
         calls::check(&device) == Err(Refusal::MarkWaits)
     });
     assert!(waits.is_some());
-    let redo = Store::open_on(kind, &device).unwrap().take_tape();
-    let times = recovered(kind, &device, &redo, [&store, &store]);
-    // 1 + 2 + .. + 9 up to the eighth word, then its flush, the mark, its flush. The
-    // mark stands until its clearing is kept.
-    assert_eq!(times, [0, 45 + 1 + 2 + 1, 45 + 1 + 1]);
+    let redo = Store::open(&device).unwrap().take_tape();
+    let times = recovered(Device::Lines, &device, &redo, [&store, &store]);
+    // 1 + 2 + 4 up to the headers' stores, 4 after each flush, 1 past the barrier; the
+    // mark, its flush, its barrier. The mark stands until its clearing is kept.
+    let headers = 1 + 2 + 4 + 4 + 4 + 1;
+    assert_eq!(times, [0, headers + 2 + 2 + 1, headers + 1 + 1]);
 }

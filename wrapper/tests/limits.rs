@@ -52,19 +52,34 @@ fn fullest(pages: usize, length: usize) -> Store {
     store
 }
 
-/// One quote that its leaf has room for: six flushes are reached, by a record in five
-/// lines. A delete that leaves the leaf a quote takes one; a split takes more than six.
-#[test]
-fn flushes_of_one_quote() {
-    let mut store = Store::fresh(8).unwrap();
-    let mut flushes = |edit| store.apply(&[edit]).unwrap().flushes;
-    assert_eq!(flushes(insert(1, 32)), 2);
-    assert_eq!(flushes(insert(2, 200)), 6);
-    assert_eq!(flushes(Edit::Delete { key: 1 }), 1);
-    for key in 3..=5 {
-        assert!(flushes(insert(key, 200)) <= 6);
+/// How many barriers are on a tape.
+fn barriers(mut tape: &[u8]) -> usize {
+    let mut times = 0;
+    while let Some(kind) = tape.first() {
+        times += usize::from(*kind == 4);
+        tape = &tape[[0, 12, 68, 4, 4][*kind as usize]..];
     }
-    assert!(flushes(insert(6, 200)) > 6);
+    times
+}
+
+/// One quote that its leaf has room for: six flushes are reached, by a record in five
+/// lines, with two barriers. A delete that leaves the leaf a quote takes one and one; a
+/// split takes more than six.
+#[test]
+fn flushes_and_barriers_of_one_quote() {
+    let mut store = Store::fresh(8).unwrap();
+    let mut cost = |edit| {
+        let flushes = store.apply(&[edit]).unwrap().flushes;
+        (flushes, barriers(&store.take_tape()))
+    };
+    assert_eq!(cost(insert(1, 32)), (2, 2));
+    assert_eq!(cost(insert(2, 200)), (6, 2));
+    assert_eq!(cost(Edit::Delete { key: 1 }), (1, 1));
+    for key in 3..=5 {
+        let (flushes, barriers) = cost(insert(key, 200));
+        assert!(flushes <= 6 && barriers == 2);
+    }
+    assert!(cost(insert(6, 200)).0 > 6);
 }
 
 /// How many quotes fit: by rising keys, by falling keys, at most.
@@ -211,27 +226,34 @@ fn has_all_cuts(store: &mut Store, edits: &[Edit]) -> bool {
     calls::count_cuts(&before, &store.take_tape()).is_ok()
 }
 
-/// "One insert or update of a value of up to 48 bytes that its leaf has room for",
-/// wherever its record comes to lie; "one delete"; "two such deletes in two leaves".
+/// "One insert or update of a value of up to 32 bytes that its leaf has room for",
+/// wherever its record comes to lie; one of up to 40 bytes only where that is one line;
+/// "one delete"; none that goes through the log.
 #[test]
 fn transactions_with_all_cuts() {
     for length in 1..=56 {
         let mut store = Store::fresh(8).unwrap();
-        for key in 1..=6 {
+        let mut times = [0, 0];
+        for key in 1..=8 {
             for edit in [insert(key, length), update(key, length)] {
-                assert_eq!(has_all_cuts(&mut store, &[edit]), length <= 48);
+                times[usize::from(has_all_cuts(&mut store, &[edit]))] += 1;
             }
+        }
+        match length {
+            1..=32 => assert_eq!(times, [0, 16]),
+            33..=40 => assert!(times[0] > 0 && times[1] > 0),
+            _ => assert_eq!(times, [16, 0]),
         }
         assert!(has_all_cuts(&mut store, &[Edit::Delete { key: 1 }]));
     }
     for leaves in 1..=3 {
         let (mut store, _) = fill(64, 8, rising());
         let _ = store.take_tape();
-        assert_eq!(has_all_cuts(&mut store, &deletes(leaves)), leaves <= 2);
+        assert_eq!(has_all_cuts(&mut store, &deletes(leaves)), leaves == 1);
     }
 }
 
-/// "A recovery of up to four headers"; five, too, if the root stays.
+/// "A recovery of up to three headers"; four, too, if the root stays.
 #[test]
 fn recoveries_with_all_cuts() {
     for leaves in 2..=6 {
@@ -240,12 +262,12 @@ fn recoveries_with_all_cuts() {
         let before = store.image().to_vec();
         store.apply(&deletes(leaves)).unwrap();
         let tape = store.take_tape();
-        // The log and its flushes, the mark and its flush.
-        let (c, mut device) = (2 * leaves as usize + 2, before.clone());
+        // The log, its flushes and their barrier; the mark, its flush and its barrier.
+        let (c, mut device) = (2 * leaves as usize + 4, before.clone());
         let choices = vec![0; before.len() / LINE];
         calls::cut(&before, &mut device, &tape, c, &choices).unwrap();
         let redo = Store::open(&device).unwrap().take_tape();
         assert!(!redo.is_empty());
-        assert_eq!(calls::count_cuts(&device, &redo).is_ok(), leaves <= 5);
+        assert_eq!(calls::count_cuts(&device, &redo).is_ok(), leaves <= 4);
     }
 }

@@ -43,7 +43,7 @@ fn played(image: &[u8], tape: &[u8]) -> Vec<u8> {
     device
 }
 
-/// How many stores not yet flushed a line keeps.
+/// How many stores not yet durable a line keeps.
 type Choice = fn(usize) -> u8;
 
 /// None, one or all; or those of every other line.

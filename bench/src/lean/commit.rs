@@ -2,7 +2,7 @@
 //! then its commands.
 
 use super::page::{half, record, word};
-use super::tape::{bits, Writer, FLUSH, LINE_STORE, WORD_STORE};
+use super::tape::{bits, Writer, BARRIER, FLUSH, LINE_STORE, WORD_STORE};
 use super::tree::{put_word, Tree};
 use super::PAGE;
 use std::mem::MaybeUninit;
@@ -33,17 +33,15 @@ impl Changes {
     fn size(&self) -> (usize, usize) {
         let headers = self.headers.count_ones() as usize;
         let roots = self.root as usize;
-        let (lines, words, flushes) = if self.log() {
-            (2 * headers, 2 + roots, 2 * headers + 2)
+        let (lines, words, flushes, barriers) = if self.log() {
+            (2 * headers, 2 + roots, 2 * headers + 2, 4)
         } else {
-            (headers, roots, 1)
+            (headers, roots, 1, 1)
         };
-        let words = self.stores + words;
+        let stores = (self.stores + words) * WORD_STORE + lines * LINE_STORE;
         let flushes = self.lines + flushes;
-        (
-            words * WORD_STORE + lines * LINE_STORE + flushes * FLUSH,
-            flushes,
-        )
+        let barriers = (self.lines > 0) as usize + barriers;
+        (stores + flushes * FLUSH + barriers * BARRIER, flushes)
     }
 
     /// Takes in a page's changed words.
@@ -80,11 +78,13 @@ impl Tree {
         } else if changes.root {
             out.word_store(1, self.root as u64);
             out.flush(0);
+            out.barrier();
             (2, 0)
         } else {
             let page = changes.headers.trailing_zeros() as usize;
             out.line_store(16 * page, self.page(page));
             out.flush(16 * page);
+            out.barrier();
             (1, page as u64)
         };
         *answer = [0, kind, page, bytes as u64, flushes as u64];
@@ -127,7 +127,7 @@ impl Tree {
     }
 
     /// "A word store for each word that differs .. then a flush of each line so
-    /// stored."
+    /// stored", and a barrier if there is a flush.
     #[inline(always)]
     unsafe fn stage_a(&self, changes: &Changes, out: &mut Writer) {
         let words = changes.words.as_ptr() as *const Words;
@@ -143,9 +143,13 @@ impl Tree {
                 out.flush(16 * number + line);
             }
         }
+        if changes.lines > 0 {
+            out.barrier();
+        }
     }
 
-    /// Log, mark, headers, root and clearing; and the log lines into work.
+    /// Log, mark, headers, root and clearing, each with its barrier; and the log lines
+    /// into work.
     #[inline(always)]
     unsafe fn log(&self, changes: &Changes, out: &mut Writer) {
         let headers = changes.headers;
@@ -158,19 +162,23 @@ impl Tree {
         for line in 1..=count {
             out.flush(line);
         }
+        out.barrier();
         out.word_store(0, 1 | (count as u64) << 8 | (self.root as u64) << 16);
         out.flush(0);
+        out.barrier();
         for page in bits(headers) {
             out.line_store(16 * page, self.page(page));
         }
         for page in bits(headers) {
             out.flush(16 * page);
         }
+        out.barrier();
         if changes.root {
             out.word_store(1, self.root as u64);
         }
         out.word_store(0, 0);
         out.flush(0);
+        out.barrier();
     }
 }
 

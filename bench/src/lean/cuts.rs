@@ -4,7 +4,7 @@
 //! Why the raw pointers are sound: `judge` reads no byte outside the tape, and its
 //! lines are of the image, so below `LINES`.
 
-use super::device::{judge, LINES};
+use super::device::{judge, BARRIER, FLUSH, LINES};
 use super::good_length;
 use std::mem::MaybeUninit;
 
@@ -22,14 +22,70 @@ const SHARE: [u32; 16] = {
     all
 };
 
+/// The pending stores of each line, how many of them a flush covers that no barrier
+/// followed yet, and the lines of these flushes; and the product of all choices.
+struct Pending {
+    stores: *mut u8,
+    flushed: *mut u8,
+    lines: [MaybeUninit<u16>; MOST],
+    flushes: usize,
+    product: u32,
+}
+
+impl Pending {
+    /// None so far. What `flushed` holds is read only of lines that were flushed.
+    #[inline(always)]
+    fn new(space: &mut MaybeUninit<[[u8; LINES]; 2]>, image: &[u8]) -> Pending {
+        let stores = space.as_mut_ptr() as *mut u8;
+        unsafe { stores.write_bytes(0, LINES.min(image.len() / 64)) };
+        Pending {
+            stores,
+            flushed: unsafe { stores.add(LINES) },
+            lines: [MaybeUninit::uninit(); MOST],
+            flushes: 0,
+            product: 1,
+        }
+    }
+
+    /// One command more, of 12 at most.
+    #[inline(always)]
+    unsafe fn add(&mut self, line: usize, kind: u32) {
+        match kind {
+            FLUSH => {
+                *self.flushed.add(line) = *self.stores.add(line);
+                self.lines
+                    .get_unchecked_mut(self.flushes)
+                    .write(line as u16);
+                self.flushes += 1;
+            }
+            BARRIER => {
+                while self.flushes > 0 {
+                    self.flushes -= 1;
+                    let line = self.lines.get_unchecked(self.flushes).assume_init() as usize;
+                    let durable = std::mem::take(&mut *self.flushed.add(line));
+                    self.set(line, *self.stores.add(line) - durable);
+                }
+            }
+            _ => self.set(line, *self.stores.add(line) + 1),
+        }
+    }
+
+    /// The product with another factor for this line.
+    #[inline(always)]
+    unsafe fn set(&mut self, line: usize, stores: u8) {
+        let before = std::mem::replace(&mut *self.stores.add(line), stores) as usize;
+        self.product = (self.product * SHARE[before % 16] >> 16) * (stores as u32 + 1);
+    }
+}
+
 pub fn count_cuts(image: &[u8], tape: &[u8], answer: &mut [u64; 1]) -> u8 {
-    let mut space = MaybeUninit::<[u8; LINES]>::uninit();
-    let pending = cleared(&mut space, image);
-    let (mut product, mut cuts) = (1, 1);
+    let mut space = MaybeUninit::uninit();
+    let mut pending = Pending::new(&mut space, image);
+    let mut cuts = 1;
     let number = unsafe {
-        each_command(image, tape, |line, stores| {
-            product = after(product, &mut *pending.add(line), stores);
-            cuts += product;
+        each_command(image, tape, |line, kind| {
+            pending.add(line, kind);
+            cuts += pending.product;
         })
     };
     if number == 0 {
@@ -45,16 +101,16 @@ pub fn nth_cut(
     choices: &mut [u8],
     answer: &mut [u64; 1],
 ) -> u8 {
-    let mut space = MaybeUninit::<[u8; LINES]>::uninit();
-    let pending = cleared(&mut space, image);
+    let mut space = MaybeUninit::uninit();
+    let mut pending = Pending::new(&mut space, image);
     // A bit for each line that is named before the cut.
     let mut named = [0_u64; LINES / 64];
-    let (mut product, mut c, mut rest) = (1, 0, r);
+    let (mut c, mut rest) = (0, r);
     let number = unsafe {
-        each_command(image, tape, |line, stores| {
-            if rest >= product as usize {
-                rest -= product as usize;
-                product = after(product, &mut *pending.add(line), stores);
+        each_command(image, tape, |line, kind| {
+            if rest >= pending.product as usize {
+                rest -= pending.product as usize;
+                pending.add(line, kind);
                 *named.get_unchecked_mut(line / 64) |= 1 << (line % 64);
                 c += 1;
             }
@@ -66,20 +122,12 @@ pub fn nth_cut(
     if choices.len() != image.len() / 64 {
         return 16;
     }
-    if rest >= product as usize {
+    if rest >= pending.product as usize {
         return 18;
     }
-    unsafe { put(rest as u32, choices, pending, &named) };
+    unsafe { put(rest as u32, choices, pending.stores, &named) };
     *answer = [c];
     0
-}
-
-/// Pending stores of the image's lines, none so far.
-#[inline(always)]
-fn cleared(space: &mut MaybeUninit<[u8; LINES]>, image: &[u8]) -> *mut u8 {
-    let pending = space.as_mut_ptr() as *mut u8;
-    unsafe { pending.write_bytes(0, LINES.min(image.len() / 64)) };
-    pending
 }
 
 /// Calls `each` with the commands of a tape, 12 at most, as `judge` does; 0, or the
@@ -91,9 +139,9 @@ unsafe fn each_command(image: &[u8], tape: &[u8], mut each: impl FnMut(usize, u3
     }
     let mut count = 0;
     let range = tape.as_ptr_range();
-    let good = judge(range.start, range.end, image.len(), |line, stores| {
+    let good = judge(range.start, range.end, image.len(), |line, kind| {
         if count < MOST {
-            each(line, stores);
+            each(line, kind);
         }
         count += 1;
     });
@@ -102,16 +150,6 @@ unsafe fn each_command(image: &[u8], tape: &[u8], mut each: impl FnMut(usize, u3
         (true, 0..=MOST) => 0,
         _ => 17,
     }
-}
-
-/// The product once a line's factor is another, by one command more; 1 is a store,
-/// 0 a flush.
-#[inline(always)]
-fn after(product: u32, pending: &mut u8, stores: u32) -> u32 {
-    let before = *pending as usize;
-    let now = (before as u32 + 1) * stores;
-    *pending = now as u8;
-    (product * SHARE[before % 16] >> 16) * (now + 1)
 }
 
 /// Writes the choices with this number: the last line's changes fastest.

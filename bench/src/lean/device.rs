@@ -11,6 +11,10 @@ use std::ptr::copy_nonoverlapping;
 /// The most lines of an image.
 pub(super) const LINES: usize = 1024;
 
+/// The kinds of the commands that store nothing.
+pub(super) const FLUSH: u32 = 3;
+pub(super) const BARRIER: u32 = 4;
+
 pub fn run(image: &[u8], work: &mut [u8], tape: &[u8]) -> u8 {
     let length = image.len();
     if !good_length(length) {
@@ -47,24 +51,55 @@ pub fn cut(image: &[u8], work: &mut [u8], tape: &[u8], c: usize, choices: &[u8])
     unsafe { cut_lines(image, work, tape, c, choices) }
 }
 
-/// Of each line, `keep` counts the stores to be kept, from its first on, and
-/// `pending` those pending so far.
-unsafe fn cut_lines(image: &[u8], work: &mut [u8], tape: &[u8], c: usize, choices: &[u8]) -> u8 {
-    let mut space = MaybeUninit::<[[u32; LINES]; 2]>::uninit();
-    let keep = space.as_mut_ptr() as *mut u32;
-    let pending = keep.add(LINES);
-    for (line, &choice) in choices.iter().enumerate() {
-        *keep.add(line) = choice as u32;
+/// A line's stores: all of them so far, those that its last flush covers, and those
+/// that are durable. So many barriers came before that flush; once there are more,
+/// what it covers is durable, which is noted at the next flush, or at the end.
+#[derive(Clone, Copy)]
+struct Line {
+    all: u32,
+    flushed: u32,
+    durable: u32,
+    barriers: u32,
+}
+
+impl Line {
+    #[inline(always)]
+    fn durable_after(&self, barriers: u32) -> u32 {
+        if self.barriers < barriers {
+            self.flushed
+        } else {
+            self.durable
+        }
     }
-    pending.write_bytes(0, choices.len());
-    let mut count = 0;
+
+    /// One command more, which is of this line if it is a store or a flush.
+    #[inline(always)]
+    fn after(self, kind: u32, barriers: u32) -> Line {
+        let all = self.all + (kind < FLUSH) as u32;
+        let flushed = Line {
+            all,
+            flushed: all,
+            durable: self.durable_after(barriers),
+            barriers,
+        };
+        if kind == FLUSH {
+            flushed
+        } else {
+            Line { all, ..self }
+        }
+    }
+}
+
+unsafe fn cut_lines(image: &[u8], work: &mut [u8], tape: &[u8], c: usize, choices: &[u8]) -> u8 {
+    let mut space = MaybeUninit::<[Line; LINES]>::uninit();
+    let lines = space.as_mut_ptr() as *mut Line;
+    lines.write_bytes(0, choices.len());
+    let (mut count, mut barriers) = (0, 0);
     let range = tape.as_ptr_range();
-    let good = judge(range.start, range.end, image.len(), |line, stores| {
+    let good = judge(range.start, range.end, image.len(), |line, kind| {
         if count < c {
-            let waiting = *pending.add(line) + stores;
-            let flushed = if stores == 0 { waiting } else { 0 };
-            *keep.add(line) += flushed;
-            *pending.add(line) = waiting - flushed;
+            *lines.add(line) = (*lines.add(line)).after(kind, barriers);
+            barriers += (kind == BARRIER) as u32;
         }
         count += 1;
     });
@@ -74,20 +109,26 @@ unsafe fn cut_lines(image: &[u8], work: &mut [u8], tape: &[u8], c: usize, choice
     if c > count {
         return 15;
     }
+    // From here on `all` counts the stores that are still to be kept.
+    for (line, &choice) in choices.iter().enumerate() {
+        let line = &mut *lines.add(line);
+        line.all = line.durable_after(barriers) + choice as u32;
+    }
     copy_nonoverlapping(image.as_ptr(), work.as_mut_ptr(), image.len());
     let mut at = range.start;
     for _ in 0..c {
         at = step(at, work.as_mut_ptr(), |line| {
-            let left = *keep.add(line);
-            *keep.add(line) = left.saturating_sub(1);
-            left != 0
+            let left = &mut (*lines.add(line)).all;
+            let wanted = *left != 0;
+            *left = left.saturating_sub(1);
+            wanted
         });
     }
     0
 }
 
 /// Whether all commands from `at` to `end` are good. Calls `each` with every
-/// command's line and 1 if it is a store, 0 if it is a flush.
+/// command's line and kind; a barrier's line is 0.
 #[inline(always)]
 pub(super) unsafe fn judge(
     mut at: *const u8,
@@ -102,17 +143,20 @@ pub(super) unsafe fn judge(
         }
         let head = (at as *const u32).read_unaligned();
         let place = (head >> 16) as usize;
-        // The kind and the zero byte at once.
-        let (shift, size) = match head & 0xffff {
+        // The kind and the zero byte at once. A barrier's place is 0: any other, so
+        // shifted, is past the longest image.
+        let kind = head & 0xffff;
+        let (shift, size) = match kind {
             1 => (3, 12),
             2 => (6, 68),
             3 => (6, 4),
+            4 => (16, 4),
             _ => return false,
         };
         if left < size || place << shift >= length {
             return false;
         }
-        each(place << shift >> 6, (size > 4) as u32);
+        each(place << shift >> 6, kind);
         at = at.add(size);
     }
     true

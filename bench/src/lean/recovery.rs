@@ -6,7 +6,7 @@
 
 use super::image::{page_zero, sound};
 use super::page::{half, word};
-use super::tape::{Writer, FLUSH, LINE_STORE, WORD_STORE};
+use super::tape::{Writer, BARRIER, FLUSH, LINE_STORE, WORD_STORE};
 use super::{good_length, PAGE};
 use std::ptr::copy_nonoverlapping;
 
@@ -32,7 +32,7 @@ pub fn recover(image: &[u8], work: &mut [u8], tape: &mut [u8], answer: &mut [u64
         }
         copy_nonoverlapping(start, work.as_mut_ptr(), length);
         let words = 1 + (root != new_root) as usize;
-        let bytes = headers * (LINE_STORE + FLUSH) + words * WORD_STORE + FLUSH;
+        let bytes = headers * (LINE_STORE + FLUSH) + words * WORD_STORE + FLUSH + 2 * BARRIER;
         if tape.len() < bytes {
             return 13;
         }
@@ -94,11 +94,13 @@ unsafe fn replay(start: *const u8, work: *mut u8, tape: *mut u8, headers: usize,
     for line in 1..=headers {
         out.flush(16 * half(start.add(64 * line + 6)));
     }
+    out.barrier();
     if word(start.add(8)) != root as u64 {
         out.word_store(1, root as u64);
     }
     out.word_store(0, 0);
     out.flush(0);
+    out.barrier();
     (work as *mut u64).write_unaligned(0);
     (work.add(8) as *mut u64).write_unaligned(root as u64);
 }

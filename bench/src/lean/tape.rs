@@ -3,10 +3,11 @@
 
 use std::ptr::copy_nonoverlapping;
 
-/// The bytes of a word store, a line store and a flush.
+/// The bytes of a word store, a line store, a flush and a barrier.
 pub const WORD_STORE: usize = 12;
 pub const LINE_STORE: usize = 68;
 pub const FLUSH: usize = 4;
+pub const BARRIER: usize = 4;
 
 /// Where the next command goes.
 pub struct Writer(pub *mut u8);
@@ -34,6 +35,11 @@ impl Writer {
     #[inline(always)]
     pub unsafe fn flush(&mut self, line: usize) {
         self.0 = self.head(3, line);
+    }
+
+    #[inline(always)]
+    pub unsafe fn barrier(&mut self) {
+        self.0 = self.head(4, 0);
     }
 }
 

@@ -5,7 +5,7 @@ use mathlib.Core.Path.{_≡_, sym, ap, _∙_, subst}
 use mathlib.Core.Bool.{Bool, true, false, false≢true}
 use mathlib.Core.List.{List, [], _∷_}
 use native.Mathlib.Omega.{arith}
-use Rattle.device.specs.Tape.{Op}
+use Rattle.device.specs.Tape.{Op, barrierCount}
 use Rattle.page.specs.Layout.{lineSize, Rec, recOf, size, readHead}
 use Rattle.image.specs.Image.{sound}
 use Rattle.edit.specs.EditList.{Edit, insert, update, delete, listed}
@@ -24,7 +24,7 @@ use Rattle.tree.proofs.Sizes.{size-most}
 use Rattle.tree.proofs.OneLeaf.{Puts, inserts, updates, puts-ok, put-one-leaf, delete-one-leaf}
 use Rattle.transaction.specs.Calls.{commandsOn, transactionCall}
 use Rattle.transaction.proofs.Demand2.{acceptance, was-sound, target, target-edited, answer-is, commands-are}
-use Rattle.costs.specs.Quote.{OneEdit, leafNumber, leafPage, CostsAtMost, FitsBelow, QuoteCost, DeleteCost}
+use Rattle.costs.specs.Quote.{OneEdit, leafNumber, leafPage, commandsOf, CostsAtMost, FitsBelow, QuoteCost, DeleteCost}
 
 -- ---- more words and flushes allowed
 
@@ -39,6 +39,7 @@ costs-most words′ most′ w m k =
       areWords = k .areWords;
       fewWords = omega (arith, k .fewWords);
       fewFlushes = omega (arith, k .fewFlushes);
+      fewBarriers = k .fewBarriers;
       alone = k .alone;
     }
 
@@ -102,10 +103,11 @@ module _ (a work tape bytes : List ℕ) (e : Edit) (c : Commit) (o : OneEdit a w
       (put-one-leaf a was e proper ends made (o .leaf) (f .ins) (f .rec) (f .brings) (f .room))
 
   -- a header alone
-  header-costs : OneLeaf a w (leafNumber o) lineSize lineSize → (c .flushes ≡ 1) × CostsAtMost o 0 1
+  header-costs : OneLeaf a w (leafNumber o) lineSize lineSize → (c .flushes ≡ 1) × (barrierCount (commandsOf o) ≡ 1) × CostsAtMost o 0 1
   header-costs l =
       let k : CostsAtMost o 0 1 = costs-most 0 1 (omega arith) (omega arith) (answer-costs lineSize lineSize l) in
-      (k .alone (omega (arith, k .fewWords)), k)
+      let one = k .alone (omega (arith, k .fewWords)) in
+      (one .0, one .1, k)
 
 pub quote-cost : QuoteCost
 quote-cost = put-costs

@@ -35,9 +35,10 @@ use Rattle.tree.specs.Whole.{editedImage}
 use Rattle.tree.proofs.Accepted.{edits-accepted}
 use Rattle.tree.proofs.Numbers.{edits-numbered}
 use Rattle.tree.proofs.Runs.{grounds-refuse}
-use Rattle.tape_write.specs.Sizes.{linesBytes, replayBytes, logBytes, commitsAlone, endBytes}
-use Rattle.tape_write.specs.Words.{linesPast}
+use Rattle.tape_write.specs.Sizes.{linesBytes, groupBytes, replayBytes, logBytes, commitsAlone, endBytes}
+use Rattle.tape_write.specs.Words.{stageWords, linesPast}
 use Rattle.tape_write.specs.Calls.{reachedIn}
+use Rattle.tape_write.proofs.Encoding.{group-few}
 use Rattle.tape_write.proofs.LineBytes.{lines-most}
 use Rattle.tape_write.proofs.LogLines.{logged-lines, logged-length}
 use Rattle.tape_write.proofs.Endings.{replay-size}
@@ -58,16 +59,16 @@ use Rattle.costs.proofs.Lines.{stage-most}
 
 -- ---- a transaction's
 
--- past stage A: 1,600 bytes, and 100 for each changed header
-end-most : (way : Way) (k : ℕ) (same : Bool) → k ≤ 15 → endBytes way k same ≤ 1600 + 100 * k
+-- past stage A: 1,596 bytes, and 100 for each changed header; stage A's barrier takes 4
+end-most : (way : Way) (k : ℕ) (same : Bool) → k ≤ 15 → endBytes way k same ≤ 1596 + 100 * k
 unfolding endBytes logBytes replayBytes
 end-most way k same few = go (eqb k 0) (commitsAlone way k same) same
   where
-    go : (s t u : Bool) → pick s 16 (pick t 72 (linesBytes way k + 4 * k + 16 + (linesBytes way k + 4 * k + 16 + pick u 0 12))) ≤ 1600 + 100 * k
+    go : (s t u : Bool) → pick s 20 (pick t 76 (linesBytes way k + groupBytes k + 20 + (linesBytes way k + groupBytes k + 20 + pick u 0 12))) ≤ 1596 + 100 * k
     go true t u = omega arith
     go false true u = omega arith
-    go false false true = omega (arith, lines-most way k)
-    go false false false = omega (arith, lines-most way k)
+    go false false true = omega (arith, lines-most way k, group-few k)
+    go false false false = omega (arith, lines-most way k, group-few k)
 
 tape-most : (way : Way) (a w : List ℕ) → sound a ≡ true → Edited a w → length (changedPages a w) ≤ 15 → length (tapeBytes (takenFor way a w .tape)) ≤ tapeMost a
 unfolding changedPages
@@ -78,6 +79,7 @@ tape-most way a w s d few =
       arith,
       is .low,
       taken-size way a w is few,
+      group-few (length (linesPast 0 (stageWords a w))),
       ap length words,
       ap (λ (ks : List ℕ). length (linesPast 0 ks)) words,
       stage-most (reachedIn a) (reachedIn w) a w (pageCount a - 1) 1 (omega arith) 0,
@@ -128,10 +130,10 @@ tape-suffices way a work tape bytes long r e thirteen = go (transactionCall way 
 
 replay-most : (way : Way) (k : ℕ) (same : Bool) → k ≤ 15 → replayBytes way k same ≤ redoMost way
 unfolding replayBytes linesBytes
-replay-most ByLine k true h = omega arith
-replay-most ByLine k false h = omega arith
-replay-most ByWords k true h = omega arith
-replay-most ByWords k false h = omega arith
+replay-most ByLine k true h = omega (arith, group-few k)
+replay-most ByLine k false h = omega (arith, group-few k)
+replay-most ByWords k true h = omega (arith, group-few k)
+replay-most ByWords k false h = omega (arith, group-few k)
 
 redo-most : (way : Way) (a : List ℕ) (z : PageZero) → pageZero a ≡ z → length (tapeBytes (recoveryTape way a z)) ≤ redoMost way
 unfolding recoveryTape tapeBytes

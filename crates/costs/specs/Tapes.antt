@@ -1,4 +1,4 @@
--- The longest tapes: a transaction's has 1,600 bytes a page at most, a recovery's 1,108 or, by words, 1,528. So "13 tape too short" never comes where so
+-- The longest tapes: a transaction's has 1,600 bytes a page at most, a recovery's 1,116 or, by words, 1,536. So "13 tape too short" never comes where so
 -- many are lent.
 -- Assumes nothing.
 use Prim.Native.Nat.{ℕ, _*_, _/_, _≤_}
@@ -26,10 +26,10 @@ abbrev pub TapeSuffices : Type 0
 TapeSuffices =
     (way : Way) (a work tape bytes : List ℕ) → tapeMost a ≤ length tape → (r : Refusal) → transactionCall way a work tape bytes .answer ≡ transactions.Refused r → r .number ≡ 13 → ⊥
 
--- a recovery: 15 logged headers, the root word and the mark's clearing
+-- a recovery: 15 logged headers, the root word and the mark's clearing, with two barriers
 abbrev pub redoMost : Way → ℕ
-redoMost ByLine = 1108
-redoMost ByWords = 1528
+redoMost ByLine = 1116
+redoMost ByWords = 1536
 
 abbrev pub RedoUsed : Type 0
 RedoUsed = (way : Way) (a work tape : List ℕ) (c : Redone) → recoverCall way a work tape .answer ≡ recoveries.Accepted c → c .bytes ≤ redoMost way

@@ -4,7 +4,7 @@ use Prim.Native.Nat.{ℕ, zero, suc, _+_, _*_, _≤_, _<_}
 use mathlib.Core.Path.{_≡_, refl, sym, ap, _∙_}
 use mathlib.Core.List.{List, [], _∷_}
 use native.Mathlib.Omega.{arith}
-use native.Mathlib.Nat.{mul-left-comm, mul-le-mul-right, suc-mul, one-mul, zero-add, le-of-suc-le-suc, not-suc-le-zero}
+use native.Mathlib.Nat.{mul-left-comm, mul-le-mul, mul-le-mul-right, suc-mul, one-mul, zero-add, le-of-suc-le-suc, not-suc-le-zero}
 use lib.ListN.{length, getD, set}
 use lib.Seq.{set-getD}
 use Rattle.codec.specs.Lists.{All}
@@ -23,6 +23,14 @@ ways-set (m ∷ ms) (suc l) v h = ap (λ (x : ℕ). suc m * x) (ways-set ms l v 
 
 pub ways-factor : (ms : List ℕ) (l : ℕ) → l < length ms → ways ms ≡ suc (getD ms l 0) * ways (set ms l 0)
 ways-factor ms l h = sym (ap ways (set-getD ms l 0)) ∙ ways-set ms l (getD ms l 0) h
+
+-- fewer stores of each line leave fewer choices
+pub ways-fewer : (ms ns : List ℕ) → length ms ≡ length ns → ((l : ℕ) → getD ms l 0 ≤ getD ns l 0) → ways ms ≤ ways ns
+unfolding ways
+ways-fewer [] [] e h = omega arith
+ways-fewer [] (n ∷ ns) e h = absurd (omega arith)
+ways-fewer (m ∷ ms) [] e h = absurd (omega arith)
+ways-fewer (m ∷ ms) (n ∷ ns) e h = mul-le-mul {n₁ = suc m} {m₁ = ways ms} {n₂ = suc n} {m₂ = ways ns} (omega (arith, h 0)) (ways-fewer ms ns (omega arith) (λ l. h (suc l)))
 
 -- ---- the list
 

@@ -1,128 +1,183 @@
--- The lines' pending stores as a list: line by line, after one more command, and how many choices they leave.
+-- The lines' pending stores as a list, and those of them that no flush has come after: line by line, after one more command, and how many choices
+-- they leave.
 -- Assumes nothing.
 use Prim.Native.Nat.{ℕ, zero, suc, _+_, _*_, _^_, _≤_, _<_}
-use mathlib.Core.Path.{_≡_, refl, sym, ap, ap₂, _∙_, subst}
+use mathlib.Core.Path.{_≡_, refl, sym, ap, _∙_, subst, fun-ext}
 use mathlib.Core.Bool.{Bool, true, false}
 use mathlib.Core.List.{List, [], _∷_, _++_}
 use native.Mathlib.Omega.{arith}
 use native.Mathlib.Nat.{add-zero, not-suc-le-zero, mul-le-mul-right, mul-assoc, pow-suc}
-use lib.ListN.{length, getD, set, take, length-set}
+use lib.ListN.{length, getD, set, take, length-set, List·getD-eq-default}
 use lib.Seq.{getD-set-same, getD-set-other, ext-getD, set-out, take-suc}
 use lib.Dec.{ltb, eqb}
-use borrow.Author.Tests.{ltb-true, ltb-false, eqb-true, eqb-false}
+use borrow.Author.Tests.{ltb-true, ltb-false, eqb-true, eqb-false, eq-eqb, ne-eqb}
 use Rattle.codec.specs.Lists.{pick}
-use Rattle.device.specs.Tape.{Op, store, flush, malformed}
-use Rattle.device.specs.Cut.{lineOf, pending}
-use Rattle.device.proofs.Pending.{pending-nil, pending-stored, pending-flushed, pending-broken}
-use Rattle.cuts.specs.All.{pendings, headed, choicesAfter}
-use Rattle.cuts.specs.Products.{Describes, ways}
+use Rattle.device.specs.Tape.{Op, store, flush, barrier, malformed}
+use Rattle.device.specs.Cut.{lineOf, pending, unflushed}
+use Rattle.device.proofs.Pending.{
+  pending-le,
+  pending-nil,
+  pending-stored,
+  pending-flushed,
+  pending-barrier,
+  pending-broken,
+  unflushed-nil,
+  unflushed-stored,
+  unflushed-flushed,
+  unflushed-barrier,
+  unflushed-pending,
+}
+use Rattle.cuts.specs.All.{eachLine, pendings, headed, choicesAfter}
+use Rattle.cuts.specs.Products.{Describes, pendingAfter, unflushedAfter, ways}
 use Rattle.cuts.specs.declared.Command.{Command}
 use Rattle.cuts.proofs.Headed.{length-none, length-next}
-use Rattle.cuts.proofs.Choices.{ways-set, ways-factor, length-choices}
+use Rattle.cuts.proofs.Choices.{ways-set, ways-factor, ways-fewer, length-choices}
 
 -- ---- line by line
 
-pub length-pendings : (k l : ℕ) (cs : List Op) → length (pendings l k cs) ≡ k
-unfolding pendings
-length-pendings zero l cs = refl
-length-pendings (suc k) l cs = ap suc (length-pendings k (suc l) cs)
+pub length-each : (f : ℕ → ℕ) (k l : ℕ) → length (eachLine f l k) ≡ k
+unfolding eachLine
+length-each f zero l = refl
+length-each f (suc k) l = ap suc (length-each f k (suc l))
 
-getD-from : (k l i : ℕ) (cs : List Op) → i < k → getD (pendings l k cs) i 0 ≡ pending (l + i) cs
-unfolding pendings
-getD-from zero l i cs h = absurd (not-suc-le-zero h)
-getD-from (suc k) l zero cs h = ap (λ (x : ℕ). pending x cs) (sym (add-zero l))
-getD-from (suc k) l (suc i) cs h = let e : suc l + i ≡ l + suc i = omega arith in getD-from k (suc l) i cs (omega arith) ∙ ap (λ (x : ℕ). pending x cs) e
+getD-from : (f : ℕ → ℕ) (k l i : ℕ) → i < k → getD (eachLine f l k) i 0 ≡ f (l + i)
+unfolding eachLine
+getD-from f zero l i h = absurd (not-suc-le-zero h)
+getD-from f (suc k) l zero h = ap f (sym (add-zero l))
+getD-from f (suc k) l (suc i) h = let e : suc l + i ≡ l + suc i = omega arith in getD-from f k (suc l) i (omega arith) ∙ ap f e
+
+pub getD-each : (f : ℕ → ℕ) (lines l : ℕ) → l < lines → getD (eachLine f 0 lines) l 0 ≡ f l
+getD-each f lines l h = let e : 0 + l ≡ l = omega arith in getD-from f lines 0 l h ∙ ap f e
+
+-- a list with these numbers
+each-is : (f : ℕ → ℕ) (lines : ℕ) (zs : List ℕ) → length zs ≡ lines → ((l : ℕ) → l < lines → getD zs l 0 ≡ f l) → zs ≡ eachLine f 0 lines
+each-is f lines zs n h = ext-getD 0 zs (eachLine f 0 lines) (n ∙ sym (length-each f lines 0)) (λ l k. h l (omega (arith, n)) ∙ sym (getD-each f lines l (omega (arith, n))))
+
+pub length-pendings : (k l : ℕ) (cs : List Op) → length (pendings l k cs) ≡ k
+length-pendings k l cs = length-each (λ m. pending m cs) k l
 
 pub getD-pendings : (lines l : ℕ) (cs : List Op) → l < lines → getD (pendings 0 lines cs) l 0 ≡ pending l cs
-getD-pendings lines l cs h = let e : 0 + l ≡ l = omega arith in getD-from lines 0 l cs h ∙ ap (λ (x : ℕ). pending x cs) e
+getD-pendings lines l cs h = getD-each (λ m. pending m cs) lines l h
+
+-- the stores of the lines that no flush has come after
+abbrev pub unflusheds : ℕ → List Op → List ℕ
+unflusheds lines cs = eachLine (λ m. unflushed m cs) 0 lines
 
 -- before the first command
-pub pendings-none : (lines : ℕ) (zs : List ℕ) → length zs ≡ lines → ((l : ℕ) → getD zs l 0 ≡ 0) → zs ≡ pendings 0 lines []
-pendings-none lines zs n h = ext-getD 0 zs (pendings 0 lines []) (n ∙ sym (length-pendings lines 0 [])) (λ l k. h l ∙ sym (getD-pendings lines l [] (omega (arith, n)) ∙ pending-nil l))
+pub pendings-none : (lines : ℕ) (zs : List ℕ) → length zs ≡ lines → ((l : ℕ) → getD zs l 0 ≡ 0) → (zs ≡ pendings 0 lines []) × (zs ≡ unflusheds lines [])
+pendings-none lines zs n h = (each-is (λ m. pending m []) lines zs n (λ l k. h l ∙ sym (pending-nil l)), each-is (λ m. unflushed m []) lines zs n (λ l k. h l ∙ sym (unflushed-nil l)))
+
+-- no line has more that are not flushed than are pending
+pub fewer-unflushed : (lines : ℕ) (cs : List Op) (l : ℕ) → getD (unflusheds lines cs) l 0 ≤ getD (pendings 0 lines cs) l 0
+fewer-unflushed lines cs l = go (ltb l lines) refl
+  where
+    go : (b : Bool) → ltb l lines ≡ b → getD (unflusheds lines cs) l 0 ≤ getD (pendings 0 lines cs) l 0
+    go true e =
+        let h = ltb-true l lines e in
+        omega (arith, getD-pendings lines l cs h, getD-each (λ m. unflushed m cs) lines l h, unflushed-pending l cs)
+    go false e = omega (arith, List·getD-eq-default (unflusheds lines cs) 0 {n = l} (omega (arith, ltb-false l lines e, length-each (λ m. unflushed m cs) lines 0)))
+
+-- and none more that are pending than there are commands
+pub line-few : (lines : ℕ) (cs : List Op) (l : ℕ) → getD (pendings 0 lines cs) l 0 ≤ length cs
+line-few lines cs l = go (ltb l lines) refl
+  where
+    go : (b : Bool) → ltb l lines ≡ b → getD (pendings 0 lines cs) l 0 ≤ length cs
+    go true e = omega (arith, getD-pendings lines l cs (ltb-true l lines e), pending-le l cs)
+    go false e = omega (arith, List·getD-eq-default (pendings 0 lines cs) 0 {n = l} (omega (arith, ltb-false l lines e, length-pendings lines 0 cs)))
 
 -- ---- after one more command
 
--- what a command makes of its line's number
-abbrev pub counted : Command → ℕ → ℕ
-counted m k = pick (m .stores) (k + 1) 0
+-- the number of line m changed, by a function that takes what was there
+module _ (f g : ℕ → ℕ) (lines m : ℕ) (new : ℕ → ℕ) (here : (l : ℕ) → m ≡ l → g l ≡ new (f l)) (there : (l : ℕ) → (m ≡ l → ⊥) → g l ≡ f l) where
+  each-set : set (eachLine f 0 lines) m (new (getD (eachLine f 0 lines) m 0)) ≡ eachLine g 0 lines
+  each-set = each-is g lines (set ps m v) (length-set ps m v ∙ length-each f lines 0) at
+    where
+      ps : List ℕ
+      ps = eachLine f 0 lines
 
-pending-next : (o : Op) (m : Command) → Describes o m → (xs : List Op) (l : ℕ) → pending l (xs ++ o ∷ []) ≡ pick (eqb (m .line) l) (counted m (pending l xs)) (pending l xs)
-pending-next (store p vs) m k xs l = pending-stored l xs p vs ∙ rw (k .0, k .2) (go (eqb (lineOf p) l))
-  where
-    go : (b : Bool) → pick b 1 0 + pending l xs ≡ pick b (pending l xs + 1) (pending l xs)
-    go true = omega arith
-    go false = omega arith
-pending-next (flush n) m k xs l = pending-flushed l xs n ∙ rw (k .0, k .2)
-pending-next malformed m k xs l = absurd k
+      v : ℕ
+      v = new (getD (eachLine f 0 lines) m 0)
 
-pub pendings-next : (lines : ℕ) (o : Op) (m : Command) → Describes o m → (xs : List Op) →
-    set (pendings 0 lines xs) (m .line) (counted m (getD (pendings 0 lines xs) (m .line) 0)) ≡ pendings 0 lines (xs ++ o ∷ [])
-pendings-next lines o m k xs =
-    ext-getD 0 (set ps (m .line) v) (pendings 0 lines (xs ++ o ∷ [])) (length-set ps (m .line) v ∙ long xs ∙ sym (long (xs ++ o ∷ []))) (λ l h. at l (omega (arith, length-set ps (m .line) v, long xs)))
-  where
-    ps : List ℕ
-    ps = pendings 0 lines xs
+      at : (l : ℕ) → l < lines → getD (set ps m v) l 0 ≡ g l
+      at l h = go (eqb m l) refl
+        where
+          go : (b : Bool) → eqb m l ≡ b → getD (set ps m v) l 0 ≡ g l
+          go true e =
+              let s : m ≡ l = eqb-true m l e in
+              rw s (getD-set-same ps l (new (getD ps l 0)) 0 (omega (arith, length-each f lines 0)) ∙ ap new (getD-each f lines l h)) ∙ sym (here l s)
+          go false e =
+              let other = eqb-false m l e in
+              getD-set-other ps m l v 0 (λ q. other (sym q)) ∙ getD-each f lines l h ∙ sym (there l other)
 
-    v : ℕ
-    v = counted m (getD (pendings 0 lines xs) (m .line) 0)
+-- a store counts one more of its line, whatever is counted
+module _ (count : ℕ → List Op → ℕ) (stored : (l : ℕ) (xs : List Op) (p : ℕ) (vs : List ℕ) → count l (xs ++ (store p vs ∷ [])) ≡ pick (eqb (lineOf p) l) 1 0 + count l xs) where
+  each-stored : (lines : ℕ) (xs : List Op) (p : ℕ) (vs : List ℕ) (m : ℕ) → m ≡ lineOf p →
+      set (eachLine (λ l. count l xs) 0 lines) m (getD (eachLine (λ l. count l xs) 0 lines) m 0 + 1) ≡ eachLine (λ l. count l (xs ++ (store p vs ∷ []))) 0 lines
+  each-stored lines xs p vs m e =
+      each-set (λ l. count l xs) (λ l. count l (xs ++ (store p vs ∷ []))) lines m (λ k. k + 1)
+      (λ l q. stored l xs p vs ∙ rw (eq-eqb (lineOf p) l (sym e ∙ q)) (omega arith)) (λ l q. stored l xs p vs ∙ rw (ne-eqb (lineOf p) l (λ r. q (e ∙ r))) (omega arith))
 
-    long : (ys : List Op) → length (pendings 0 lines ys) ≡ lines
-    long ys = length-pendings lines 0 ys
+module _ (lines : ℕ) (xs : List Op) where
+  pub pendings-next : (o : Op) (m : Command) → Describes o m → pendingAfter (m .does) (m .line) (pendings 0 lines xs) (unflusheds lines xs) ≡ pendings 0 lines (xs ++ (o ∷ []))
+  unfolding pendingAfter
+  pendings-next (store p vs) m k = rw (k .2) (each-stored pending pending-stored lines xs p vs (m .line) (k .0))
+  pendings-next (flush n) m k = rw (k .2) (ap (λ (f : ℕ → ℕ). eachLine f 0 lines) (fun-ext (λ l. sym (pending-flushed l xs n))))
+  pendings-next barrier m k = rw (k .2) (ap (λ (f : ℕ → ℕ). eachLine f 0 lines) (fun-ext (λ l. sym (pending-barrier l xs))))
+  pendings-next malformed m k = absurd k
 
-    at : (l : ℕ) → l < lines → getD (set ps (m .line) v) l 0 ≡ getD (pendings 0 lines (xs ++ o ∷ [])) l 0
-    at l h = go (eqb (m .line) l) refl ∙ sym (getD-pendings lines l (xs ++ o ∷ []) h ∙ pending-next o m k xs l)
-      where
-        go : (b : Bool) → eqb (m .line) l ≡ b → getD (set ps (m .line) v) l 0 ≡ pick b (counted m (pending l xs)) (pending l xs)
-        go true e =
-            let s : m .line ≡ l = eqb-true (m .line) l e in
-            rw s (getD-set-same ps l (counted m (getD ps l 0)) 0 (omega (arith, long xs)) ∙ ap (counted m) (getD-pendings lines l xs h))
-        go false e = getD-set-other ps (m .line) l v 0 (λ q. eqb-false (m .line) l e (sym q)) ∙ getD-pendings lines l xs h
+  pub unflusheds-next : (o : Op) (m : Command) → Describes o m → unflushedAfter (m .does) (m .line) (unflusheds lines xs) ≡ unflusheds lines (xs ++ (o ∷ []))
+  unfolding unflushedAfter
+  unflusheds-next (store p vs) m k = rw (k .2) (each-stored unflushed unflushed-stored lines xs p vs (m .line) (k .0))
+  unflusheds-next (flush n) m k =
+      rw (k .2)
+      (each-set (λ l. unflushed l xs) (λ l. unflushed l (xs ++ (flush n ∷ []))) lines (m .line) (λ i. 0) (λ l q. unflushed-flushed l xs n ∙ rw (eq-eqb n l (sym (k .0) ∙ q)))
+      (λ l q. unflushed-flushed l xs n ∙ rw (ne-eqb n l (λ r. q (k .0 ∙ r)))))
+  unflusheds-next barrier m k = rw (k .2) (ap (λ (f : ℕ → ℕ). eachLine f 0 lines) (fun-ext (λ l. sym (unflushed-barrier l xs))))
+  unflusheds-next malformed m k = absurd k
 
 -- ---- how many choices they leave
 
-same-pending : (k l : ℕ) (xs ys : List Op) → ((i : ℕ) → pending i xs ≡ pending i ys) → pendings l k xs ≡ pendings l k ys
-unfolding pendings
-same-pending zero l xs ys h = refl
-same-pending (suc k) l xs ys h = ap₂ (λ (m : ℕ) (ms : List ℕ). m ∷ ms) (h l) (same-pending k (suc l) xs ys h)
-
 pub ways-none : (k l : ℕ) → ways (pendings l k []) ≡ 1
-unfolding pendings ways
+unfolding eachLine ways
 ways-none zero l = refl
 ways-none (suc k) l = rw (pending-nil l, ways-none k (suc l))
 
 module _ (lines : ℕ) where
-  -- a store or flush at most doubles them
-  command-doubles : (o : Op) (m : Command) → Describes o m → (xs : List Op) → ways (pendings 0 lines (xs ++ o ∷ [])) ≤ 2 * ways (pendings 0 lines xs)
-  command-doubles o m k xs = subst (λ (ps : List ℕ). ways ps ≤ 2 * ways old) (pendings-next lines o m k xs) (go (ltb (m .line) lines) refl)
+  -- those that are not flushed leave fewer
+  pub ways-unflushed : (xs : List Op) → ways (unflusheds lines xs) ≤ ways (pendings 0 lines xs)
+  ways-unflushed xs =
+      ways-fewer (unflusheds lines xs) (pendings 0 lines xs) (length-each (λ m. unflushed m xs) lines 0 ∙ sym (length-pendings lines 0 xs)) (fewer-unflushed lines xs)
+
+  -- a store at most doubles them
+  store-doubles : (p : ℕ) (vs : List ℕ) (xs : List Op) → ways (pendings 0 lines (xs ++ (store p vs ∷ []))) ≤ 2 * ways (pendings 0 lines xs)
+  store-doubles p vs xs = subst (λ (ps : List ℕ). ways ps ≤ 2 * ways old) (each-stored pending pending-stored lines xs p vs (lineOf p) refl) (go (ltb (lineOf p) lines) refl)
     where
       old : List ℕ
       old = pendings 0 lines xs
 
       new : ℕ
-      new = counted m (getD (pendings 0 lines xs) (m .line) 0)
+      new = getD (pendings 0 lines xs) (lineOf p) 0 + 1
 
-      more : (b : Bool) (i : ℕ) → suc (pick b (i + 1) 0) ≤ 2 * suc i
-      more true i = omega arith
-      more false i = omega arith
-
-      go : (b : Bool) → ltb (m .line) lines ≡ b → ways (set old (m .line) new) ≤ 2 * ways old
+      go : (b : Bool) → ltb (lineOf p) lines ≡ b → ways (set old (lineOf p) new) ≤ 2 * ways old
       go true e =
-          let there : m .line < length old = omega (arith, ltb-true (m .line) lines e, length-pendings lines 0 xs) in
-          let others = ways (set old (m .line) 0) in
-          let k = getD old (m .line) 0 in
-          let double : suc new * others ≤ 2 * suc k * others = mul-le-mul-right others (more (m .stores) k) in
-          omega (arith, double, ways-set old (m .line) new there, ways-factor old (m .line) there, mul-assoc 2 (suc k) others)
-      go false e = let out : set old (m .line) new ≡ old = set-out old (m .line) new (omega (arith, ltb-false (m .line) lines e, length-pendings lines 0 xs)) in rw out (omega arith)
+          let there : lineOf p < length old = omega (arith, ltb-true (lineOf p) lines e, length-pendings lines 0 xs) in
+          let others = ways (set old (lineOf p) 0) in
+          let k = getD old (lineOf p) 0 in
+          let double : suc new * others ≤ 2 * suc k * others = mul-le-mul-right others (omega arith) in
+          omega (arith, double, ways-set old (lineOf p) new there, ways-factor old (lineOf p) there, mul-assoc 2 (suc k) others)
+      go false e = let out : set old (lineOf p) new ≡ old = set-out old (lineOf p) new (omega (arith, ltb-false (lineOf p) lines e, length-pendings lines 0 xs)) in rw out (omega arith)
 
-  doubles : (o : Op) (xs : List Op) → ways (pendings 0 lines (xs ++ o ∷ [])) ≤ 2 * ways (pendings 0 lines xs)
-  doubles (store p vs) xs = command-doubles (store p vs) (record { line = lineOf p; size = 4 + length vs; stores = true }) (refl, refl, refl) xs
-  doubles (flush l) xs = command-doubles (flush l) (record { line = l; size = 4; stores = false }) (refl, refl, refl) xs
-  doubles malformed xs = let same = same-pending lines 0 (xs ++ malformed ∷ []) xs (λ l. pending-broken l xs) in rw same (omega arith)
+  -- and any other command leaves no more
+  doubles : (o : Op) (xs : List Op) → ways (pendings 0 lines (xs ++ (o ∷ []))) ≤ 2 * ways (pendings 0 lines xs)
+  doubles (store p vs) xs = store-doubles p vs xs
+  doubles (flush l) xs = omega (arith, ap (λ (f : ℕ → ℕ). ways (eachLine f 0 lines)) (fun-ext (λ m. pending-flushed m xs l)))
+  doubles barrier xs = omega (arith, ap (λ (f : ℕ → ℕ). ways (eachLine f 0 lines)) (fun-ext (λ m. pending-barrier m xs)), ways-unflushed xs)
+  doubles malformed xs = omega (arith, ap (λ (f : ℕ → ℕ). ways (eachLine f 0 lines)) (fun-ext (λ m. pending-broken m xs)))
 
   pub ways-bound : (cs : List Op) (c : ℕ) → c ≤ length cs → ways (pendings 0 lines (take c cs)) ≤ 2 ^ c
   ways-bound cs zero h = omega (arith, ways-none lines 0)
   ways-bound cs (suc c) h =
-      let next : take (suc c) cs ≡ take c cs ++ getD cs c malformed ∷ [] = take-suc cs c malformed (omega arith) in
+      let next : take (suc c) cs ≡ take c cs ++ (getD cs c malformed ∷ []) = take-suc cs c malformed (omega arith) in
       rw next (omega (arith, doubles (getD cs c malformed) (take c cs), ways-bound cs c (omega arith), pow-suc 2 c))
 
   pub before-bound : (cs : List Op) (c : ℕ) → c ≤ suc (length cs) → length (headed 0 c (choicesAfter lines cs)) < 2 ^ c

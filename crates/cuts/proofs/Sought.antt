@@ -38,8 +38,8 @@ module _ (lines : ℕ) (tape : List ℕ) (room : lines ≤ 1024) where
 
   -- what `seek` asks of a small tape
   pub front-asks : wellFormed (decode (64 * lines) tape) ≡ true → length (decode (64 * lines) tape) ≤ 12 →
-      ((l : ℕ) → getD front l 0 ≡ 0) × ((wellFormed (decode (64 * length front) tape) ≡ true) × (length (decode (64 * length front) tape) ≤ 12))
-  front-asks formed few = (front-zeros lines 1024, subst (λ (n : ℕ). (wellFormed (decode (64 * n) tape) ≡ true) × (length (decode (64 * n) tape) ≤ 12)) (sym same) (formed, few))
+      ((l : ℕ) → getD front l 0 ≡ 0) × (length front ≤ 1024) × ((wellFormed (decode (64 * length front) tape) ≡ true) × (length (decode (64 * length front) tape) ≤ 12))
+  front-asks formed few = (front-zeros lines 1024, omega (arith, same), subst (λ (n : ℕ). (wellFormed (decode (64 * n) tape) ≡ true) × (length (decode (64 * n) tape) ≤ 12)) (sym same) (formed, few))
 
   -- and what it gives
   pub front-gives : (r : ℕ) (p : Place) (ms named : List ℕ) → Sought (length front) (decode (64 * length front) tape) r p ms named → Sought lines (decode (64 * lines) tape) r p ms named

@@ -6,10 +6,14 @@ use lib.ListN.{length, take}
 use Rattle.device.specs.Tape.{Op}
 use Rattle.device.specs.Cut.{pending}
 
--- the pending stores of k lines, from line l on
-unfoldable pub pendings : ℕ → ℕ → List Op → List ℕ
-pendings l zero cs = []
-pendings l (suc k) cs = pending l cs ∷ pendings (suc l) k cs
+-- a number for each of k lines, from line l on
+unfoldable pub eachLine : (ℕ → ℕ) → ℕ → ℕ → List ℕ
+eachLine f l zero = []
+eachLine f l (suc k) = f l ∷ eachLine f (suc l) k
+
+-- their pending stores
+abbrev pub pendings : ℕ → ℕ → List Op → List ℕ
+pendings l k cs = eachLine (λ m. pending m cs) l k
 
 -- k numbers, rising from x, each in front of every list that may follow it
 unfoldable pub headed : ℕ → ℕ → (ℕ → List (List ℕ)) → List (List ℕ)

@@ -3,20 +3,40 @@
 use Prim.Native.Nat.{ℕ, suc, _+_, _*_, _≤_, _<_}
 use mathlib.Core.Path.{_≡_}
 use mathlib.Core.Logic.{_⊎_}
-use mathlib.Core.Bool.{true, false}
 use mathlib.Core.List.{List, [], _∷_}
-use lib.ListN.{length, getD, take}
-use Rattle.device.specs.Tape.{Op, store, flush, malformed, decode}
+use lib.ListN.{length, getD, set, take}
+use Rattle.device.specs.Tape.{Op, store, flush, barrier, malformed, decode}
 use Rattle.device.specs.Cut.{lineOf}
 use Rattle.cuts.specs.All.{pendings, headed, choicesAfter, cuts}
+use Rattle.cuts.specs.declared.Does.{Does}
+use Rattle.cuts.specs.declared.Does.the-variants.{Stores, Flushes, Waits}
 use Rattle.cuts.specs.declared.Command.{Command}
 use Rattle.cuts.specs.declared.Place.{Place}
 
--- a command by the line that it stores to or flushes, its bytes on the tape, and whether it stores
+-- a command by what it does, the line that it stores to or flushes, which is 0 for a barrier, and its bytes on the tape
 abbrev pub Describes : Op → Command → Type 0
-Describes (store p vs) m = (m .line ≡ lineOf p) × (m .size ≡ 4 + length vs) × (m .stores ≡ true)
-Describes (flush l) m = (m .line ≡ l) × (m .size ≡ 4) × (m .stores ≡ false)
+Describes (store p vs) m = (m .line ≡ lineOf p) × (m .size ≡ 4 + length vs) × (m .does ≡ Stores)
+Describes (flush l) m = (m .line ≡ l) × (m .size ≡ 4) × (m .does ≡ Flushes)
+Describes barrier m = (m .line ≡ 0) × (m .size ≡ 4) × (m .does ≡ Waits)
 Describes malformed m = ⊥
+
+-- the lines' pending stores ms, and those that no flush has come after, us: each after one more command, which is of line l. A barrier makes
+-- durable what was flushed
+unfoldable pub pendingAfter : Does → ℕ → List ℕ → List ℕ → List ℕ
+pendingAfter Stores l ms us = set ms l (getD ms l 0 + 1)
+pendingAfter Flushes l ms us = ms
+pendingAfter Waits l ms us = us
+
+unfoldable pub unflushedAfter : Does → ℕ → List ℕ → List ℕ
+unflushedAfter Stores l us = set us l (getD us l 0 + 1)
+unflushedAfter Flushes l us = set us l 0
+unflushedAfter Waits l us = us
+
+-- a line of so many, unless the command is a barrier, which is of none
+unfoldable pub LineIn : Does → ℕ → ℕ → Type 0
+LineIn Stores l lines = l < lines
+LineIn Flushes l lines = l < lines
+LineIn Waits l lines = Unit {0}
 
 -- the cuts of a tape over an image of so many lines
 abbrev pub cutsOver : ℕ → List ℕ → List (List ℕ)

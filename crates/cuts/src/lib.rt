@@ -10,7 +10,7 @@ ghost use lib.ListN.{length, drop, getD, set};
 ghost use Rattle.codec.specs.Lists.{pick};
 ghost use Rattle.device.specs.Tape.{isCommand, front, decode, wellFormed};
 ghost use Rattle.cuts.specs.All.{choicesUpTo};
-ghost use Rattle.cuts.specs.Products.{Describes, cutsOver, ways, Names, Highest, Sought};
+ghost use Rattle.cuts.specs.Products.{Describes, pendingAfter, unflushedAfter, LineIn, cutsOver, ways, Names, Highest, Sought};
 ghost use Rattle.cuts.specs.Calls.{smallTape, countCall, nthOf, withCut, nthCall};
 
 // What the calls answer: the number of cuts, or a cut's count of commands.
@@ -19,11 +19,18 @@ pub enum Counted {
     Refused(Refusal),
 }
 
-// A command: the line that it stores to or flushes, its bytes on the tape, and whether it stores.
+// What a command does: a barrier waits for the flushes before it.
+pub enum Does {
+    Stores,
+    Flushes,
+    Waits,
+}
+
+// A command: what it does, the line that it stores to or flushes, which is 0 for a barrier, and its bytes on the tape.
 pub struct Command {
+    pub does: Does,
     pub line: usize,
     pub size: usize,
-    pub stores: bool,
 }
 
 // Where a cut stands: its count of commands, and its number among the cuts of that count.
@@ -40,9 +47,9 @@ fn small_tape(image: &[u8], tape: &[u8]) -> Counted
     if !device::is_image_size(n) {
         return Counted::Refused(Refusal::of(Refusal::IMAGE_SIZE));
     }
-    match device::count_commands(tape, n) {
+    match device::judge(tape, n, 0) {
         Scan::Broken => Counted::Refused(Refusal::of(Refusal::BAD_TAPE)),
-        Scan::Commands(count) => {
+        Scan::Commands(count, _) => {
             if 12 < count {
                 return Counted::Refused(Refusal::of(Refusal::LONG_TAPE));
             }
@@ -60,47 +67,99 @@ fn command_at(tape: &[u8], at: usize) -> Command
     let place = codec::number_at(tape, at + 2);
     if kind == 1 {
         return Command {
+            does: Does::Stores,
             line: place / 8,
             size: 12,
-            stores: true,
         };
     }
     if kind == 2 {
         return Command {
+            does: Does::Stores,
             line: place,
             size: 68,
-            stores: true,
+        };
+    }
+    if kind == 3 {
+        return Command {
+            does: Does::Flushes,
+            line: place,
+            size: 4,
         };
     }
     Command {
-        line: place,
+        does: Does::Waits,
+        line: 0,
         size: 4,
-        stores: false,
     }
 }
 
-// Counts a line's pending stores after one more command. In the product over all lines its new factor takes the place of the old.
-fn tally(pending: &mut [u8], product: usize, line: usize, stores: bool) -> usize
-    requires { ⌜ (line < length (now pending)) × (getD (now pending) line 0 ≤ 12) ⌝ }
-    requires { ⌜ (product ≡ ways (now pending)) × (product ≤ 4096) ⌝ }
-    ensures { λ r. ⌜ r ≡ ways (now (pending .exit)) ⌝ }
-    ensures { λ _. ⌜ now (pending .exit) ≡ set (now (pending .entry)) line (pick stores (getD (now (pending .entry)) line 0 + 1) 0) ⌝ }
+// Counts one more store of a line, or none of it any more. In the product over all lines its new factor takes the place of the old.
+fn tally(counts: &mut [u8], product: usize, line: usize, stores: bool) -> usize
+    requires { ⌜ (line < length (now counts)) × (getD (now counts) line 0 ≤ 12) ⌝ }
+    requires { ⌜ (product ≡ ways (now counts)) × (product ≤ 4096) ⌝ }
+    ensures { λ r. ⌜ r ≡ ways (now (counts .exit)) ⌝ }
+    ensures { λ _. ⌜ now (counts .exit) ≡ set (now (counts .entry)) line (pick stores (getD (now (counts .entry)) line 0 + 1) 0) ⌝ }
 {
-    let old = pending[line];
+    let old = counts[line];
     let factor = codec::wide(old) + 1;
     let others = product / factor;
     if stores {
-        pending[line] = old + 1;
+        counts[line] = old + 1;
         return others * (factor + 1);
     }
-    pending[line] = 0;
+    counts[line] = 0;
     others
 }
 
+// Counts the lines' pending stores after one more command, and their product: a flush makes none of them durable, and a barrier all that were
+// flushed. `later` is the product of those that were not.
+fn count_pending(
+    pending: &mut [u8],
+    unflushed: &[u8],
+    product: usize,
+    later: usize,
+    does: Does,
+    line: usize,
+) -> usize
+    requires { ⌜ LineIn does line (length (now pending)) × (length (now unflushed) ≡ length (now pending)) × (length (now pending) ≤ 1024) × (getD (now pending) line 0 ≤ 12) ⌝ }
+    requires { ⌜ (product ≡ ways (now pending)) × (later ≡ ways (now unflushed)) × (product ≤ 4096) ⌝ }
+    ensures { λ r. ⌜ r ≡ ways (now (pending .exit)) ⌝ }
+    ensures { λ _. ⌜ now (pending .exit) ≡ pendingAfter does line (now (pending .entry)) (now (unflushed .entry)) ⌝ }
+{
+    match does {
+        Does::Stores => tally(pending, product, line, true),
+        Does::Flushes => product,
+        Does::Waits => {
+            codec::copy_all(pending, unflushed);
+            later
+        }
+    }
+}
+
+// Counts those that no flush has come after, and their product.
+fn count_unflushed(unflushed: &mut [u8], later: usize, does: Does, line: usize) -> usize
+    requires { ⌜ LineIn does line (length (now unflushed)) × (getD (now unflushed) line 0 ≤ 12) ⌝ }
+    requires { ⌜ (later ≡ ways (now unflushed)) × (later ≤ 4096) ⌝ }
+    ensures { λ r. ⌜ r ≡ ways (now (unflushed .exit)) ⌝ }
+    ensures { λ _. ⌜ now (unflushed .exit) ≡ unflushedAfter does line (now (unflushed .entry)) ⌝ }
+{
+    match does {
+        Does::Stores => tally(unflushed, later, line, true),
+        Does::Flushes => tally(unflushed, later, line, false),
+        Does::Waits => later,
+    }
+}
+
 // Where cut number r stands: past the cuts after 0 commands, after 1, and so on, as long as enough are left; past them all, one command further than
-// there are. Leaves each line's pending stores there, and the line of each command.
-fn seek(pending: &mut [u8], named: &mut [usize], tape: &[u8], r: usize) -> Place
-    requires { ⌜ ((l : ℕ) → getD (now pending) l 0 ≡ 0) × (length (now named) ≡ 12) ⌝ }
+// there are. Leaves each line's pending stores there, and the line of each command. `unflushed` is room for its own counts.
+fn seek(
+    pending: &mut [u8],
+    unflushed: &mut [u8],
+    named: &mut [usize],
+    tape: &[u8],
+    r: usize,
+) -> Place
+    requires { ⌜ ((l : ℕ) → getD (now pending) l 0 ≡ 0) × ((l : ℕ) → getD (now unflushed) l 0 ≡ 0) × (length (now unflushed) ≡ length (now pending)) × (length (now pending) ≤ 1024) × (length (now named) ≡ 12) ⌝ }
     requires { ⌜ (wellFormed (decode (64 * length (now pending)) (now tape)) ≡ true) × (length (decode (64 * length (now pending)) (now tape)) ≤ 12) ⌝ }
     ensures { λ p. ⌜ Sought (length (now (pending .entry))) (decode (64 * length (now (pending .entry))) (now (tape .entry))) r p (now (pending .exit)) (now (named .exit)) ⌝ }
 {
@@ -108,6 +167,7 @@ fn seek(pending: &mut [u8], named: &mut [usize], tape: &[u8], r: usize) -> Place
     let mut commands = 0;
     let mut rest = r;
     let mut product = 1;
+    let mut later = 1;
     while product <= rest {
         rest = rest - product;
         if at == tape.len() {
@@ -117,9 +177,11 @@ fn seek(pending: &mut [u8], named: &mut [usize], tape: &[u8], r: usize) -> Place
             };
         }
         let next = command_at(tape, at);
+        let does = next.does;
         let line = next.line;
         named[commands] = line;
-        product = tally(pending, product, line, next.stores);
+        product = count_pending(pending, unflushed, product, later, does, line);
+        later = count_unflushed(unflushed, later, does, line);
         at = at + next.size;
         commands = commands + 1;
     }
@@ -178,8 +240,15 @@ fn number_of_cuts(tape: &[u8], lines: usize) -> usize
     ensures { λ r. ⌜ r ≡ length (cutsOver lines (now (tape .entry))) ⌝ }
 {
     let mut pending = [0u8; 1024];
+    let mut unflushed = [0u8; 1024];
     let mut named = [0usize; 12];
-    let end = seek(&mut pending[..lines], &mut named, tape, 8191);
+    let end = seek(
+        &mut pending[..lines],
+        &mut unflushed[..lines],
+        &mut named,
+        tape,
+        8191,
+    );
     8191 - end.rest
 }
 
@@ -202,8 +271,15 @@ fn find_cut(choices: &mut [u8], tape: &[u8], r: usize, count: usize) -> Counted
 {
     let lines = choices.len();
     let mut pending = [0u8; 1024];
+    let mut unflushed = [0u8; 1024];
     let mut named = [0usize; 12];
-    let place = seek(&mut pending[..lines], &mut named, tape, r);
+    let place = seek(
+        &mut pending[..lines],
+        &mut unflushed[..lines],
+        &mut named,
+        tape,
+        r,
+    );
     let commands = place.commands;
     if count < commands {
         return Counted::Refused(Refusal::of(Refusal::NO_SUCH_CUT));

@@ -5,10 +5,9 @@ use mathlib.Core.Path.{_≡_, refl}
 use mathlib.Core.Bool.{true, false, _||_}
 use mathlib.Core.List.{List, [], _∷_}
 use lib.Seq.{sets}
-use lib.Dec.{eqb}
 use borrow.Author.Tests.{eq-eqb}
-use Rattle.device.specs.Tape.{Op, store, flush, wellFormed, flushCount}
-use Rattle.device.specs.Cut.{after, lineOf, durable, hits, touches, stores, Closed, Sealed}
+use Rattle.device.specs.Tape.{Op, store, flush, barrier, wellFormed, howMany, flushCount, barrierCount}
+use Rattle.device.specs.Cut.{after, lineOf, flushesLine, some, durable, hits, touches, stores, Closed}
 
 pub after-nil : (image : List ℕ) → after image [] ≡ image
 unfolding after
@@ -19,7 +18,7 @@ unfolding wellFormed
 wellFormed-nil = refl
 
 pub flushCount-nil : flushCount [] ≡ 0
-unfolding flushCount
+unfolding howMany
 flushCount-nil = refl
 
 pub durable-nil : (l : ℕ) → durable l [] ≡ false
@@ -38,10 +37,6 @@ pub closed-nil : Closed []
 unfolding Closed
 closed-nil = tt
 
-pub sealed-nil : (ds : List Op) → Sealed [] ds
-unfolding Sealed
-sealed-nil ds = tt
-
 module _ (p : ℕ) (vs : List ℕ) (cs : List Op) where
   pub after-store : (image : List ℕ) → after image (store p vs ∷ cs) ≡ after (sets image p vs) cs
   unfolding after
@@ -52,7 +47,7 @@ module _ (p : ℕ) (vs : List ℕ) (cs : List Op) where
   wellFormed-store = refl
 
   pub flushCount-store : flushCount (store p vs ∷ cs) ≡ flushCount cs
-  unfolding flushCount
+  unfolding howMany
   flushCount-store = refl
 
   pub durable-store : (l : ℕ) → durable l (store p vs ∷ cs) ≡ durable l cs
@@ -71,10 +66,6 @@ module _ (p : ℕ) (vs : List ℕ) (cs : List Op) where
   unfolding Closed
   closed-store e c = (e, c)
 
-  pub sealed-store : (ds : List Op) → durable (lineOf p) ds ≡ true → Sealed cs ds → Sealed (store p vs ∷ cs) ds
-  unfolding Sealed
-  sealed-store ds e s = (e, s)
-
 module _ (m : ℕ) (cs : List Op) where
   pub after-flush : (image : List ℕ) → after image (flush m ∷ cs) ≡ after image cs
   unfolding after
@@ -85,16 +76,12 @@ module _ (m : ℕ) (cs : List Op) where
   wellFormed-flush = refl
 
   pub flushCount-flush : flushCount (flush m ∷ cs) ≡ suc (flushCount cs)
-  unfolding flushCount
+  unfolding howMany
   flushCount-flush = refl
 
-  pub durable-flush : (l : ℕ) → durable l (flush m ∷ cs) ≡ (eqb m l || durable l cs)
-  unfolding durable
-  durable-flush l = refl
-
-  pub durable-here : durable m (flush m ∷ cs) ≡ true
-  unfolding durable
-  durable-here = rw (eq-eqb m m refl)
+  pub flushed-here : some (flushesLine m) (flush m ∷ cs) ≡ true
+  unfolding some
+  flushed-here = rw (eq-eqb m m refl)
 
   pub touches-flush : (i : ℕ) → touches (flush m ∷ cs) i ≡ touches cs i
   unfolding touches
@@ -108,6 +95,32 @@ module _ (m : ℕ) (cs : List Op) where
   unfolding Closed
   closed-flush c = c
 
-  pub sealed-flush : (ds : List Op) → Sealed cs ds → Sealed (flush m ∷ cs) ds
-  unfolding Sealed
-  sealed-flush ds s = s
+module _ (cs : List Op) where
+  pub after-barrier : (image : List ℕ) → after image (barrier ∷ cs) ≡ after image cs
+  unfolding after
+  after-barrier image = refl
+
+  pub wellFormed-barrier : wellFormed (barrier ∷ cs) ≡ wellFormed cs
+  unfolding wellFormed
+  wellFormed-barrier = refl
+
+  -- a barrier is no flush
+  pub flushCount-barrier : flushCount (barrier ∷ cs) ≡ flushCount cs
+  unfolding howMany
+  flushCount-barrier = refl
+
+  pub barrierCount-barrier : barrierCount (barrier ∷ cs) ≡ suc (barrierCount cs)
+  unfolding howMany
+  barrierCount-barrier = refl
+
+  pub touches-barrier : (i : ℕ) → touches (barrier ∷ cs) i ≡ touches cs i
+  unfolding touches
+  touches-barrier i = refl
+
+  pub stores-barrier : stores (barrier ∷ cs) ≡ stores cs
+  unfolding stores
+  stores-barrier = refl
+
+  pub closed-barrier : Closed cs → Closed (barrier ∷ cs)
+  unfolding Closed
+  closed-barrier c = c

@@ -1,15 +1,16 @@
 -- What a cut keeps: the device's contract for the crates above.
 -- Assumes nothing.
-use Prim.Native.Nat.{ℕ, _+_, _<_}
+use Prim.Native.Nat.{ℕ, suc, _+_, _<_}
 use mathlib.Core.Path.{_≡_, refl, sym, _∙_}
-use mathlib.Core.Bool.{true, false, _&&_}
+use mathlib.Core.Bool.{Bool, true, false, _&&_}
 use mathlib.Core.List.{List, [], _∷_, _++_}
 use native.Mathlib.Omega.{arith}
 use native.Mathlib.Nat.{zero-add}
 use lib.ListN.{length, take}
 use lib.Seq.{sets, length-sets}
 use borrow.Author.Tests.{lt-ltb}
-use Rattle.device.specs.Tape.{Op, store, flush, malformed, wellFormed, flushCount}
+use Rattle.codec.specs.Lists.{pick}
+use Rattle.device.specs.Tape.{Op, store, flush, barrier, malformed, wellFormed, isFlush, isBarrier, howMany, flushCount, barrierCount}
 use Rattle.device.specs.Cut.{apply, after, lineOf, durable, less, kept, cutImage, stores}
 
 -- ---- lengths, and one list after another
@@ -20,6 +21,7 @@ unfolding after
 length-after image [] = refl
 length-after image (store p vs ∷ cs) = length-after (sets image p vs) cs ∙ length-sets image p vs
 length-after image (flush l ∷ cs) = length-after image cs
+length-after image (barrier ∷ cs) = length-after image cs
 length-after image (malformed ∷ cs) = length-after image cs
 
 -- so does a cut
@@ -39,6 +41,7 @@ unfolding after stores
 after-stores image [] = refl
 after-stores image (store p vs ∷ cs) = after-stores (sets image p vs) cs
 after-stores image (flush l ∷ cs) = after-stores image cs
+after-stores image (barrier ∷ cs) = after-stores image cs
 after-stores image (malformed ∷ cs) = after-stores image cs
 
 pub wellFormed-append : (a b : List Op) → wellFormed (a ++ b) ≡ (wellFormed a && wellFormed b)
@@ -46,14 +49,24 @@ unfolding wellFormed
 wellFormed-append [] b = refl
 wellFormed-append (store p vs ∷ a) b = wellFormed-append a b
 wellFormed-append (flush l ∷ a) b = wellFormed-append a b
+wellFormed-append (barrier ∷ a) b = wellFormed-append a b
 wellFormed-append (malformed ∷ a) b = refl
 
+pub howMany-append : (test : Op → Bool) (a b : List Op) → howMany test (a ++ b) ≡ howMany test a + howMany test b
+unfolding howMany
+howMany-append test [] b = sym (zero-add (howMany test b))
+howMany-append test (o ∷ a) b = go (test o) (howMany-append test a b)
+  where
+    go : (t : Bool) → howMany test (a ++ b) ≡ howMany test a + howMany test b →
+        pick t (suc (howMany test (a ++ b))) (howMany test (a ++ b)) ≡ pick t (suc (howMany test a)) (howMany test a) + howMany test b
+    go true q = omega (arith, q)
+    go false q = q
+
 pub flushCount-append : (a b : List Op) → flushCount (a ++ b) ≡ flushCount a + flushCount b
-unfolding flushCount
-flushCount-append [] b = sym (zero-add (flushCount b))
-flushCount-append (store p vs ∷ a) b = flushCount-append a b
-flushCount-append (flush l ∷ a) b = omega (arith, flushCount-append a b)
-flushCount-append (malformed ∷ a) b = flushCount-append a b
+flushCount-append a b = howMany-append isFlush a b
+
+pub barrierCount-append : (a b : List Op) → barrierCount (a ++ b) ≡ barrierCount a + barrierCount b
+barrierCount-append a b = howMany-append isBarrier a b
 
 -- ---- one store
 

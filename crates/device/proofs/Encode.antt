@@ -1,7 +1,7 @@
 -- The bytes of commands: decoding takes the encoding back, whatever follows.
 -- Assumes nothing.
 use Prim.Native.Nat.{ℕ, suc, _+_, _*_, _/_, _%_, _≤_, _<_}
-use mathlib.Core.Path.{_≡_, refl, sym, ap, _∙_}
+use mathlib.Core.Path.{_≡_, refl, sym, ap, ap₂, _∙_}
 use mathlib.Core.Bool.{Bool, true, false}
 use mathlib.Core.List.{List, [], _∷_, _++_, append-assoc, append-nil}
 use mathlib.Core.Logic.{inl, inr}
@@ -18,12 +18,14 @@ use Rattle.device.specs.Tape.{
   Op,
   store,
   flush,
+  barrier,
   malformed,
   wellFormed,
   kindOf,
   placeOf,
   unit,
   follows,
+  placeOk,
   isCommand,
   front,
   extent,
@@ -32,11 +34,12 @@ use Rattle.device.specs.Tape.{
   wordBytes,
   lineBytes,
   flushBytes,
+  barrierBytes,
   commandBytes,
   tapeBytes,
   Writable,
 }
-use Rattle.device.proofs.Decode.{stands-command, front-kind, decode-front, decode-nil}
+use Rattle.device.proofs.Decode.{in-place, stands-command, front-kind, decode-front, decode-nil}
 
 -- ---- a command's head
 
@@ -75,38 +78,36 @@ module _ (n kind place : ℕ) (rest : List ℕ) (small : place < 65536) where
   head-rest : drop 4 (headBytes kind place ++ rest) ≡ rest
   head-rest = drop-at (headBytes kind place) rest 4 (length-headBytes kind place)
 
-  -- a head of a known kind, with the bytes that it wants after it, is a command
-  pub head-command : 1 ≤ kind → kind ≤ 3 → follows kind ≤ length rest → unit kind * place + unit kind ≤ n → isCommand n (headBytes kind place ++ rest) ≡ true
+  -- a head of a known kind, with the bytes that it wants after it and a place that it may have, is a command
+  pub head-command : 1 ≤ kind → kind ≤ 4 → follows kind ≤ length rest → placeOk n kind place ≡ true → isCommand n (headBytes kind place ++ rest) ≡ true
   head-command low high whole inside =
       let long = length-append (headBytes kind place) rest in
       let four = length-headBytes kind place in
       let kinds = ap follows head-kind-of in
-      let units : unit (kindOf (headBytes kind place ++ rest)) * placeOf (headBytes kind place ++ rest) + unit (kindOf (headBytes kind place ++ rest)) ≡ unit kind * place + unit kind =
-      ap (λ (k : ℕ). unit k * placeOf (headBytes kind place ++ rest) + unit k) head-kind-of ∙ ap (λ (p : ℕ). unit kind * p + unit kind) head-place in
       stands-command n (headBytes kind place ++ rest) (record {
         head = omega arith;
         low = omega (arith, head-kind-of);
         high = omega (arith, head-kind-of);
         second = head-second;
         whole = omega arith;
-        inside = omega arith;
+        inside = ap₂ (placeOk n) head-kind-of head-place ∙ inside;
       })
 
 -- ---- one command
 
 module _ (n : ℕ) (rest : List ℕ) (place : ℕ) (small : place < 65536) where
   -- a store of s bytes, whose place counts by as many
-  decode-store : (kind s : ℕ) (vs : List ℕ) → 1 ≤ kind → kind ≤ 3 → eqb kind 3 ≡ false → unit kind ≡ s → follows kind ≡ s → length vs ≡ s → s * place + s ≤ n →
+  decode-store : (kind s : ℕ) (vs : List ℕ) → 1 ≤ kind → kind ≤ 2 → unit kind ≡ s → follows kind ≡ s → length vs ≡ s → s * place + s ≤ n →
       decode n ((headBytes kind place ++ vs) ++ rest) ≡ store (s * place) vs ∷ decode n rest
-  decode-store kind s vs low high three u f long inside =
+  decode-store kind s vs low high u f long inside =
       let tail = vs ++ rest in
       let t = headBytes kind place ++ tail in
       let more = length-append vs rest in
-      let is = head-command n kind place tail small low high (omega arith) (rw u inside) in
+      let is = head-command n kind place tail small low (omega arith) (omega arith) (in-place n kind place (λ q. omega arith) (rw u inside)) in
       let four = head-rest n kind place tail small in
       let there : part t 4 s ≡ vs = part-at t 4 s tail four ∙ part-append-left vs rest 0 s (omega arith) ∙ part-all vs s long in
       let said : front n t ≡ store (s * place) vs =
-      front-kind n t kind is (head-kind-of n kind place tail small) ∙ rw (three, u, f, head-place n kind place tail small, there) in
+      front-kind n t kind is (head-kind-of n kind place tail small) ∙ rw (ne-eqb kind 3 (λ q. omega arith), ne-eqb kind 4 (λ q. omega arith), u, f, head-place n kind place tail small, there) in
       let size : length t ≡ 4 + length tail = length-append (headBytes kind place) tail ∙ ap (λ (k : ℕ). k + length tail) (length-headBytes kind place) in
       let left : drop (4 + length vs) t ≡ rest = sym (drop-drop (length vs) 4 t) ∙ ap (drop (length vs)) four ∙ drop-at vs rest (length vs) refl in
       ap (decode n) (append-assoc (headBytes kind place) vs rest)
@@ -115,20 +116,32 @@ module _ (n : ℕ) (rest : List ℕ) (place : ℕ) (small : place < 65536) where
 
   pub decode-word : (vs : List ℕ) → length vs ≡ 8 → 8 * place + 8 ≤ n → decode n (wordBytes place vs ++ rest) ≡ store (8 * place) vs ∷ decode n rest
   unfolding unit follows
-  decode-word vs long inside = decode-store 1 8 vs (omega arith) (omega arith) refl refl refl long inside
+  decode-word vs long inside = decode-store 1 8 vs (omega arith) (omega arith) refl refl long inside
 
   pub decode-line : (vs : List ℕ) → length vs ≡ 64 → 64 * place + 64 ≤ n → decode n (lineBytes place vs ++ rest) ≡ store (64 * place) vs ∷ decode n rest
   unfolding unit follows
-  decode-line vs long inside = decode-store 2 64 vs (omega arith) (omega arith) refl refl refl long inside
+  decode-line vs long inside = decode-store 2 64 vs (omega arith) (omega arith) refl refl long inside
+
+  -- a head that nothing follows
+  decode-head : (kind : ℕ) (o : Op) → 1 ≤ kind → kind ≤ 4 → follows kind ≡ 0 → placeOk n kind place ≡ true → extent o ≡ 4 →
+      (isCommand n (headBytes kind place ++ rest) ≡ true → front n (headBytes kind place ++ rest) ≡ o) → decode n (headBytes kind place ++ rest) ≡ o ∷ decode n rest
+  decode-head kind o low high none inside x said =
+      let t = headBytes kind place ++ rest in
+      let is = head-command n kind place rest small low high (omega arith) inside in
+      let size : length t ≡ 4 + length rest = length-append (headBytes kind place) rest ∙ ap (λ (k : ℕ). k + length rest) (length-headBytes kind place) in
+      decode-front n t o (omega arith) (said is) (omega arith) ∙ ap (λ (k : ℕ). o ∷ decode n (drop k t)) x ∙ ap (λ (r : List ℕ). o ∷ decode n r) (head-rest n kind place rest small)
 
   pub decode-flush : 64 * place + 64 ≤ n → decode n (flushBytes place ++ rest) ≡ flush place ∷ decode n rest
   unfolding unit follows
   decode-flush inside =
-      let t = flushBytes place ++ rest in
-      let is = head-command n 3 place rest small (omega arith) (omega arith) (omega arith) inside in
-      let said : front n t ≡ flush place = front-kind n t 3 is (head-kind-of n 3 place rest small) ∙ ap flush (head-place n 3 place rest small) in
-      let size : length t ≡ 4 + length rest = length-append (headBytes 3 place) rest ∙ ap (λ (k : ℕ). k + length rest) (length-headBytes 3 place) in
-      decode-front n t (flush place) (omega arith) said (omega arith) ∙ ap (λ (r : List ℕ). flush place ∷ decode n r) (head-rest n 3 place rest small)
+      decode-head 3 (flush place) (omega arith) (omega arith) refl (in-place n 3 place (λ q. omega arith) inside) refl
+      (λ is. front-kind n (flushBytes place ++ rest) 3 is (head-kind-of n 3 place rest small) ∙ ap flush (head-place n 3 place rest small))
+
+pub decode-barrier : (n : ℕ) (rest : List ℕ) → decode n (barrierBytes ++ rest) ≡ barrier ∷ decode n rest
+unfolding follows placeOk
+decode-barrier n rest =
+    decode-head n rest 0 (omega arith) 4 barrier (omega arith) (omega arith) refl refl refl
+    (λ is. front-kind n (barrierBytes ++ rest) 4 is (head-kind-of n 4 0 rest (omega arith)))
 
 -- a head, and the bytes that are written after it
 pub emitted : (tape : List ℕ) (at kind place : ℕ) (vs head out : List ℕ) → head ≡ splice tape at (headBytes kind place) → out ≡ splice head (at + 4) vs → at + 4 + length vs ≤ length tape →
@@ -150,6 +163,7 @@ length-commandBytes (store p vs) = go (eqb (length vs) 8)
     go true = size 1 (p / 8)
     go false = size 2 (p / 64)
 length-commandBytes (flush l) = length-headBytes 3 l
+length-commandBytes barrier = length-headBytes 4 0
 length-commandBytes malformed = refl
 
 pub tapeBytes-append : (a b : List Op) → tapeBytes (a ++ b) ≡ tapeBytes a ++ tapeBytes b
@@ -169,6 +183,7 @@ module _ (n : ℕ) (most : n ≤ 65536) where
       rw (ne-eqb (length vs) 8 (λ e. omega (arith, h .0)))
       (decode-line n rest (p / 64) (omega (arith, h .2)) vs (h .0) (omega (arith, h .2)) ∙ ap (λ (q : ℕ). store q vs ∷ decode n rest) place)
   decode-command (flush l) rest h = decode-flush n rest l (omega arith) h
+  decode-command barrier rest h = decode-barrier n rest
   decode-command malformed rest h = absurd h
 
   pub decode-tape : (cs : List Op) (rest : List ℕ) → All (Writable n) cs → decode n (tapeBytes cs ++ rest) ≡ cs ++ decode n rest
@@ -186,4 +201,5 @@ unfolding wellFormed
 writable-formed n [] w = refl
 writable-formed n (store p vs ∷ cs) w = writable-formed n cs (w .1)
 writable-formed n (flush l ∷ cs) w = writable-formed n cs (w .1)
+writable-formed n (barrier ∷ cs) w = writable-formed n cs (w .1)
 writable-formed n (malformed ∷ cs) w = absurd (w .0)

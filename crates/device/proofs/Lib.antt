@@ -1,9 +1,10 @@
+pub mod Clauses
+pub mod Durable
 pub mod Decode
 pub mod Encode
 pub mod Counts
 pub mod Turns
 pub mod Calls
-pub mod Clauses
 pub mod Cuts
 pub mod Lines
 pub mod Pending

@@ -2,40 +2,39 @@
 -- Assumes nothing.
 use Prim.Native.Nat.{ℕ, zero, suc, _+_, _-_}
 use mathlib.Core.Path.{_≡_, refl, sym, ap, _∙_, fun-ext}
-use mathlib.Core.Bool.{Bool, true, false, _&&_, _||_, true≢false}
+use mathlib.Core.Bool.{Bool, true, false, _&&_, _||_}
 use mathlib.Core.List.{List, [], _∷_}
 use native.Mathlib.Omega.{arith}
-use native.Mathlib.Nat.{zero-add}
+use native.Mathlib.Nat.{add-zero, zero-add}
 use lib.ListN.{take}
 use lib.Seq.{take-nil}
 use lib.Dec.{ltb, eqb}
 use borrow.Author.Tests.{lt-ltb, eqb-true, eqb-false, eq-eqb, ne-eqb}
 use Rattle.codec.specs.Lists.{pick, All}
-use Rattle.device.specs.Tape.{Op, store, flush, malformed}
-use Rattle.device.specs.Cut.{lineOf, durable, less, consIf, kept, stores, ofLine, settled, To}
+use Rattle.codec.proofs.Agree.{or-right}
+use Rattle.device.specs.Tape.{Op, store, flush, barrier, malformed, isBarrier}
+use Rattle.device.specs.Cut.{lineOf, some, durable, less, consIf, kept, stores, concerns, ofLine, storesWhere, settled, To}
 
 -- the first g l stores to each line l
 firsts : (ℕ → ℕ) → List Op → List Op
 firsts g [] = []
 firsts g (store p vs ∷ cs) = consIf (ltb 0 (g (lineOf p))) (store p vs) (firsts (less g (lineOf p)) cs)
 firsts g (flush l ∷ cs) = firsts g cs
+firsts g (barrier ∷ cs) = firsts g cs
 firsts g (malformed ∷ cs) = firsts g cs
 
 -- ---- a cut keeps the first stores of each line: those that are durable, and as many more as the choice says
 
 settled-none : (l : ℕ) (cs : List Op) → durable l cs ≡ false → settled l cs ≡ 0
-unfolding durable settled
+unfolding durable storesWhere
 settled-none l [] e = refl
 settled-none l (store p vs ∷ cs) e = go (eqb (lineOf p) l) (settled-none l cs e)
   where
     go : (b : Bool) → settled l cs ≡ 0 → pick (b && durable l cs) 1 0 + settled l cs ≡ 0
     go true i = rw (e, i)
     go false i = rw i
-settled-none l (flush m ∷ cs) e = go (eqb m l) e (settled-none l cs)
-  where
-    go : (b : Bool) → (b || durable l cs) ≡ false → (durable l cs ≡ false → settled l cs ≡ 0) → settled l cs ≡ 0
-    go true q i = absurd (true≢false q)
-    go false q i = i q
+settled-none l (flush m ∷ cs) e = settled-none l cs (or-right (eqb m l && some isBarrier cs) (durable l cs) e)
+settled-none l (barrier ∷ cs) e = settled-none l cs e
 settled-none l (malformed ∷ cs) e = settled-none l cs e
 
 module _ (f : ℕ → ℕ) (m : ℕ) (cs : List Op) where
@@ -65,7 +64,7 @@ module _ (f : ℕ → ℕ) (m : ℕ) (cs : List Op) where
       go l false e false q = rw (ne-eqb m l (λ r. eqb-false l m e (sym r)), e) (omega arith)
 
 kept-firsts : (f : ℕ → ℕ) (cs : List Op) → kept f cs ≡ firsts (λ (l : ℕ). settled l cs + f l) cs
-unfolding kept firsts settled
+unfolding kept firsts storesWhere
 kept-firsts f [] = refl
 kept-firsts f (store p vs ∷ cs) =
     let m = lineOf p in
@@ -73,6 +72,7 @@ kept-firsts f (store p vs ∷ cs) =
     ap (λ (b : Bool). consIf b (store p vs) (kept g cs)) (total-test f m cs)
     ∙ ap (consIf (ltb 0 (total f m cs m)) (store p vs)) (kept-firsts g cs ∙ ap (λ (h : ℕ → ℕ). firsts h cs) (total-rest f m cs))
 kept-firsts f (flush l ∷ cs) = kept-firsts f cs
+kept-firsts f (barrier ∷ cs) = kept-firsts f cs
 kept-firsts f (malformed ∷ cs) = kept-firsts f cs
 
 -- ---- of one line
@@ -112,6 +112,7 @@ line-firsts l g (store p vs ∷ cs) =
     go true e i = ap (consIf (ltb 0 (g (lineOf p))) (store p vs)) i ∙ take-less g (lineOf p) l (store p vs) (ofLine l (stores cs)) e
     go false e i = i ∙ ap (λ (k : ℕ). take k (ofLine l (stores cs))) (less-there g (lineOf p) l e)
 line-firsts l g (flush m ∷ cs) = line-firsts l g cs
+line-firsts l g (barrier ∷ cs) = line-firsts l g cs
 line-firsts l g (malformed ∷ cs) = line-firsts l g cs
 
 -- of the commands of line l, its first stores
@@ -129,7 +130,24 @@ firsts-line l g (flush m ∷ cs) = go (eqb m l) (firsts-line l g cs)
     go : (b : Bool) → firsts g (ofLine l cs) ≡ take (g l) (ofLine l (stores cs)) → firsts g (consIf b (flush m) (ofLine l cs)) ≡ take (g l) (ofLine l (stores cs))
     go true i = i
     go false i = i
+firsts-line l g (barrier ∷ cs) = firsts-line l g cs
 firsts-line l g (malformed ∷ cs) = firsts-line l g cs
+
+-- no barrier is left out
+barrier-line : (l : ℕ) (cs : List Op) → some isBarrier (ofLine l cs) ≡ some isBarrier cs
+unfolding some ofLine
+barrier-line l [] = refl
+barrier-line l (o ∷ cs) = go o (barrier-line l cs)
+  where
+    skip : (b : Bool) (x : Op) → isBarrier x ≡ false → some isBarrier (ofLine l cs) ≡ some isBarrier cs → some isBarrier (consIf b x (ofLine l cs)) ≡ some isBarrier cs
+    skip true x e i = rw e i
+    skip false x e i = i
+
+    go : (x : Op) → some isBarrier (ofLine l cs) ≡ some isBarrier cs → some isBarrier (consIf (concerns l x) x (ofLine l cs)) ≡ (isBarrier x || some isBarrier cs)
+    go (store p vs) i = skip (eqb (lineOf p) l) (store p vs) refl i
+    go (flush m) i = skip (eqb m l) (flush m) refl i
+    go barrier i = refl
+    go malformed i = i
 
 durable-line : (l : ℕ) (cs : List Op) → durable l (ofLine l cs) ≡ durable l cs
 unfolding durable ofLine
@@ -141,13 +159,14 @@ durable-line l (store p vs ∷ cs) = go (eqb (lineOf p) l) (durable-line l cs)
     go false i = i
 durable-line l (flush m ∷ cs) = go (eqb m l) refl (durable-line l cs)
   where
-    go : (b : Bool) → eqb m l ≡ b → durable l (ofLine l cs) ≡ durable l cs → durable l (consIf b (flush m) (ofLine l cs)) ≡ (b || durable l cs)
-    go true e i = rw e
+    go : (b : Bool) → eqb m l ≡ b → durable l (ofLine l cs) ≡ durable l cs → durable l (consIf b (flush m) (ofLine l cs)) ≡ ((b && some isBarrier cs) || durable l cs)
+    go true e i = rw (e, barrier-line l cs, i)
     go false e i = i
+durable-line l (barrier ∷ cs) = durable-line l cs
 durable-line l (malformed ∷ cs) = durable-line l cs
 
 settled-line : (l : ℕ) (cs : List Op) → settled l (ofLine l cs) ≡ settled l cs
-unfolding settled ofLine
+unfolding storesWhere ofLine
 settled-line l [] = refl
 settled-line l (store p vs ∷ cs) = go (eqb (lineOf p) l) refl (settled-line l cs)
   where
@@ -159,11 +178,16 @@ settled-line l (flush m ∷ cs) = go (eqb m l) (settled-line l cs)
     go : (b : Bool) → settled l (ofLine l cs) ≡ settled l cs → settled l (consIf b (flush m) (ofLine l cs)) ≡ settled l cs
     go true i = i
     go false i = i
+settled-line l (barrier ∷ cs) = settled-line l cs
 settled-line l (malformed ∷ cs) = settled-line l cs
 
 -- of each line a cut keeps a first part of its stores: those that are durable, and as many more as the choice says
 pub keep-line : (l : ℕ) (f : ℕ → ℕ) (cs : List Op) → ofLine l (kept f cs) ≡ take (settled l cs + f l) (ofLine l (stores cs))
 keep-line l f cs = ap (ofLine l) (kept-firsts f cs) ∙ line-firsts l (λ (m : ℕ). settled m cs + f m) cs
+
+-- "A line's durable stores are always a first part of its stores": those alone are kept where no choice is left
+pub durable-part : (l : ℕ) (cs : List Op) → ofLine l (kept (λ (m : ℕ). 0) cs) ≡ take (settled l cs) (ofLine l (stores cs))
+durable-part l cs = keep-line l (λ (m : ℕ). 0) cs ∙ ap (λ (k : ℕ). take k (ofLine l (stores cs))) (add-zero (settled l cs))
 
 -- what a cut keeps of line l is what it keeps of that line's commands alone
 pub each-line : (l : ℕ) (f : ℕ → ℕ) (cs : List Op) → ofLine l (kept f cs) ≡ kept f (ofLine l cs)
@@ -179,4 +203,5 @@ unfolding ofLine
 to-line l [] h = refl
 to-line l (store p vs ∷ cs) h = rw (eq-eqb (lineOf p) l (h .0)) (ap (λ (r : List Op). store p vs ∷ r) (to-line l cs (h .1)))
 to-line l (flush m ∷ cs) h = absurd (h .0)
+to-line l (barrier ∷ cs) h = absurd (h .0)
 to-line l (malformed ∷ cs) h = absurd (h .0)

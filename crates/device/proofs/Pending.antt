@@ -1,108 +1,205 @@
--- Pending stores: how many a command adds or ends, and that of a choice only what is pending counts. The device's contract for the crates above.
+-- Pending stores: how many a command adds or makes durable, and that of a choice only what is pending counts. The device's contract for the crates
+-- above.
 -- Assumes nothing.
 use Prim.Native.Nat.{ℕ, suc, _+_, _-_, _≤_}
-use mathlib.Core.Path.{_≡_, refl, sym, ap, ap₂, _∙_}
-use mathlib.Core.Bool.{Bool, true, false, not, _&&_, _||_}
+use mathlib.Core.Path.{_≡_, refl, sym, ap, ap₂, _∙_, fun-ext}
+use mathlib.Core.Bool.{Bool, true, false, not, _&&_, _||_, or-true}
 use mathlib.Core.List.{List, [], _∷_, _++_}
 use mathlib.Core.Logic.{_⊎_, inl, inr}
 use native.Mathlib.Omega.{arith}
+use native.Mathlib.Nat.{add-zero, zero-add}
 use lib.ListN.{length, take}
 use lib.Dec.{ltb, eqb}
 use borrow.Author.Tests.{lt-ltb, eqb-true, eq-eqb}
 use Rattle.codec.specs.Lists.{pick}
-use Rattle.device.specs.Tape.{Op, store, flush, malformed}
-use Rattle.device.specs.Cut.{after, lineOf, durable, less, consIf, kept, cutImage, stores, ofLine, settled, pending}
-use Rattle.device.proofs.Segments.{durable-append}
+use Rattle.device.specs.Tape.{Op, store, flush, barrier, malformed, isBarrier}
+use Rattle.device.specs.Cut.{after, lineOf, flushesLine, some, durable, less, consIf, kept, cutImage, stores, ofLine, storesWhere, settled, pending, unflushed}
+use Rattle.device.proofs.Durable.{some-append, durable-flushed, durable-barrier, durable-other}
 
--- ---- their number
+-- ---- how many stores have commands after them that are so
+
+module _ (test : List Op → Bool) (l : ℕ) where
+  where-store : (p : ℕ) (vs : List ℕ) (cs : List Op) → storesWhere test l (store p vs ∷ cs) ≡ pick (eqb (lineOf p) l && test cs) 1 0 + storesWhere test l cs
+  unfolding storesWhere
+  where-store p vs cs = refl
+
+  -- with one more command, which may change what is so
+  where-last : (cs : List Op) (o : Op) → storesWhere test l (cs ++ (o ∷ [])) ≡ storesWhere (λ ds. test (ds ++ (o ∷ []))) l cs + storesWhere test l (o ∷ [])
+  unfolding storesWhere
+  where-last [] o = sym (zero-add (storesWhere test l (o ∷ [])))
+  where-last (store p vs ∷ cs) o = omega (arith, where-last cs o)
+  where-last (flush m ∷ cs) o = where-last cs o
+  where-last (barrier ∷ cs) o = where-last cs o
+  where-last (malformed ∷ cs) o = where-last cs o
+
+  -- there are no more than commands
+  where-le : (cs : List Op) → storesWhere test l cs ≤ length cs
+  unfolding storesWhere
+  where-le [] = omega arith
+  where-le (store p vs ∷ cs) = omega (arith, where-le cs, go (eqb (lineOf p) l && test cs))
+    where
+      go : (b : Bool) → pick b 1 0 ≤ 1
+      go true = omega arith
+      go false = omega arith
+  where-le (flush m ∷ cs) = omega (arith, where-le cs)
+  where-le (barrier ∷ cs) = omega (arith, where-le cs)
+  where-le (malformed ∷ cs) = omega (arith, where-le cs)
+
+  where-none : (cs : List Op) → ((ds : List Op) → test ds ≡ false) → storesWhere test l cs ≡ 0
+  unfolding storesWhere
+  where-none [] h = refl
+  where-none (store p vs ∷ cs) h = rw (h cs, where-none cs h) (go (eqb (lineOf p) l))
+    where
+      go : (b : Bool) → pick (b && false) 1 0 + 0 ≡ 0
+      go true = refl
+      go false = refl
+  where-none (flush m ∷ cs) h = where-none cs h
+  where-none (barrier ∷ cs) h = where-none cs h
+  where-none (malformed ∷ cs) h = where-none cs h
+
+  -- every store to the line is one of these or of the others
+  where-all : (cs : List Op) → length (stores (ofLine l cs)) ≡ storesWhere test l cs + storesWhere (λ ds. not (test ds)) l cs
+  unfolding stores ofLine storesWhere
+  where-all [] = refl
+  where-all (store p vs ∷ cs) = go (eqb (lineOf p) l) (test cs) (where-all cs)
+    where
+      go : (b d : Bool) → length (stores (ofLine l cs)) ≡ storesWhere test l cs + storesWhere (λ ds. not (test ds)) l cs →
+          length (stores (consIf b (store p vs) (ofLine l cs))) ≡ pick (b && d) 1 0 + storesWhere test l cs + (pick (b && not d) 1 0 + storesWhere (λ ds. not (test ds)) l cs)
+      go true true h = omega arith
+      go true false h = omega arith
+      go false d h = omega arith
+  where-all (flush m ∷ cs) = go (eqb m l) (where-all cs)
+    where
+      go : (b : Bool) → length (stores (ofLine l cs)) ≡ storesWhere test l cs + storesWhere (λ ds. not (test ds)) l cs →
+          length (stores (consIf b (flush m) (ofLine l cs))) ≡ storesWhere test l cs + storesWhere (λ ds. not (test ds)) l cs
+      go true h = h
+      go false h = h
+  where-all (barrier ∷ cs) = where-all cs
+  where-all (malformed ∷ cs) = where-all cs
+
+-- what is so only where something else is
+where-fewer : (t u : List Op → Bool) (l : ℕ) (cs : List Op) → ((ds : List Op) → t ds ≡ true → u ds ≡ true) → storesWhere t l cs ≤ storesWhere u l cs
+unfolding storesWhere
+where-fewer t u l [] h = omega arith
+where-fewer t u l (store p vs ∷ cs) h = omega (arith, where-fewer t u l cs h, go (eqb (lineOf p) l) (t cs) (u cs) (h cs))
+  where
+    go : (b d e : Bool) → (d ≡ true → e ≡ true) → pick (b && d) 1 0 ≤ pick (b && e) 1 0
+    go false d e k = omega arith
+    go true false e k = omega arith
+    go true true e k = rw (k refl) (omega arith)
+where-fewer t u l (flush m ∷ cs) h = where-fewer t u l cs h
+where-fewer t u l (barrier ∷ cs) h = where-fewer t u l cs h
+where-fewer t u l (malformed ∷ cs) h = where-fewer t u l cs h
+
+where-alike : (t u : List Op → Bool) (l : ℕ) (cs : List Op) → ((ds : List Op) → t ds ≡ u ds) → storesWhere t l cs ≡ storesWhere u l cs
+where-alike t u l cs h = ap (λ (test : List Op → Bool). storesWhere test l cs) (fun-ext h)
+
+-- ---- how many are pending, and how many of them not even flushed: after no command, and after one more
 
 module _ (l : ℕ) where
   pub pending-nil : pending l [] ≡ 0
-  unfolding pending
+  unfolding storesWhere
   pending-nil = refl
 
-  pending-store : (p : ℕ) (vs : List ℕ) (cs : List Op) → pending l (store p vs ∷ cs) ≡ pick (eqb (lineOf p) l && not (durable l cs)) 1 0 + pending l cs
-  unfolding pending
-  pending-store p vs cs = refl
-
-  pending-flush : (m : ℕ) (cs : List Op) → pending l (flush m ∷ cs) ≡ pending l cs
-  unfolding pending
-  pending-flush m cs = refl
-
-  pending-malformed : (cs : List Op) → pending l (malformed ∷ cs) ≡ pending l cs
-  unfolding pending
-  pending-malformed cs = refl
+  pub unflushed-nil : unflushed l [] ≡ 0
+  unfolding storesWhere
+  unflushed-nil = refl
 
   -- every store to the line is durable or pending
   pub settled-pending : (cs : List Op) → length (stores (ofLine l cs)) ≡ settled l cs + pending l cs
-  unfolding stores ofLine settled
-  settled-pending [] = omega (arith, pending-nil)
-  settled-pending (store p vs ∷ cs) = go (eqb (lineOf p) l) (durable l cs) (pending-store p vs cs) (settled-pending cs)
-    where
-      go : (b d : Bool) → pending l (store p vs ∷ cs) ≡ pick (b && not d) 1 0 + pending l cs → length (stores (ofLine l cs)) ≡ settled l cs + pending l cs →
-          length (stores (consIf b (store p vs) (ofLine l cs))) ≡ pick (b && d) 1 0 + settled l cs + pending l (store p vs ∷ cs)
-      go true true e h = omega arith
-      go true false e h = omega arith
-      go false d e h = omega arith
-  settled-pending (flush m ∷ cs) = go (eqb m l) (settled-pending cs)
-    where
-      go : (b : Bool) → length (stores (ofLine l cs)) ≡ settled l cs + pending l cs → length (stores (consIf b (flush m) (ofLine l cs))) ≡ settled l cs + pending l (flush m ∷ cs)
-      go true h = omega (arith, pending-flush m cs, h)
-      go false h = omega (arith, pending-flush m cs, h)
-  settled-pending (malformed ∷ cs) = omega (arith, pending-malformed cs, settled-pending cs)
+  settled-pending cs = where-all (durable l) l cs
 
-  -- what comes later makes all of them durable, or none, and adds its own
-  pending-append : (a b : List Op) → pending l (a ++ b) ≡ pick (durable l b) 0 (pending l a) + pending l b
-  pending-append [] b = rw pending-nil (go (durable l b))
-    where
-      go : (d : Bool) → pending l b ≡ pick d 0 0 + pending l b
-      go true = omega arith
-      go false = omega arith
-  pending-append (store p vs ∷ a) b =
-      pending-store p vs (a ++ b) ∙ rw (pending-store p vs a, durable-append l a b, pending-append a b) (go (eqb (lineOf p) l) (durable l a) (durable l b))
-    where
-      go : (e c d : Bool) → pick (e && not (c || d)) 1 0 + (pick d 0 (pending l a) + pending l b) ≡ pick d 0 (pick (e && not c) 1 0 + pending l a) + pending l b
-      go false c true = omega arith
-      go false c false = omega arith
-      go true true true = omega arith
-      go true true false = omega arith
-      go true false true = omega arith
-      go true false false = omega arith
-  pending-append (flush m ∷ a) b = pending-flush m (a ++ b) ∙ rw (pending-flush m a) (pending-append a b)
-  pending-append (malformed ∷ a) b = pending-malformed (a ++ b) ∙ rw (pending-malformed a) (pending-append a b)
+  pub pending-le : (cs : List Op) → pending l cs ≤ length cs
+  pending-le cs = where-le (λ ds. not (durable l ds)) l cs
 
-  -- "A store is pending until its line is flushed": after one more command
-  pub pending-stored : (cs : List Op) (p : ℕ) (vs : List ℕ) → pending l (cs ++ store p vs ∷ []) ≡ pick (eqb (lineOf p) l) 1 0 + pending l cs
-  unfolding durable
-  pending-stored cs p vs =
-      pending-append cs (store p vs ∷ []) ∙ rw (pending-store p vs [], pending-nil) (go (eqb (lineOf p) l))
+  -- what was not flushed is pending
+  pub unflushed-pending : (cs : List Op) → unflushed l cs ≤ pending l cs
+  unflushed-pending cs = where-fewer (λ ds. not (some (flushesLine l) ds)) (λ ds. not (durable l ds)) l cs go
+    where
+      go : (ds : List Op) → not (some (flushesLine l) ds) ≡ true → not (durable l ds) ≡ true
+      go ds = by (durable l ds) (some (flushesLine l) ds) (durable-flushed l ds)
+        where
+          by : (d s : Bool) → (d ≡ true → s ≡ true) → not s ≡ true → not d ≡ true
+          by false s h e = refl
+          by true s h e = rw (h refl) at e
+
+  -- but for a barrier, a command makes nothing durable
+  pending-other : (cs : List Op) (o : Op) → isBarrier o ≡ false → pending l (cs ++ (o ∷ [])) ≡ pending l cs + pending l (o ∷ [])
+  pending-other cs o e =
+      where-last (λ ds. not (durable l ds)) l cs o
+      ∙ ap (λ (k : ℕ). k + pending l (o ∷ [])) (where-alike (λ ds. not (durable l (ds ++ (o ∷ [])))) (λ ds. not (durable l ds)) l cs (λ ds. ap not (durable-other l ds o e)))
+
+  pub pending-stored : (cs : List Op) (p : ℕ) (vs : List ℕ) → pending l (cs ++ (store p vs ∷ [])) ≡ pick (eqb (lineOf p) l) 1 0 + pending l cs
+  unfolding storesWhere durable
+  pending-stored cs p vs = pending-other cs (store p vs) refl ∙ go (eqb (lineOf p) l)
     where
       go : (b : Bool) → pending l cs + (pick (b && true) 1 0 + 0) ≡ pick b 1 0 + pending l cs
       go true = omega arith
       go false = omega arith
 
-  pub pending-flushed : (cs : List Op) (m : ℕ) → pending l (cs ++ flush m ∷ []) ≡ pick (eqb m l) 0 (pending l cs)
-  unfolding durable
-  pending-flushed cs m = pending-append cs (flush m ∷ []) ∙ rw (pending-flush m [], pending-nil) (go (eqb m l))
-    where
-      go : (b : Bool) → pick (b || false) 0 (pending l cs) + 0 ≡ pick b 0 (pending l cs)
-      go true = refl
-      go false = omega arith
+  -- "a flush [..] only starts the write-back"
+  pub pending-flushed : (cs : List Op) (m : ℕ) → pending l (cs ++ (flush m ∷ [])) ≡ pending l cs
+  unfolding storesWhere
+  pending-flushed cs m = pending-other cs (flush m) refl ∙ add-zero (pending l cs)
 
-  pub pending-broken : (cs : List Op) → pending l (cs ++ malformed ∷ []) ≡ pending l cs
-  unfolding durable
-  pending-broken cs = pending-append cs (malformed ∷ []) ∙ rw (pending-malformed [], pending-nil) (omega arith)
+  -- "a barrier waits for it"
+  pub pending-barrier : (cs : List Op) → pending l (cs ++ (barrier ∷ [])) ≡ unflushed l cs
+  unfolding storesWhere
+  pending-barrier cs =
+      where-last (λ ds. not (durable l ds)) l cs barrier
+      ∙ add-zero _
+      ∙ where-alike (λ ds. not (durable l (ds ++ (barrier ∷ [])))) (λ ds. not (some (flushesLine l) ds)) l cs (λ ds. ap not (durable-barrier l ds))
 
-  -- there are no more than commands
-  pub pending-le : (cs : List Op) → pending l cs ≤ length cs
-  pending-le [] = omega (arith, pending-nil)
-  pending-le (store p vs ∷ cs) = omega (arith, pending-store p vs cs, pending-le cs, go (eqb (lineOf p) l && not (durable l cs)))
+  pub pending-broken : (cs : List Op) → pending l (cs ++ (malformed ∷ [])) ≡ pending l cs
+  unfolding storesWhere
+  pending-broken cs = pending-other cs malformed refl ∙ add-zero (pending l cs)
+
+  -- but for a flush of the line, a command flushes nothing of it
+  unflushed-other : (cs : List Op) (o : Op) → flushesLine l o ≡ false → unflushed l (cs ++ (o ∷ [])) ≡ unflushed l cs + unflushed l (o ∷ [])
+  unfolding some
+  unflushed-other cs o e =
+      where-last (λ ds. not (some (flushesLine l) ds)) l cs o
+      ∙ ap (λ (k : ℕ). k + unflushed l (o ∷ [])) (where-alike (λ ds. not (some (flushesLine l) (ds ++ (o ∷ [])))) (λ ds. not (some (flushesLine l) ds)) l cs (λ ds. ap not (none ds)))
     where
-      go : (b : Bool) → pick b 1 0 ≤ 1
+      none : (ds : List Op) → some (flushesLine l) (ds ++ (o ∷ [])) ≡ some (flushesLine l) ds
+      none ds = some-append (flushesLine l) ds (o ∷ []) ∙ rw e (go (some (flushesLine l) ds))
+        where
+          go : (b : Bool) → (b || (false || false)) ≡ b
+          go true = refl
+          go false = refl
+
+  pub unflushed-stored : (cs : List Op) (p : ℕ) (vs : List ℕ) → unflushed l (cs ++ (store p vs ∷ [])) ≡ pick (eqb (lineOf p) l) 1 0 + unflushed l cs
+  unfolding storesWhere some
+  unflushed-stored cs p vs = unflushed-other cs (store p vs) refl ∙ go (eqb (lineOf p) l)
+    where
+      go : (b : Bool) → unflushed l cs + (pick (b && true) 1 0 + 0) ≡ pick b 1 0 + unflushed l cs
       go true = omega arith
       go false = omega arith
-  pending-le (flush m ∷ cs) = omega (arith, pending-flush m cs, pending-le cs)
-  pending-le (malformed ∷ cs) = omega (arith, pending-malformed cs, pending-le cs)
+
+  pub unflushed-flushed : (cs : List Op) (m : ℕ) → unflushed l (cs ++ (flush m ∷ [])) ≡ pick (eqb m l) 0 (unflushed l cs)
+  unfolding storesWhere some
+  unflushed-flushed cs m = go (eqb m l) refl
+    where
+      here : (ds : List Op) → eqb m l ≡ true → some (flushesLine l) (ds ++ (flush m ∷ [])) ≡ true
+      here ds e = some-append (flushesLine l) ds (flush m ∷ []) ∙ rw e (or-true (some (flushesLine l) ds))
+
+      go : (b : Bool) → eqb m l ≡ b → unflushed l (cs ++ (flush m ∷ [])) ≡ pick b 0 (unflushed l cs)
+      go true e =
+          where-last (λ ds. not (some (flushesLine l) ds)) l cs (flush m)
+          ∙ add-zero _
+          ∙ where-none (λ ds. not (some (flushesLine l) (ds ++ (flush m ∷ [])))) l cs (λ ds. ap not (here ds e))
+      go false e = unflushed-other cs (flush m) e ∙ add-zero (unflushed l cs)
+
+  pub unflushed-barrier : (cs : List Op) → unflushed l (cs ++ (barrier ∷ [])) ≡ unflushed l cs
+  unfolding storesWhere
+  unflushed-barrier cs = unflushed-other cs barrier refl ∙ add-zero (unflushed l cs)
+
+  -- "A store between that flush and the barrier is not covered by them": it alone of the line's stores is pending
+  pub between-pending : (cs : List Op) (p : ℕ) (vs : List ℕ) → lineOf p ≡ l → pending l (((cs ++ (flush l ∷ [])) ++ (store p vs ∷ [])) ++ (barrier ∷ [])) ≡ 1
+  between-pending cs p vs e =
+      pending-barrier ((cs ++ (flush l ∷ [])) ++ (store p vs ∷ []))
+      ∙ unflushed-stored (cs ++ (flush l ∷ [])) p vs
+      ∙ rw (eq-eqb (lineOf p) l e, unflushed-flushed cs l, eq-eqb l l refl)
 
 -- ---- what a cut keeps of them
 
@@ -131,24 +228,25 @@ less-alike f g p vs cs d h l = go (eqb l (lineOf p)) refl
     go true e =
         let s : l ≡ lineOf p = eqb-true l (lineOf p) e in
         let k : pending l (store p vs ∷ cs) ≡ suc (pending l cs) =
-        pending-store l p vs cs ∙ rw (eq-eqb (lineOf p) l (sym s), ap (λ (x : ℕ). durable x cs) s ∙ d) (omega arith) in
+        where-store (λ ds. not (durable l ds)) l p vs cs ∙ rw (eq-eqb (lineOf p) l (sym s), ap (λ (x : ℕ). durable x cs) s ∙ d) (omega arith) in
         one-less (pending l cs) (f l) (g l) (rw k at (h l))
-    go false e = fewer (pending l cs) (pending l (store p vs ∷ cs)) (f l) (g l) (omega (arith, pending-store l p vs cs)) (h l)
+    go false e = fewer (pending l cs) (pending l (store p vs ∷ cs)) (f l) (g l) (omega (arith, where-store (λ ds. not (durable l ds)) l p vs cs)) (h l)
 
 kept-alike : (f g : ℕ → ℕ) (cs : List Op) → ((l : ℕ) → Alike (pending l cs) (f l) (g l)) → kept f cs ≡ kept g cs
-unfolding kept
+unfolding kept storesWhere
 kept-alike f g [] h = refl
 kept-alike f g (store p vs ∷ cs) h = go (durable (lineOf p) cs) refl (λ f′ g′ i. kept-alike f′ g′ cs i)
   where
     go : (d : Bool) → durable (lineOf p) cs ≡ d → ((f′ g′ : ℕ → ℕ) → ((l : ℕ) → Alike (pending l cs) (f′ l) (g′ l)) → kept f′ cs ≡ kept g′ cs) →
         consIf (d || ltb 0 (f (lineOf p))) (store p vs) (kept (pick d f (less f (lineOf p))) cs) ≡ consIf (d || ltb 0 (g (lineOf p))) (store p vs) (kept (pick d g (less g (lineOf p))) cs)
-    go true e i = ap (λ (r : List Op). store p vs ∷ r) (i f g (λ l. fewer (pending l cs) (pending l (store p vs ∷ cs)) (f l) (g l) (omega (arith, pending-store l p vs cs)) (h l)))
+    go true e i = ap (λ (r : List Op). store p vs ∷ r) (i f g (λ l. fewer (pending l cs) (pending l (store p vs ∷ cs)) (f l) (g l) (omega (arith, where-store (λ ds. not (durable l ds)) l p vs cs)) (h l)))
     go false e i =
         let k : pending (lineOf p) (store p vs ∷ cs) ≡ suc (pending (lineOf p) cs) =
-        pending-store (lineOf p) p vs cs ∙ rw (eq-eqb (lineOf p) (lineOf p) refl, e) (omega arith) in
+        where-store (λ ds. not (durable (lineOf p) ds)) (lineOf p) p vs cs ∙ rw (eq-eqb (lineOf p) (lineOf p) refl, e) (omega arith) in
         ap₂ (λ (b : Bool) (r : List Op). consIf b (store p vs) r) (some-left (pending (lineOf p) cs) (f (lineOf p)) (g (lineOf p)) (rw k at (h (lineOf p)))) (i (less f (lineOf p)) (less g (lineOf p)) (less-alike f g p vs cs e h))
-kept-alike f g (flush m ∷ cs) h = kept-alike f g cs (λ l. rw (pending-flush l m cs) at (h l))
-kept-alike f g (malformed ∷ cs) h = kept-alike f g cs (λ l. rw (pending-malformed l cs) at (h l))
+kept-alike f g (flush m ∷ cs) h = kept-alike f g cs h
+kept-alike f g (barrier ∷ cs) h = kept-alike f g cs h
+kept-alike f g (malformed ∷ cs) h = kept-alike f g cs h
 
 -- choices that keep the same of every line's pending stores leave the same image
 pub cut-alike : (image : List ℕ) (f g : ℕ → ℕ) (c : ℕ) (cs : List Op) → ((l : ℕ) → Alike (pending l (take c cs)) (f l) (g l)) → cutImage image f c cs ≡ cutImage image g c cs

@@ -2,23 +2,22 @@
 -- Assumes nothing.
 use Prim.Native.Nat.{ℕ, zero, suc, _+_, _≤_, _<_}
 use mathlib.Core.Path.{_≡_, refl, sym, ap, _∙_}
-use mathlib.Core.Bool.{Bool, true, false, _||_, or-true, false≢true}
+use mathlib.Core.Bool.{Bool, true, false, _||_}
 use mathlib.Core.List.{List, [], _∷_, _++_, append-nil}
 use mathlib.Core.Logic.{_⊎_, inl, inr}
 use native.Mathlib.Omega.{arith}
-use native.Mathlib.Decide.{decLe}
-use lib.ListN.{length, getD, take, drop, drop-of-length-le, length-take}
+use lib.ListN.{length, getD, take, drop, length-take, length-drop}
 use lib.Seq.{sets, length-sets, take-append-le, take-append-add, take-nil, ext-getD}
-use lib.Dec.{ltb, leb, eqb}
+use lib.Dec.{ltb, leb}
 use borrow.Author.Tests.{leb-true, leb-false, ltb-true, ltb-false, le-leb, lt-leb, le-ltb}
 use Rattle.codec.specs.Lists.{pick}
 use Rattle.codec.proofs.Tests.{first, second}
 use Rattle.codec.proofs.Lists.{sets-apart, sets-both}
 use Rattle.codec.proofs.Agree.{or-left, or-right}
-use Rattle.device.specs.Tape.{Op, store, flush, malformed}
-use Rattle.device.specs.Cut.{apply, after, lineOf, durable, less, consIf, kept, cutImage, hits, touches, Closed, Sealed}
-use Rattle.device.proofs.Clauses.{durable-nil}
+use Rattle.device.specs.Tape.{Op, store, flush, barrier, malformed}
+use Rattle.device.specs.Cut.{apply, after, lineOf, durable, less, consIf, kept, cutImage, hits, touches, Closed}
 use Rattle.device.proofs.Cuts.{length-after, kept-durable}
+use Rattle.device.proofs.Durable.{durable-long, durable-first}
 
 -- ---- bytes that no store touches
 
@@ -49,11 +48,13 @@ touches-append (o ∷ a) b i = go (hits o i) (touches-append a b i)
 length-apply : (image : List ℕ) (o : Op) → length (apply image o) ≡ length image
 length-apply image (store p vs) = length-sets image p vs
 length-apply image (flush l) = refl
+length-apply image barrier = refl
 length-apply image malformed = refl
 
 apply-other : (image : List ℕ) (o : Op) (i : ℕ) → hits o i ≡ false → getD (apply image o) i 0 ≡ getD image i 0
 apply-other image (store p vs) i e = sets-apart image p vs i (hits-out p vs i e)
 apply-other image (flush l) i e = refl
+apply-other image barrier i e = refl
 apply-other image malformed i e = refl
 
 -- an untouched byte stays
@@ -70,6 +71,7 @@ apply-both a b (store p vs) i e h = go (hits (store p vs) i) refl
     go true q = let r = in-hits p vs i q in sets-both a b p vs i e (r .0) (r .1)
     go false q = apply-other a (store p vs) i q ∙ h q ∙ sym (apply-other b (store p vs) i q)
 apply-both a b (flush l) i e h = h refl
+apply-both a b barrier i e h = h refl
 apply-both a b malformed i e h = h refl
 
 run-both : (a b : List ℕ) (cs : List Op) (i : ℕ) → length a ≡ length b → (touches cs i ≡ false → getD a i 0 ≡ getD b i 0) → getD (after a cs) i 0 ≡ getD (after b cs) i 0
@@ -98,6 +100,7 @@ touches-kept f (store p vs ∷ cs) i e =
     (or-left (hits (store p vs) i) (touches cs i) e)
     (touches-kept g cs i (or-right (hits (store p vs) i) (touches cs i) e))
 touches-kept f (flush l ∷ cs) i e = touches-kept f cs i e
+touches-kept f (barrier ∷ cs) i e = touches-kept f cs i e
 touches-kept f (malformed ∷ cs) i e = touches-kept f cs i e
 
 touches-take : (c : ℕ) (cs : List Op) (i : ℕ) → touches cs i ≡ false → touches (take c cs) i ≡ false
@@ -113,54 +116,21 @@ cut-untouched image f c cs i e = run-other image (kept f (take c cs)) i (touches
 
 -- ---- lists whose stores are durable at their end
 
-pub durable-append : (l : ℕ) (a b : List Op) → durable l (a ++ b) ≡ (durable l a || durable l b)
-unfolding durable
-durable-append l [] b = refl
-durable-append l (store p vs ∷ a) b = durable-append l a b
-durable-append l (flush m ∷ a) b = go (eqb m l) (durable-append l a b)
-  where
-    go : (t : Bool) → durable l (a ++ b) ≡ (durable l a || durable l b) → (t || durable l (a ++ b)) ≡ ((t || durable l a) || durable l b)
-    go true q = refl
-    go false q = q
-durable-append l (malformed ∷ a) b = durable-append l a b
+-- what makes a store durable comes after it, a flush and a barrier: if, of the first c commands, those past the first m do, then they are two at
+-- least
+pub durable-two : (l m c : ℕ) (cs : List Op) → durable l (drop m (take c cs)) ≡ true → m + 2 ≤ c
+durable-two l m c cs e = omega (arith, durable-long l (drop m (take c cs)) e, length-drop m (take c cs), length-take c cs)
 
--- of which only these two are used: a store that one of two lists makes durable is durable after both
-durable-first : (l : ℕ) (a b : List Op) → durable l a ≡ true → durable l (a ++ b) ≡ true
-durable-first l a b e = durable-append l a b ∙ rw e
-
-durable-second : (l : ℕ) (a b : List Op) → durable l b ≡ true → durable l (a ++ b) ≡ true
-durable-second l a b e = durable-append l a b ∙ rw e (or-true (durable l a))
-
--- what makes a store durable comes after it: if, of the first c commands, those past the first m do, then m is below c
 pub durable-late : (l m c : ℕ) (cs : List Op) → durable l (drop m (take c cs)) ≡ true → m < c
-durable-late l m c cs e = go (decLe (suc m) c)
-  where
-    go : Dec (suc m ≤ c) → suc m ≤ c
-    go (yes h) = h
-    go (no h) = absurd (false≢true (sym (durable-nil l) ∙ ap (durable l) (sym (drop-of-length-le (take c cs) {i = m} (simp length-take (omega arith)))) ∙ e))
+durable-late l m c cs e = omega (arith, durable-two l m c cs e)
 
 pub closed-append : (a b : List Op) → Closed a → Closed b → Closed (a ++ b)
 unfolding Closed
 closed-append [] b c d = d
 closed-append (store p vs ∷ a) b c d = (durable-first (lineOf p) a b (c .0), closed-append a b (c .1) d)
 closed-append (flush l ∷ a) b c d = closed-append a b c d
+closed-append (barrier ∷ a) b c d = closed-append a b c d
 closed-append (malformed ∷ a) b c d = closed-append a b c d
-
--- stores, and then a list that makes them durable
-pub sealed-closed : (a b : List Op) → Sealed a b → Closed b → Closed (a ++ b)
-unfolding Closed Sealed
-sealed-closed [] b s c = c
-sealed-closed (store p vs ∷ a) b s c = (durable-second (lineOf p) a b (s .0), sealed-closed a b (s .1) c)
-sealed-closed (flush l ∷ a) b s c = sealed-closed a b s c
-sealed-closed (malformed ∷ a) b s c = sealed-closed a b s c
-
--- more commands before it do no harm
-pub sealed-more : (a b d : List Op) → Sealed a d → Sealed a (b ++ d)
-unfolding Sealed
-sealed-more [] b d s = tt
-sealed-more (store p vs ∷ a) b d s = (durable-second (lineOf p) b d (s .0), sealed-more a b d (s .1))
-sealed-more (flush l ∷ a) b d s = sealed-more a b d s
-sealed-more (malformed ∷ a) b d s = sealed-more a b d s
 
 -- stores that are durable are all kept, and what follows is kept as if it stood alone
 kept-closed : (image : List ℕ) (f : ℕ → ℕ) (a b : List Op) → Closed a → after image (kept f (a ++ b)) ≡ after (after image a) (kept f b)
@@ -168,6 +138,7 @@ unfolding after kept Closed
 kept-closed image f [] b c = refl
 kept-closed image f (store p vs ∷ a) b c = ap (after image) (kept-durable f p vs (a ++ b) (durable-first (lineOf p) a b (c .0))) ∙ kept-closed (sets image p vs) f a b (c .1)
 kept-closed image f (flush l ∷ a) b c = kept-closed image f a b c
+kept-closed image f (barrier ∷ a) b c = kept-closed image f a b c
 kept-closed image f (malformed ∷ a) b c = kept-closed image f a b c
 
 -- a cut in the first part is a cut of it

@@ -12,7 +12,7 @@ use lib.ListN.{length, take, length-take}
 use lib.Seq.{sets, take-nil, take-take, take-all}
 use lib.Dec.{ltb}
 use Rattle.codec.specs.Lists.{pick, All}
-use Rattle.device.specs.Tape.{Op, store, flush, malformed}
+use Rattle.device.specs.Tape.{Op, store, flush, barrier, malformed}
 use Rattle.device.specs.Cut.{after, lineOf, durable, less, consIf, kept, cutImage, hits, touches, Closed, stores, settled, To}
 use Rattle.device.proofs.Clauses.{after-nil, after-store, closed-store, stores-store}
 use Rattle.device.proofs.Cuts.{after-stores}
@@ -26,6 +26,7 @@ unfolding stores
 stores-append [] b = refl
 stores-append (store p vs ∷ a) b = ap (λ (r : List Op). store p vs ∷ r) (stores-append a b)
 stores-append (flush l ∷ a) b = stores-append a b
+stores-append (barrier ∷ a) b = stores-append a b
 stores-append (malformed ∷ a) b = stores-append a b
 
 -- a byte that the list stores is one that its stores store
@@ -34,6 +35,7 @@ unfolding touches stores
 touches-stores [] i = refl
 touches-stores (store p vs ∷ cs) i = ap (λ (t : Bool). hits (store p vs) i || t) (touches-stores cs i)
 touches-stores (flush l ∷ cs) i = touches-stores cs i
+touches-stores (barrier ∷ cs) i = touches-stores cs i
 touches-stores (malformed ∷ cs) i = touches-stores cs i
 
 -- the first n commands have a first part of the stores
@@ -43,6 +45,7 @@ stores-take zero cs = (0, refl)
 stores-take (suc n) [] = (0, refl)
 stores-take (suc n) (store p vs ∷ cs) = let h = stores-take n cs in (suc (h .0), ap (λ (r : List Op). store p vs ∷ r) (h .1))
 stores-take (suc n) (flush l ∷ cs) = stores-take n cs
+stores-take (suc n) (barrier ∷ cs) = stores-take n cs
 stores-take (suc n) (malformed ∷ cs) = stores-take n cs
 
 -- ---- lists without a store
@@ -52,6 +55,7 @@ unfolding Closed stores
 storeless-closed [] e = tt
 storeless-closed (store p vs ∷ cs) e = let z : _≡_ {A = ℕ} (suc (length (stores cs))) 0 = ap length e in absurd (omega arith)
 storeless-closed (flush l ∷ cs) e = storeless-closed cs e
+storeless-closed (barrier ∷ cs) e = storeless-closed cs e
 storeless-closed (malformed ∷ cs) e = storeless-closed cs e
 
 storeless-after : (image : List ℕ) (cs : List Op) → stores cs ≡ [] → after image cs ≡ image
@@ -67,6 +71,7 @@ unfolding stores
 to-stores l [] h = refl
 to-stores l (store p vs ∷ xs) h = ap (λ (r : List Op). store p vs ∷ r) (to-stores l xs (h .1))
 to-stores l (flush m ∷ xs) h = absurd (h .0)
+to-stores l (barrier ∷ xs) h = absurd (h .0)
 to-stores l (malformed ∷ xs) h = absurd (h .0)
 
 to-take : (l m : ℕ) (xs : List Op) → All (To l) xs → All (To l) (take m xs)
@@ -85,6 +90,7 @@ to-kept l f (store p vs ∷ cs) h =
     let g = pick (durable (lineOf p) cs) f (less f (lineOf p)) in
     to-if l (durable (lineOf p) cs || ltb 0 (f (lineOf p))) (store p vs) (kept g cs) (h .0) (to-kept l g cs (h .1))
 to-kept l f (flush m ∷ cs) h = to-kept l f cs h
+to-kept l f (barrier ∷ cs) h = to-kept l f cs h
 to-kept l f (malformed ∷ cs) h = to-kept l f cs h
 
 take-twice : (m n : ℕ) (xs : List Op) → (k : ℕ) × (take m (take n xs) ≡ take k xs)

@@ -3,22 +3,23 @@
 use Prim.Native.Nat.{ℕ, zero, suc, _+_, _-_, _*_, _≤_, _<_}
 use mathlib.Core.Path.{_≡_, refl, sym, ap, _∙_, fun-ext}
 use mathlib.Core.Bool.{Bool, true, false, _||_}
-use mathlib.Core.List.{List, _∷_}
+use mathlib.Core.List.{List, [], _∷_}
 use native.Mathlib.Omega.{arith}
+use native.Mathlib.Nat.{add-zero}
 use lib.ListN.{length, getD, set, take, drop}
-use lib.Seq.{sets, getD-set-same, getD-set-other}
-use lib.Dec.{ltb, eqb}
-use borrow.Author.Tests.{eqb-true, eqb-false}
+use lib.Seq.{sets, getD-set-same, getD-set-other, getD-drop}
+use lib.Dec.{ltb, leb, eqb}
+use borrow.Author.Tests.{ltb-true, ltb-false, leb-true, le-leb, eqb-true, eqb-false}
 use Rattle.codec.specs.Lists.{pick, part, splice}
 use Rattle.codec.specs.Numbers.{number}
-use Rattle.codec.proofs.Lists.{length-part, splice-sets}
-use Rattle.device.specs.Tape.{Op, store, flush, isCommand, front, extent, decode}
-use Rattle.device.specs.Cut.{after, lineOf, durable, less, consIf, kept}
-use Rattle.device.specs.Counts.{Kept}
-use Rattle.device.proofs.Decode.{StoreAt, FlushAt, word-at, line-at, flush-at, flush-kind}
-use Rattle.device.proofs.Counts.{On, ends, ends-next, Noted, noted-test, noted-store, noted-flush}
+use Rattle.codec.proofs.Lists.{length-part, part-drop, splice-sets}
+use Rattle.device.specs.Tape.{Op, store, flush, barrier, kindOf, placeOf, unit, placeOk, isCommand, front, extent, beyond, scan, decode, wellFormed, isBarrier}
+use Rattle.device.specs.Cut.{after, lineOf, some, durable, less, consIf, kept}
+use Rattle.device.specs.Counts.{sizeOf, Kept}
+use Rattle.device.proofs.Decode.{StoreAt, QuietAt, quietOf, quiet-all, quiet-at, quiet-kind, word-at, line-at, command-stands, stands-command, good-command, wellFormed-next, front-kind, extent-cut, extent-out, extent-size}
+use Rattle.device.proofs.Counts.{finished, fenced, fenced-next, On, on-some, on-barrier, ends, ends-next, Noted, noted-test, noted-next}
 
--- ---- run
+-- ---- play
 
 -- one store of a tape, made, and then the others
 pub play-store : (n : ℕ) (t : List ℕ) (at p s : ℕ) (w v : List ℕ) → StoreAt n t at p s → length w ≡ n → v ≡ splice w p (part t (at + 4) s) →
@@ -28,54 +29,129 @@ play-store n t at p s w v k e f =
     let fits : p + length (part t (at + 4) s) ≤ length w = omega (arith, k .inImage, k .inTape, length-part t (at + 4) s (omega arith)) in
     ap (λ (x : List ℕ). after x (decode n (drop (at + (4 + s)) t))) (f ∙ splice-sets w p (part t (at + 4) s) fits) ∙ sym (ap (after w) (k .next))
 
-pub play-flush : (n : ℕ) (t : List ℕ) (at l : ℕ) (w : List ℕ) → FlushAt n t at l → after w (decode n (drop (at + 4) t)) ≡ after w (decode n (drop at t))
+pub play-quiet : (n : ℕ) (t : List ℕ) (at place : ℕ) (w : List ℕ) → QuietAt n t at place → after w (decode n (drop (at + 4) t)) ≡ after w (decode n (drop at t))
 unfolding after
-play-flush n t at l w k = sym (ap (after w) (k .next))
+play-quiet n t at place w k =
+    sym (ap (after w) (k .next) ∙ quiet-all (λ (o : Op). after w (o ∷ decode n (drop (at + 4) t)) ≡ after w (decode n (drop (at + 4) t))) (getD t at 0) place refl refl)
 
--- ---- cut, its first pass
+-- ---- the command at a place
 
--- the place of a command, and whether it is a flush, by its first byte
+-- what is no store, by its kind
+quiet : (kind place : ℕ) → (3 ≤ kind) × (kind ≤ 4) → On (quietOf kind place) place kind
+unfolding quietOf
+quiet kind place h = go (eqb kind 3) refl
+  where
+    go : (b : Bool) → eqb kind 3 ≡ b → On (pick b (flush place) barrier) place kind
+    go true e = (refl, eqb-true kind 3 e)
+    go false e = omega (arith, eqb-false kind 3 e)
+
 module _ (n at : ℕ) (t : List ℕ) (h : at < length t) (is : isCommand n (drop at t) ≡ true) where
-  pub on-at : On (front n (drop at t)) (number (part t (at + 2) 2)) (eqb (getD t at 0) 3)
+  -- its place and its kind
+  pub on-at : On (front n (drop at t)) (number (part t (at + 2) 2)) (getD t at 0)
   on-at = go (eqb (getD t at 0) 1) refl (eqb (getD t at 0) 2) refl
     where
-      place : ℕ
-      place = number (part t (at + 2) 2)
-
-      go : (a : Bool) → eqb (getD t at 0) 1 ≡ a → (b : Bool) → eqb (getD t at 0) 2 ≡ b → On (front n (drop at t)) (number (part t (at + 2) 2)) (eqb (getD t at 0) 3)
-      go true e b f = let kind = eqb-true (getD t at 0) 1 e in rw (word-at n at t h is _ refl kind .says, kind)
-      go false e true f = let kind = eqb-true (getD t at 0) 2 f in rw (line-at n at t h is _ refl kind .says, kind)
+      go : (a : Bool) → eqb (getD t at 0) 1 ≡ a → (b : Bool) → eqb (getD t at 0) 2 ≡ b → On (front n (drop at t)) (number (part t (at + 2) 2)) (getD t at 0)
+      go true e b f = let kind = eqb-true (getD t at 0) 1 e in rw (word-at n at t h is _ refl kind .says) (omega arith)
+      go false e true f = let kind = eqb-true (getD t at 0) 2 f in rw (line-at n at t h is _ refl kind .says) (omega arith)
       go false e false f =
           let a = eqb-false (getD t at 0) 1 e in
           let b = eqb-false (getD t at 0) 2 f in
-          rw (flush-at n at t h is _ refl a b .says, flush-kind n at t h is a b) (refl, refl)
+          rw (quiet-at n at t h is _ refl a b .says) (quiet (getD t at 0) (number (part t (at + 2) 2)) (quiet-kind n at t h is a b))
 
   -- a flush names a line of the image
   pub flush-inside : getD t at 0 ≡ 3 → 64 * number (part t (at + 2) 2) < n
-  flush-inside e = let k = flush-at n at t h is _ refl (λ q. omega arith) (λ q. omega arith) in omega (arith, k .inImage)
+  flush-inside e = let k = quiet-at n at t h is _ refl (λ q. omega arith) (λ q. omega arith) in omega (arith, k .inImage e)
+
+  -- its size, from its first two bytes as one number
+  pub size-here : getD t at 0 < 256 → (head : ℕ) → head ≡ number (part t at 2) → sizeOf head ≡ extent (front n (drop at t))
+  size-here byte head e = go (ltb (length (drop at t)) (sizeOf head)) refl (placeOk n head (placeOf (drop at t))) refl
+    where
+      first : head ≡ number (part (drop at t) 0 2)
+      first = e ∙ ap number (sym (part-drop t at 0 2 ∙ ap (λ (i : ℕ). part t i 2) (add-zero at)))
+
+      four : 4 ≤ length (drop at t)
+      four = command-stands n (drop at t) is .head
+
+      more : 0 < extent (front n (drop at t))
+      more = on-some (front n (drop at t)) (number (part t (at + 2) 2)) (getD t at 0) on-at
+
+      go : (a : Bool) → ltb (length (drop at t)) (sizeOf head) ≡ a → (b : Bool) → placeOk n head (placeOf (drop at t)) ≡ b → sizeOf head ≡ extent (front n (drop at t))
+      go true p b q = absurd (omega (arith, more, extent-cut n (drop at t) four head _ first refl (ltb-true _ _ p)))
+      go false p false q = absurd (omega (arith, more, extent-out n (drop at t) four head _ first refl q))
+      go false p true q =
+          let same : getD (drop at t) 0 0 ≡ getD t at 0 = getD-drop at t 0 0 ∙ ap (λ (i : ℕ). getD t i 0) (add-zero at) in
+          sym (extent-size n (drop at t) four head _ first refl (omega arith) (ltb-false _ _ p) q)
 
 take-some : (k : ℕ) (o : Op) (cs : List Op) → 0 < k → take k (o ∷ cs) ≡ o ∷ take (k - 1) cs
 take-some zero o cs h = absurd (omega arith)
 take-some (suc k) o cs h = let e : suc k - 1 ≡ k = omega arith in rw e
 
--- of the commands left before the cut, one is done
-pub judge-turn : (c count : ℕ) (o : Op) (ds cs : List Op) (last next : List ℕ) (at place : ℕ) (b : Bool) → count < c → ds ≡ o ∷ cs → On o place b → (b ≡ true → place < length last) →
-    next ≡ pick b (set last place (at + 4)) last → (size : ℕ) → size ≡ extent o → (l : ℕ) →
-    ends next (at + size) (take (c - (count + 1)) cs) l ≡ ends last at (take (c - count) ds) l
-judge-turn c count o ds cs last next at place b h e on fits f size s l =
-    let k : c - count - 1 ≡ c - (count + 1) = omega arith in
-    let rest : take (c - count) ds ≡ o ∷ take (c - (count + 1)) cs = ap (take (c - count)) e ∙ take-some (c - count) o cs (omega arith) ∙ ap (λ (m : ℕ). o ∷ take m cs) k in
-    rw (f, s) (ends-next last at o (take (c - (count + 1)) cs) place b on fits l ∙ ap (λ (x : List Op). ends last at x l) (sym rest))
+-- ---- judge
 
--- past the cut none is left
-pub judge-past : (c count : ℕ) (ds cs : List Op) (last : List ℕ) (at more : ℕ) → c ≤ count → (l : ℕ) → ends last more (take (c - (count + 1)) cs) l ≡ ends last at (take (c - count) ds) l
-unfolding durable
-judge-past c count ds cs last at more h l =
-    let a : c - (count + 1) ≡ 0 = omega arith in
-    let b : c - count ≡ 0 = omega arith in
-    rw (a, b)
+-- one command is counted, before the cut or past it
+pub judge-turn : (c count : ℕ) (o : Op) (ds cs : List Op) (place kind fence next : ℕ) → ds ≡ o ∷ cs → On o place kind →
+    next ≡ pick (ltb count c) (pick (eqb kind 4) (count + 1) fence) fence →
+    fenced next (count + 1) (take (c - (count + 1)) cs) ≡ fenced fence count (take (c - count) ds)
+unfolding some
+judge-turn c count o ds cs place kind fence next e on f = go (ltb count c) refl
+  where
+    go : (b : Bool) → ltb count c ≡ b → fenced next (count + 1) (take (c - (count + 1)) cs) ≡ fenced fence count (take (c - count) ds)
+    go true q =
+        let less : count < c = ltb-true count c q in
+        let k : c - count - 1 ≡ c - (count + 1) = omega arith in
+        let rest : take (c - count) ds ≡ o ∷ take (c - (count + 1)) cs = ap (take (c - count)) e ∙ take-some (c - count) o cs (omega arith) ∙ ap (λ (m : ℕ). o ∷ take m cs) k in
+        let moved : next ≡ pick (isBarrier o) (count + 1) fence = f ∙ rw (q, on-barrier o place kind on) in
+        rw moved (fenced-next fence count o (take (c - (count + 1)) cs) ∙ ap (fenced fence count) (sym rest))
+    go false q =
+        let past : c ≤ count = ltb-false count c q in
+        let a : c - (count + 1) ≡ 0 = omega arith in
+        let b : c - count ≡ 0 = omega arith in
+        rw (a, b) (f ∙ rw q)
 
--- ---- cut, its second pass
+-- ---- note_flushes
+
+-- of the commands left, one is noted
+pub note-turn : (k : ℕ) (o : Op) (ds cs : List Op) (last next : List ℕ) (at place kind : ℕ) → 0 < k → ds ≡ o ∷ cs → On o place kind → (kind ≡ 3 → place < length last) →
+    next ≡ pick (eqb kind 3) (set last place (at + 4)) last → (size : ℕ) → size ≡ extent o → (l : ℕ) →
+    ends next (at + size) (take (k - 1) cs) l ≡ ends last at (take k ds) l
+note-turn k o ds cs last next at place kind h e on fits f size s l =
+    let rest : take k ds ≡ o ∷ take (k - 1) cs = ap (take k) e ∙ take-some k o cs h in
+    rw (f, s) (ends-next last at o (take (k - 1) cs) place kind on fits l ∙ ap (λ (x : List Op). ends last at x l) (sym rest))
+
+-- a well-formed tape over an image is the same over a larger one
+place-wider : (n m kind place : ℕ) → n ≤ m → placeOk n kind place ≡ true → placeOk m kind place ≡ true
+unfolding placeOk
+place-wider n m kind place h = go (eqb kind 4)
+  where
+    go : (b : Bool) → pick b (eqb place 0) (leb (unit kind * place + unit kind) n) ≡ true → pick b (eqb place 0) (leb (unit kind * place + unit kind) m) ≡ true
+    go true e = e
+    go false e = le-leb (unit kind * place + unit kind) m (omega (arith, leb-true (unit kind * place + unit kind) n e))
+
+command-wider : (n m : ℕ) (t : List ℕ) → n ≤ m → isCommand n t ≡ true → isCommand m t ≡ true
+command-wider n m t h e =
+    let s = command-stands n t e in
+    stands-command m t (record { head = s .head; low = s .low; high = s .high; second = s .second; whole = s .whole; inside = place-wider n m (kindOf t) (placeOf t) h (s .inside) })
+
+front-wider : (n m : ℕ) (t : List ℕ) → n ≤ m → isCommand n t ≡ true → front m t ≡ front n t
+front-wider n m t h e = front-kind m t (kindOf t) (command-wider n m t h e) refl ∙ sym (front-kind n t (kindOf t) e refl)
+
+scan-wider : (n m k : ℕ) (t : List ℕ) → n ≤ m → wellFormed (scan n k t) ≡ true → scan m k t ≡ scan n k t
+unfolding scan decode
+scan-wider n m zero [] h e = refl
+scan-wider n m (suc k) [] h e = refl
+scan-wider n m zero (b ∷ t) h e =
+    let o = front n (b ∷ t) in
+    let is = good-command n 0 (b ∷ t) (omega arith) e in
+    let more : 0 < extent o = on-some o (number (part (b ∷ t) (0 + 2) 2)) b (on-at n 0 (b ∷ t) (omega arith) is) in
+    let rest = scan-wider n m (beyond o (length t)) t h (sym (wellFormed-next o (scan n (beyond o (length t)) t) more) ∙ e) in
+    rw (front-wider n m (b ∷ t) h is) (ap (λ (cs : List Op). o ∷ cs) rest)
+scan-wider n m (suc k) (b ∷ t) h e = scan-wider n m k t h e
+
+pub decode-wider : (n m : ℕ) (t : List ℕ) → n ≤ m → wellFormed (decode n t) ≡ true → decode m t ≡ decode n t
+unfolding decode
+decode-wider n m t h e = scan-wider n m 0 t h e
+
+-- ---- replay
 
 -- the choices that a list holds, with one less at line m
 less-set : (left : List ℕ) (m : ℕ) → m < length left → (λ (l : ℕ). getD (set left m (getD left m 0 - 1)) l 0) ≡ less (λ (l : ℕ). getD left l 0) m
@@ -98,7 +174,7 @@ kept-store work left p m vs cs false line h e =
     go true ds = refl
     go false ds = refl
 
-module _ (n : ℕ) (t : List ℕ) (at k : ℕ) (some : 0 < k) (last : List ℕ) (noted : (l : ℕ) → Noted last at (take k (decode n (drop at t))) l) where
+module _ (n : ℕ) (t : List ℕ) (at k : ℕ) (some : 0 < k) (last : List ℕ) (noted : (l : ℕ) → Noted last at (finished (take k (decode n (drop at t)))) l) where
   module _ (p s : ℕ) (r : StoreAt n t at p s) where
     store-next : take k (decode n (drop at t)) ≡ store p (part t (at + 4) s) ∷ take (k - 1) (decode n (drop (at + (4 + s)) t))
     store-next = ap (take k) (r .next) ∙ take-some k (store p (part t (at + 4) s)) (decode n (drop (at + (4 + s)) t)) some
@@ -122,20 +198,29 @@ module _ (n : ℕ) (t : List ℕ) (at k : ℕ) (some : 0 < k) (last : List ℕ) 
         ∙ kept-store work left p m vs cs (ltb at (getD last m 0)) line h test
         ∙ sym (ap (λ (ds : List Op). after work (kept (counts left) ds)) store-next)
 
-    pub noted-past-store : (l : ℕ) → Noted last (at + (4 + s)) (take (k - 1) (decode n (drop (at + (4 + s)) t))) l
+    pub noted-past-store : (l : ℕ) → Noted last (at + (4 + s)) (finished (take (k - 1) (decode n (drop (at + (4 + s)) t)))) l
     noted-past-store l =
         let cs = take (k - 1) (decode n (drop (at + (4 + s)) t)) in
-        let here : Noted last at (store p (part t (at + 4) s) ∷ cs) l = rw store-next at (noted l) in
-        rw store-size at (noted-store last at p (part t (at + 4) s) cs l here)
+        let here : Noted last at (finished (store p (part t (at + 4) s) ∷ cs)) l = rw store-next at (noted l) in
+        rw store-size at (noted-next last at (store p (part t (at + 4) s)) cs l here)
 
-  module _ (m : ℕ) (r : FlushAt n t at m) where
-    flush-next : take k (decode n (drop at t)) ≡ flush m ∷ take (k - 1) (decode n (drop (at + 4) t))
-    flush-next = ap (take k) (r .next) ∙ take-some k (flush m) (decode n (drop (at + 4) t)) some
+  module _ (place : ℕ) (r : QuietAt n t at place) where
+    quiet-next : take k (decode n (drop at t)) ≡ quietOf (getD t at 0) place ∷ take (k - 1) (decode n (drop (at + 4) t))
+    quiet-next = ap (take k) (r .next) ∙ take-some k (quietOf (getD t at 0) place) (decode n (drop (at + 4) t)) some
 
-    pub replay-flush : (work left : List ℕ) →
+    pub replay-quiet : (work left : List ℕ) →
         after work (kept (λ (l : ℕ). getD left l 0) (take (k - 1) (decode n (drop (at + 4) t)))) ≡ after work (kept (λ (l : ℕ). getD left l 0) (take k (decode n (drop at t))))
     unfolding kept
-    replay-flush work left = sym (ap (λ (ds : List Op). after work (kept (λ (l : ℕ). getD left l 0) ds)) flush-next)
+    replay-quiet work left =
+        let f : ℕ → ℕ = λ l. getD left l 0 in
+        let cs = take (k - 1) (decode n (drop (at + 4) t)) in
+        sym
+        (ap (λ (ds : List Op). after work (kept f ds)) quiet-next
+        ∙ quiet-all (λ (o : Op). after work (kept f (o ∷ cs)) ≡ after work (kept f cs)) (getD t at 0) place refl refl)
 
-    pub noted-past-flush : (l : ℕ) → Noted last (at + 4) (take (k - 1) (decode n (drop (at + 4) t))) l
-    noted-past-flush l = noted-flush last at m (take (k - 1) (decode n (drop (at + 4) t))) l (rw flush-next at (noted l))
+    pub noted-past-quiet : (l : ℕ) → Noted last (at + 4) (finished (take (k - 1) (decode n (drop (at + 4) t)))) l
+    noted-past-quiet l =
+        let o = quietOf (getD t at 0) place in
+        let cs = take (k - 1) (decode n (drop (at + 4) t)) in
+        let here : Noted last at (finished (o ∷ cs)) l = rw quiet-next at (noted l) in
+        rw (quiet-all (λ (x : Op). extent x ≡ 4) (getD t at 0) place refl refl) at (noted-next last at o cs l here)

@@ -1,23 +1,25 @@
--- What a tape is made of: stores followed by the flushes of their lines, and stores of what stands in an image.
+-- What a tape is made of: stores followed by the flushes of their lines and a barrier, and stores of what stands in an image.
 -- Assumes nothing.
 use Prim.Native.Nat.{ℕ, _+_, _-_, _≤_, _<_}
 use mathlib.Core.Path.{_≡_, refl, sym, ap, _∙_}
 use mathlib.Core.Logic.{_⊎_}
-use mathlib.Core.Bool.{Bool, true, false, or-true}
+use mathlib.Core.Bool.{Bool, true, false, or-true, false≢true}
 use mathlib.Core.List.{List, [], _∷_, _++_, append-nil}
 use native.Mathlib.Omega.{arith}
+use native.Mathlib.Nat.{add-zero}
 use lib.ListN.{length, getD}
 use lib.Seq.{sets, length-sets, ext-getD}
-use borrow.Author.Tests.{eq-eqb, le-leb, lt-ltb}
+use borrow.Author.Tests.{le-leb, lt-ltb}
 use Rattle.codec.specs.Lists.{part, All}
 use Rattle.codec.proofs.Tests.{both}
 use Rattle.codec.proofs.Lists.{sets-apart, getD-part}
 use Rattle.codec.proofs.Agree.{or-left, or-right, neither, part-agree, part-sets}
-use Rattle.device.specs.Tape.{Op, store, flush, malformed}
-use Rattle.device.specs.Cut.{after, lineOf, durable, hits, touches, Closed, Sealed, stores, To, IsFlush, DurableBy, Flushing, Writes}
-use Rattle.device.proofs.Clauses.{durable-here}
-use Rattle.device.proofs.Cuts.{length-after, after-stores}
-use Rattle.device.proofs.Segments.{out-hits, touches-append, sealed-closed, sealed-more, in-hits, hits-out}
+use Rattle.device.specs.Tape.{Op, store, flush, barrier, malformed, howMany, flushCount, barrierCount}
+use Rattle.device.specs.Cut.{after, lineOf, flushesLine, some, durable, hits, touches, Closed, stores, To, IsFlush, Quiet, FlushedBy, Flushing, withBarrier, Writes}
+use Rattle.device.proofs.Clauses.{flushed-here}
+use Rattle.device.proofs.Durable.{durable-second, durable-barrier}
+use Rattle.device.proofs.Cuts.{length-after, after-stores, flushCount-append, barrierCount-append}
+use Rattle.device.proofs.Segments.{out-hits, touches-append, in-hits, hits-out}
 use Rattle.device.proofs.Stores.{stores-append, touches-stores, storeless-closed}
 
 -- ---- which bytes a store writes
@@ -56,50 +58,101 @@ touches-left xs ys i h = or-left (touches xs i) (touches ys i) (sym (touches-app
 pub touches-right : (xs ys : List Op) (i : ℕ) → touches (xs ++ ys) i ≡ false → touches ys i ≡ false
 touches-right xs ys i h = or-right (touches xs i) (touches ys i) (sym (touches-append xs ys i) ∙ h)
 
--- ---- stores, then the flushes of their lines
+-- ---- flushes and their barrier
 
-sealed-past : (o : Op) (xs ys : List Op) → DurableBy ys o → Sealed xs ys → Sealed (o ∷ xs) ys
-unfolding Sealed
-sealed-past (store p vs) xs ys h s = (h, s)
-sealed-past (flush l) xs ys h s = s
-sealed-past malformed xs ys h s = s
+-- "one barrier": not one for each flush
+pub group-one : (o : Op) (ys : List Op) → All IsFlush (o ∷ ys) → barrierCount (withBarrier (o ∷ ys)) ≡ 1
+unfolding howMany
+group-one o ys h = barrierCount-append (o ∷ ys) (barrier ∷ []) ∙ ap (λ (k : ℕ). k + 1) (none (o ∷ ys) h)
+  where
+    none : (zs : List Op) → All IsFlush zs → barrierCount zs ≡ 0
+    none [] k = refl
+    none (store p vs ∷ zs) k = absurd (k .0)
+    none (flush l ∷ zs) k = none zs (k .1)
+    none (barrier ∷ zs) k = absurd (k .0)
+    none (malformed ∷ zs) k = absurd (k .0)
+
+pub group-most : (ys : List Op) → All IsFlush ys → barrierCount (withBarrier ys) ≤ 1
+unfolding howMany
+group-most [] h = omega arith
+group-most (o ∷ ys) h = omega (arith, group-one o ys h)
+
+-- a barrier is no flush
+pub group-flushes : (ys : List Op) → flushCount (withBarrier ys) ≡ flushCount ys
+unfolding howMany
+group-flushes [] = refl
+group-flushes (o ∷ ys) = flushCount-append (o ∷ ys) (barrier ∷ []) ∙ add-zero (flushCount (o ∷ ys))
+
+-- ---- stores, then the flushes of their lines and a barrier
 
 pub flushing-none : Flushing [] []
-unfolding Sealed
 flushing-none = record { flushes = tt; covers = tt }
+
+flushed-more : (o : Op) (xs ys : List Op) → All (FlushedBy ys) xs → All (FlushedBy (o ∷ ys)) xs
+unfolding some
+flushed-more o [] ys h = tt
+flushed-more o (store p vs ∷ xs) ys h = (rw (h .0) (or-true (flushesLine (lineOf p) o)), flushed-more o xs ys (h .1))
+flushed-more o (flush l ∷ xs) ys h = (tt, flushed-more o xs ys (h .1))
+flushed-more o (barrier ∷ xs) ys h = (tt, flushed-more o xs ys (h .1))
+flushed-more o (malformed ∷ xs) ys h = (tt, flushed-more o xs ys (h .1))
 
 -- one flush more
 pub flushing-flush : (m : ℕ) (xs ys : List Op) → Flushing xs ys → Flushing xs (flush m ∷ ys)
-flushing-flush m xs ys f = record { flushes = (tt, f .flushes); covers = sealed-more xs (flush m ∷ []) ys (f .covers) }
+flushing-flush m xs ys f = record { flushes = (tt, f .flushes); covers = flushed-more (flush m) xs ys (f .covers) }
 
--- one command more before them, that they make durable
-pub flushing-past : (o : Op) (xs ys : List Op) → DurableBy ys o → Flushing xs ys → Flushing (o ∷ xs) ys
-flushing-past o xs ys h f = record { flushes = f .flushes; covers = sealed-past o xs ys h (f .covers) }
+-- one command more before them, that they flush
+pub flushing-past : (o : Op) (xs ys : List Op) → FlushedBy ys o → Flushing xs ys → Flushing (o ∷ xs) ys
+flushing-past o xs ys h f = record { flushes = f .flushes; covers = (h, f .covers) }
 
--- a store and its flush
-pub flushing-next : (p : ℕ) (vs : List ℕ) (l : ℕ) (xs ys : List Op) → lineOf p ≡ l → Flushing xs ys → Flushing (store p vs ∷ xs) (flush l ∷ ys)
-flushing-next p vs l xs ys e f =
-    flushing-past (store p vs) xs (flush l ∷ ys) (ap (λ (m : ℕ). durable m (flush l ∷ ys)) e ∙ durable-here l ys) (flushing-flush l xs ys f)
-
-flushes-storeless : (ys : List Op) → All IsFlush ys → stores ys ≡ []
+quiet-storeless : (ys : List Op) → All Quiet ys → stores ys ≡ []
 unfolding stores
-flushes-storeless [] h = refl
-flushes-storeless (store p vs ∷ ys) h = absurd (h .0)
-flushes-storeless (flush l ∷ ys) h = flushes-storeless ys (h .1)
-flushes-storeless (malformed ∷ ys) h = absurd (h .0)
+quiet-storeless [] h = refl
+quiet-storeless (store p vs ∷ ys) h = absurd (h .0)
+quiet-storeless (flush l ∷ ys) h = quiet-storeless ys (h .1)
+quiet-storeless (barrier ∷ ys) h = quiet-storeless ys (h .1)
+quiet-storeless (malformed ∷ ys) h = absurd (h .0)
+
+-- flushes and their barrier
+pub group-quiet : (ys : List Op) → All IsFlush ys → All Quiet (withBarrier ys)
+group-quiet [] h = tt
+group-quiet (o ∷ ys) h = go (o ∷ ys) h
+  where
+    go : (zs : List Op) → All IsFlush zs → All Quiet (zs ++ (barrier ∷ []))
+    go [] k = (tt, tt)
+    go (store p vs ∷ zs) k = absurd (k .0)
+    go (flush l ∷ zs) k = (tt, go zs (k .1))
+    go (barrier ∷ zs) k = absurd (k .0)
+    go (malformed ∷ zs) k = absurd (k .0)
+
+-- they make durable what the flushes flush
+group-durable : (l : ℕ) (ys : List Op) → some (flushesLine l) ys ≡ true → durable l (withBarrier ys) ≡ true
+unfolding some
+group-durable l [] e = absurd (false≢true e)
+group-durable l (o ∷ ys) e = durable-barrier l (o ∷ ys) ∙ e
+
+group-closed : (xs ys : List Op) → All (FlushedBy ys) xs → All IsFlush ys → Closed (xs ++ withBarrier ys)
+unfolding Closed
+group-closed [] ys h k = storeless-closed (withBarrier ys) (quiet-storeless (withBarrier ys) (group-quiet ys k))
+group-closed (store p vs ∷ xs) ys h k = (durable-second (lineOf p) xs (withBarrier ys) (group-durable (lineOf p) ys (h .0)), group-closed xs ys (h .1) k)
+group-closed (flush l ∷ xs) ys h k = group-closed xs ys (h .1) k
+group-closed (barrier ∷ xs) ys h k = group-closed xs ys (h .1) k
+group-closed (malformed ∷ xs) ys h k = group-closed xs ys (h .1) k
 
 module _ (xs ys : List Op) (f : Flushing xs ys) where
-  pub flushing-closed : Closed (xs ++ ys)
-  flushing-closed = sealed-closed xs ys (f .covers) (storeless-closed ys (flushes-storeless ys (f .flushes)))
+  pub flushing-quiet : All Quiet (withBarrier ys)
+  flushing-quiet = group-quiet ys (f .flushes)
 
-  pub flushing-stores : stores (xs ++ ys) ≡ stores xs
-  flushing-stores = stores-append xs ys ∙ ap (λ (r : List Op). stores xs ++ r) (flushes-storeless ys (f .flushes)) ∙ append-nil (stores xs)
+  pub flushing-closed : Closed (xs ++ withBarrier ys)
+  flushing-closed = group-closed xs ys (f .covers) (f .flushes)
 
-  pub flushing-touches : (i : ℕ) → touches (xs ++ ys) i ≡ touches xs i
-  flushing-touches i = sym (touches-stores (xs ++ ys) i) ∙ ap (λ (cs : List Op). touches cs i) flushing-stores ∙ touches-stores xs i
+  pub flushing-stores : stores (xs ++ withBarrier ys) ≡ stores xs
+  flushing-stores = stores-append xs (withBarrier ys) ∙ ap (λ (r : List Op). stores xs ++ r) (quiet-storeless (withBarrier ys) flushing-quiet) ∙ append-nil (stores xs)
 
-  pub flushing-after : (image : List ℕ) → after image (xs ++ ys) ≡ after image xs
-  flushing-after image = sym (after-stores image (xs ++ ys)) ∙ ap (after image) flushing-stores ∙ after-stores image xs
+  pub flushing-touches : (i : ℕ) → touches (xs ++ withBarrier ys) i ≡ touches xs i
+  flushing-touches i = sym (touches-stores (xs ++ withBarrier ys) i) ∙ ap (λ (cs : List Op). touches cs i) flushing-stores ∙ touches-stores xs i
+
+  pub flushing-after : (image : List ℕ) → after image (xs ++ withBarrier ys) ≡ after image xs
+  flushing-after image = sym (after-stores image (xs ++ withBarrier ys)) ∙ ap (after image) flushing-stores ∙ after-stores image xs
 
 -- ---- stores of what stands in an image w
 
@@ -119,6 +172,7 @@ pub writes-at : (w a : List ℕ) (cs : List Op) (i : ℕ) → length a ≡ lengt
 unfolding after touches
 writes-at w a [] i l h k = k refl
 writes-at w a (flush m ∷ cs) i l h k = writes-at w a cs i l (h .1) k
+writes-at w a (barrier ∷ cs) i l h k = writes-at w a cs i l (h .1) k
 writes-at w a (malformed ∷ cs) i l h k = writes-at w a cs i l (h .1) k
 writes-at w a (store p vs ∷ cs) i l h k =
     writes-at w (sets a p vs) cs i (length-sets a p vs ∙ l) (h .1) (λ e. go (hits (store p vs) i) refl e)
@@ -140,26 +194,37 @@ sets-stands x p vs fits e = writes-after x x (store p vs ∷ []) refl ((fits, e)
 pub writes-move : (w b : List ℕ) (cs : List Op) → length b ≡ length w → ((i : ℕ) → touches cs i ≡ true → getD b i 0 ≡ getD w i 0) → All (Writes w) cs → All (Writes b) cs
 writes-move w b [] l h k = tt
 writes-move w b (flush m ∷ cs) l h k = (tt, writes-move w b cs l (λ i t. h i (touches-past (flush m) cs i t)) (k .1))
+writes-move w b (barrier ∷ cs) l h k = (tt, writes-move w b cs l (λ i t. h i (touches-past barrier cs i t)) (k .1))
 writes-move w b (malformed ∷ cs) l h k = (tt, writes-move w b cs l (λ i t. h i (touches-past malformed cs i t)) (k .1))
 writes-move w b (store p vs ∷ cs) l h k = (
   (omega (arith, k .0 .0), sym (part-agree b w p (length vs) l (λ i low high. h i (touches-in p vs cs i low high))) ∙ k .0 .1),
   writes-move w b cs l (λ i t. h i (touches-past (store p vs) cs i t)) (k .1),
 )
 
-pub flushes-write : (w : List ℕ) (ys : List Op) → All IsFlush ys → All (Writes w) ys
-flushes-write w [] h = tt
-flushes-write w (store p vs ∷ ys) h = absurd (h .0)
-flushes-write w (flush l ∷ ys) h = (tt, flushes-write w ys (h .1))
-flushes-write w (malformed ∷ ys) h = absurd (h .0)
+pub quiet-write : (w : List ℕ) (ys : List Op) → All Quiet ys → All (Writes w) ys
+quiet-write w [] h = tt
+quiet-write w (store p vs ∷ ys) h = absurd (h .0)
+quiet-write w (flush l ∷ ys) h = (tt, quiet-write w ys (h .1))
+quiet-write w (barrier ∷ ys) h = (tt, quiet-write w ys (h .1))
+quiet-write w (malformed ∷ ys) h = absurd (h .0)
 
 -- ---- stores to one line, then its flush
 
-to-sealed : (l : ℕ) (xs : List Op) → All (To l) xs → Sealed xs (flush l ∷ [])
-unfolding Sealed durable
-to-sealed l [] h = tt
-to-sealed l (store p vs ∷ xs) h = (rw (eq-eqb l (lineOf p) (sym (h .0))), to-sealed l xs (h .1))
-to-sealed l (flush m ∷ xs) h = absurd (h .0)
-to-sealed l (malformed ∷ xs) h = absurd (h .0)
-
 pub to-flushing : (l : ℕ) (xs : List Op) → All (To l) xs → Flushing xs (flush l ∷ [])
-to-flushing l xs h = record { flushes = (tt, tt); covers = to-sealed l xs h }
+to-flushing l xs h = record { flushes = (tt, tt); covers = covered xs h }
+  where
+    covered : (zs : List Op) → All (To l) zs → All (FlushedBy (flush l ∷ [])) zs
+    covered [] k = tt
+    covered (store p vs ∷ zs) k = (ap (λ (m : ℕ). some (flushesLine m) (flush l ∷ [])) (k .0) ∙ flushed-here l [], covered zs (k .1))
+    covered (flush m ∷ zs) k = absurd (k .0)
+    covered (barrier ∷ zs) k = absurd (k .0)
+    covered (malformed ∷ zs) k = absurd (k .0)
+
+-- ---- one flush and its barrier
+
+pub own-storeless : (l : ℕ) → stores (withBarrier (flush l ∷ [])) ≡ []
+own-storeless l = quiet-storeless (withBarrier (flush l ∷ [])) (tt, (tt, tt))
+
+pub own-untouched : (l i : ℕ) → touches (withBarrier (flush l ∷ [])) i ≡ false
+unfolding touches
+own-untouched l i = refl

@@ -1,21 +1,22 @@
--- The image after commands, and the image that a cut leaves (document 01, "The device").
+-- The image after commands, and the image that a cut leaves (document 01, "The device"; what is durable, document 02 (h)).
 -- Assumes nothing.
 use Prim.Native.Nat.{ℕ, _+_, _-_, _/_, _≤_}
 use mathlib.Core.Path.{_≡_}
 use mathlib.Core.Bool.{Bool, true, false, not, _&&_, _||_}
-use mathlib.Core.List.{List, [], _∷_}
+use mathlib.Core.List.{List, [], _∷_, _++_}
 use lib.ListN.{length, take}
 use lib.Seq.{sets}
 use lib.Dec.{ltb, leb, eqb}
 use Rattle.codec.specs.Lists.{pick, part, All}
-use Rattle.device.specs.Tape.{Op, store, flush, malformed}
+use Rattle.device.specs.Tape.{Op, store, flush, barrier, malformed, isBarrier}
 
 -- ---- the image after all stores
 
--- a store writes its bytes at its place, all at once; a flush changes nothing of the image
+-- a store writes its bytes at its place, all at once; a flush or a barrier changes nothing of the image
 abbrev pub apply : List ℕ → Op → List ℕ
 apply image (store p vs) = sets image p vs
 apply image (flush l) = image
+apply image barrier = image
 apply image malformed = image
 
 -- "the image after all stores"
@@ -29,13 +30,23 @@ after image (o ∷ cs) = after (apply image o) cs
 abbrev pub lineOf : ℕ → ℕ
 lineOf p = p / 64
 
--- "Once done, every earlier store to that line is durable": whether a store to line l is durable once these commands, which come after it,
--- are done: one of them flushes the line
+-- whether a command flushes line l
+abbrev pub flushesLine : ℕ → Op → Bool
+flushesLine l (store p vs) = false
+flushesLine l (flush m) = eqb m l
+flushesLine l barrier = false
+flushesLine l malformed = false
+
+-- whether one of the commands is so
+unfoldable pub some : (Op → Bool) → List Op → Bool
+some test [] = false
+some test (o ∷ cs) = test o || some test cs
+
+-- "a store counts as durable once its line has been flushed after it and a barrier has come after that flush": whether a store to line l is
+-- durable once these commands, which come after it, are done
 unfoldable pub durable : ℕ → List Op → Bool
 durable l [] = false
-durable l (store p vs ∷ cs) = durable l cs
-durable l (flush m ∷ cs) = eqb m l || durable l cs
-durable l (malformed ∷ cs) = durable l cs
+durable l (o ∷ cs) = (flushesLine l o && some isBarrier cs) || durable l cs
 
 -- the choices with one less at line l
 abbrev pub less : (ℕ → ℕ) → ℕ → ℕ → ℕ
@@ -46,14 +57,15 @@ abbrev pub consIf : Bool → Op → List Op → List Op
 consIf true o cs = o ∷ cs
 consIf false o cs = cs
 
--- "A cut [..] keeps all flushed stores and, for each line on its own, some first part of its pending stores":
--- the stores kept of these commands, all of them done, where f says how many pending ones of each line
+-- "A cut [..] keeps all flushed stores and, for each line on its own, some first part of its pending stores", where "Until then a line keeps any first
+-- part of its stores": the stores kept of these commands, all of them done, where f says how many of each line that are not durable
 unfoldable pub kept : (ℕ → ℕ) → List Op → List Op
 kept f [] = []
 kept f (store p vs ∷ cs) =
     consIf (durable (lineOf p) cs || ltb 0 (f (lineOf p))) (store p vs)
     (kept (pick (durable (lineOf p) cs) f (less f (lineOf p))) cs)
 kept f (flush l ∷ cs) = kept f cs
+kept f (barrier ∷ cs) = kept f cs
 kept f (malformed ∷ cs) = kept f cs
 
 -- "A cut after c commands"
@@ -66,6 +78,7 @@ cutImage image f c cs = after image (kept f (take c cs))
 abbrev pub hits : Op → ℕ → Bool
 hits (store p vs) i = leb p i && ltb i (p + length vs)
 hits (flush l) i = false
+hits barrier i = false
 hits malformed i = false
 
 -- whether a store of the list writes byte i
@@ -78,26 +91,22 @@ unfoldable pub Closed : List Op → Type 0
 Closed [] = Unit {0}
 Closed (store p vs ∷ cs) = (durable (lineOf p) cs ≡ true) × Closed cs
 Closed (flush l ∷ cs) = Closed cs
+Closed (barrier ∷ cs) = Closed cs
 Closed (malformed ∷ cs) = Closed cs
-
--- every store of the first list is durable once the second is done
-unfoldable pub Sealed : List Op → List Op → Type 0
-Sealed [] ds = Unit {0}
-Sealed (store p vs ∷ cs) ds = (durable (lineOf p) ds ≡ true) × Sealed cs ds
-Sealed (flush l ∷ cs) ds = Sealed cs ds
-Sealed (malformed ∷ cs) ds = Sealed cs ds
 
 -- the stores alone
 unfoldable pub stores : List Op → List Op
 stores [] = []
 stores (store p vs ∷ cs) = store p vs ∷ stores cs
 stores (flush l ∷ cs) = stores cs
+stores (barrier ∷ cs) = stores cs
 stores (malformed ∷ cs) = stores cs
 
--- whether a command stores to line l or flushes it
+-- whether a command stores to line l or flushes it, or is a barrier, which waits for the flushes of all lines
 abbrev pub concerns : ℕ → Op → Bool
 concerns l (store p vs) = eqb (lineOf p) l
 concerns l (flush m) = eqb m l
+concerns l barrier = true
 concerns l malformed = false
 
 -- the commands that concern line l
@@ -105,45 +114,67 @@ unfoldable pub ofLine : ℕ → List Op → List Op
 ofLine l [] = []
 ofLine l (o ∷ cs) = consIf (concerns l o) o (ofLine l cs)
 
--- how many of the stores to line l are durable once all of the commands are done
-unfoldable pub settled : ℕ → List Op → ℕ
-settled l [] = 0
-settled l (store p vs ∷ cs) = pick (eqb (lineOf p) l && durable l cs) 1 0 + settled l cs
-settled l (flush m ∷ cs) = settled l cs
-settled l (malformed ∷ cs) = settled l cs
+-- how many of the stores to line l have commands after them that are so
+unfoldable pub storesWhere : (List Op → Bool) → ℕ → List Op → ℕ
+storesWhere test l [] = 0
+storesWhere test l (store p vs ∷ cs) = pick (eqb (lineOf p) l && test cs) 1 0 + storesWhere test l cs
+storesWhere test l (flush m ∷ cs) = storesWhere test l cs
+storesWhere test l (barrier ∷ cs) = storesWhere test l cs
+storesWhere test l (malformed ∷ cs) = storesWhere test l cs
 
--- "A store is pending until its line is flushed": how many of the stores to line l are not durable once all these commands are done
-unfoldable pub pending : ℕ → List Op → ℕ
-pending l [] = 0
-pending l (store p vs ∷ cs) = pick (eqb (lineOf p) l && not (durable l cs)) 1 0 + pending l cs
-pending l (flush m ∷ cs) = pending l cs
-pending l (malformed ∷ cs) = pending l cs
+-- how many of the stores to line l are durable once all of the commands are done
+abbrev pub settled : ℕ → List Op → ℕ
+settled l cs = storesWhere (durable l) l cs
+
+-- "A store is pending until" it is durable: how many of the stores to line l are not, once all these commands are done
+abbrev pub pending : ℕ → List Op → ℕ
+pending l cs = storesWhere (λ ds. not (durable l ds)) l cs
+
+-- and how many of them no flush of the line has come after, so that a barrier would not make them durable
+abbrev pub unflushed : ℕ → List Op → ℕ
+unflushed l cs = storesWhere (λ ds. not (some (flushesLine l) ds)) l cs
 
 -- a store to line l
 abbrev pub To : ℕ → Op → Type 0
 To l (store p vs) = lineOf p ≡ l
 To l (flush m) = ⊥
+To l barrier = ⊥
 To l malformed = ⊥
 
 -- a flush
 abbrev pub IsFlush : Op → Type 0
 IsFlush (store p vs) = ⊥
 IsFlush (flush l) = Unit {0}
+IsFlush barrier = ⊥
 IsFlush malformed = ⊥
 
--- if it is a store, it is durable once ys are done
-abbrev pub DurableBy : List Op → Op → Type 0
-DurableBy ys (store p vs) = durable (lineOf p) ys ≡ true
-DurableBy ys (flush l) = Unit {0}
-DurableBy ys malformed = Unit {0}
+-- a flush or a barrier
+abbrev pub Quiet : Op → Type 0
+Quiet (store p vs) = ⊥
+Quiet (flush l) = Unit {0}
+Quiet barrier = Unit {0}
+Quiet malformed = ⊥
+
+-- if it is a store, one of ys flushes its line
+abbrev pub FlushedBy : List Op → Op → Type 0
+FlushedBy ys (store p vs) = some (flushesLine (lineOf p)) ys ≡ true
+FlushedBy ys (flush l) = Unit {0}
+FlushedBy ys barrier = Unit {0}
+FlushedBy ys malformed = Unit {0}
 
 -- ys are flushes, and flush all that xs store
 pub record Flushing (xs ys : List Op) : Type 0 where
   pub flushes : All IsFlush ys
-  pub covers : Sealed xs ys
+  pub covers : All (FlushedBy ys) xs
+
+-- "Each unbroken group of flushes on every tape is followed by one barrier": the flushes ys with theirs; no flush, no barrier
+abbrev pub withBarrier : List Op → List Op
+withBarrier [] = []
+withBarrier (o ∷ ys) = o ∷ (ys ++ (barrier ∷ []))
 
 -- if it is a store, it stores what stands in the image w
 abbrev pub Writes : List ℕ → Op → Type 0
 Writes w (store p vs) = (p + length vs ≤ length w) × (part w p (length vs) ≡ vs)
 Writes w (flush l) = Unit {0}
+Writes w barrier = Unit {0}
 Writes w malformed = Unit {0}

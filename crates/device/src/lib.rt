@@ -1,4 +1,4 @@
-// The device: words, lines and flushes on a tape, run over an image, whole or cut.
+// The device: words, lines, flushes and barriers on a tape, run over an image, whole or cut.
 ghost use mathlib.Core.Path.{_≡_};
 ghost use mathlib.Core.Bool.{true, _||_};
 ghost use Prim.Native.Nat.{ℕ, _+_, _-_, _*_, _/_, _≤_, _<_};
@@ -6,9 +6,9 @@ ghost use lib.Dec.{eqb, ltb};
 ghost use lib.ListN.{length, take, drop, getD, set};
 ghost use Rattle.codec.specs.Lists.{pick, part, splice};
 ghost use Rattle.codec.specs.Numbers.{number};
-ghost use Rattle.device.specs.Tape.{decode, front, extent, unit, wellFormed, headBytes, wordBytes, lineBytes, flushBytes};
+ghost use Rattle.device.specs.Tape.{decode, front, extent, placeOk, wellFormed, headBytes, wordBytes, lineBytes, flushBytes, barrierBytes};
 ghost use Rattle.device.specs.Cut.{after, cutImage};
-ghost use Rattle.device.specs.Counts.{sizeOf, scanned, flushEnd, Kept};
+ghost use Rattle.device.specs.Counts.{sizeOf, upToBarrier, scanned, flushEnd, Kept};
 ghost use Rattle.device.specs.Calls.{refusal, isImageSize, runCall, cutTape, cutCall};
 
 // A refusal: its number, and the number of the edit that it names.
@@ -70,9 +70,10 @@ pub enum Answer {
     Refused(Refusal),
 }
 
-// What reading a whole tape finds.
+// What reading a whole tape finds: how many commands there are, and of the first ones, as many as were asked of, how many stand up to the last
+// barrier.
 pub enum Scan {
-    Commands(usize),
+    Commands(usize, usize),
     Broken,
 }
 
@@ -84,20 +85,24 @@ fn size_of(head: usize) -> usize
         1 => 12,
         2 => 68,
         3 => 4,
+        4 => 4,
         _ => 0,
     }
 }
 
-// Where the word or line that a command names ends in the image.
-fn end_of(head: usize, place: usize) -> usize
+// Whether a command that starts with these two bytes may have this place, over an image of n bytes: a word or a line is not outside, and a
+// barrier has place 0.
+fn is_place(head: usize, place: usize, n: usize) -> bool
     requires { ⌜ place < 65536 ⌝ }
-    ensures { λ r. ⌜ r ≡ unit head * place + unit head ⌝ }
+    ensures { λ r. ⌜ r ≡ placeOk n head place ⌝ }
 {
-    if head == 1 {
-        8 * place + 8
-    } else {
-        64 * place + 64
+    if head == 4 {
+        return place == 0;
     }
+    if head == 1 {
+        return 8 * place + 8 <= n;
+    }
+    64 * place + 64 <= n
 }
 
 // The bytes of the command at `at` of the tape, over an image of n bytes; 0 if it is none.
@@ -115,27 +120,43 @@ fn size_at(tape: &[u8], at: usize, n: usize) -> usize
     if left < size {
         return 0;
     }
-    if n < end_of(head, place) {
+    if !is_place(head, place, n) {
         return 0;
     }
     size
 }
 
-// Judges the whole tape over an image of n bytes and counts its commands.
-pub fn count_commands(tape: &[u8], n: usize) -> Scan
-    ensures { λ r. ⌜ r ≡ scanned (decode n (now (tape .entry))) ⌝ }
+// How many of the first c commands stand up to the last barrier, once one of this kind has come after `count` others, of which `fence` did.
+fn fence_after(kind: u8, count: usize, c: usize, fence: usize) -> usize
+    ensures { λ r. ⌜ r ≡ pick (ltb count c) (pick (eqb kind 4) (count + 1) fence) fence ⌝ }
+{
+    if c <= count {
+        return fence;
+    }
+    if kind != 4 {
+        return fence;
+    }
+    count + 1
+}
+
+// Judges the whole tape over an image of n bytes and counts its commands, and of the first c those up to the last barrier: a flush past it is not
+// waited for when c commands are done, and so makes nothing durable.
+pub fn judge(tape: &[u8], n: usize, c: usize) -> Scan
+    ensures { λ r. ⌜ r ≡ scanned c (decode n (now (tape .entry))) ⌝ }
 {
     let mut at = 0;
     let mut count = 0;
+    let mut fence = 0;
     while at < tape.len() {
         let size = size_at(tape, at, n);
         if size == 0 {
             return Scan::Broken;
         }
+        fence = fence_after(tape[at], count, c, fence);
         at = at + size;
         count = count + 1;
     }
-    Scan::Commands(count)
+    Scan::Commands(count, fence)
 }
 
 // Makes every store of a well-formed tape.
@@ -184,9 +205,9 @@ pub fn run(image: &[u8], work: &mut [u8], tape: &[u8]) -> Answer
     if work.len() != n {
         return Answer::Refused(Refusal::of(Refusal::WORK_SIZE));
     }
-    match count_commands(tape, n) {
+    match judge(tape, n, 0) {
         Scan::Broken => Answer::Refused(Refusal::of(Refusal::BAD_TAPE)),
-        Scan::Commands(_) => {
+        Scan::Commands(_, _) => {
             codec::copy_all(work, image);
             play(work, tape);
             Answer::Accepted
@@ -206,33 +227,24 @@ fn note(last: &mut [usize], tape: &[u8], at: usize)
     last[line] = at + 4;
 }
 
-// Judges the whole tape and counts its commands. Of the first c, notes for each line where its last flush ends.
-fn judge(last: &mut [usize], tape: &[u8], n: usize, c: usize) -> Scan
-    requires { ⌜ n ≤ 64 * length (now last) ⌝ }
+// Of the first k commands of a well-formed tape, notes for each line where its last flush ends. The tape is over an image of no more lines than
+// there is room for.
+fn note_flushes(last: &mut [usize], tape: &[u8], k: usize)
+    requires { ⌜ (wellFormed (decode (64 * length (now last)) (now tape)) ≡ true) × (k ≤ length (decode (64 * length (now last)) (now tape))) ⌝ }
     requires { ⌜ ((l : ℕ) → getD (now last) l 0 ≡ 0) ⌝ }
-    ensures { λ r. ⌜ r ≡ scanned (decode n (now (tape .entry))) ⌝ }
-    ensures { λ _. ⌜ (wellFormed (decode n (now (tape .entry))) ≡ true → (l : ℕ) → getD (now (last .exit)) l 0 ≡ flushEnd l 0 (take c (decode n (now (tape .entry))))) ⌝ }
+    ensures { λ _. ⌜ ((l : ℕ) → getD (now (last .exit)) l 0 ≡ flushEnd l 0 (take k (decode (64 * length (now (last .entry))) (now (tape .entry))))) ⌝ }
 {
     let mut at = 0;
-    let mut count = 0;
-    while at < tape.len() {
-        let size = size_at(tape, at, n);
-        if size == 0 {
-            return Scan::Broken;
-        }
-        if count < c {
-            note(last, tape, at);
-            at = at + size;
-            count = count + 1;
-        } else {
-            at = at + size;
-            count = count + 1;
-        }
+    let mut todo = k;
+    while 0 < todo {
+        note(last, tape, at);
+        at = at + size_of(codec::number_at(tape, at));
+        todo = todo - 1;
     }
-    Scan::Commands(count)
 }
 
-// Whether a store at `at` of the tape is kept: its line is flushed later, or its choice is not used up, which counts one less.
+// Whether a store at `at` of the tape is kept: a flush of its line that is noted ends later, so that it is durable, or its choice is not used up,
+// which counts one less.
 fn is_kept(last: &[usize], left: &mut [u8], at: usize, line: usize) -> bool
     requires { ⌜ (line < length (now last)) × (line < length (now left)) ⌝ }
     ensures { λ r. ⌜ r ≡ (ltb at (getD (now (last .entry)) line 0) || ltb 0 (getD (now (left .entry)) line 0)) ⌝ }
@@ -275,7 +287,7 @@ fn keep_line(work: &mut [u8], left: &mut [u8], last: &[usize], tape: &[u8], at: 
 fn replay(work: &mut [u8], left: &mut [u8], last: &[usize], tape: &[u8], c: usize)
     requires { ⌜ (length (now work) ≤ 64 * length (now last)) × (length (now work) ≤ 64 * length (now left)) ⌝ }
     requires { ⌜ (wellFormed (decode (length (now work)) (now tape)) ≡ true) × (c ≤ length (decode (length (now work)) (now tape))) ⌝ }
-    requires { ⌜ ((l : ℕ) → getD (now last) l 0 ≡ flushEnd l 0 (take c (decode (length (now work)) (now tape)))) ⌝ }
+    requires { ⌜ ((l : ℕ) → getD (now last) l 0 ≡ flushEnd l 0 (take (upToBarrier (take c (decode (length (now work)) (now tape)))) (decode (length (now work)) (now tape)))) ⌝ }
     ensures { λ _. ⌜ now (work .exit) ≡ cutImage (now (work .entry)) (λ l. getD (now (left .entry)) l 0) c (decode (length (now (work .entry))) (now (tape .entry))) ⌝ }
 {
     let mut at = 0;
@@ -312,12 +324,13 @@ fn cut_tape(
     ensures { λ r. ⌜ r ≡ (cutTape (now (image .entry)) (now (work .entry)) (now (tape .entry)) c (λ l. getD (now (left .entry)) l 0)) .answer ⌝ }
     ensures { λ _. ⌜ now (work .exit) ≡ (cutTape (now (image .entry)) (now (work .entry)) (now (tape .entry)) c (λ l. getD (now (left .entry)) l 0)) .work ⌝ }
 {
-    match judge(last, tape, image.len(), c) {
+    match judge(tape, image.len(), c) {
         Scan::Broken => Answer::Refused(Refusal::of(Refusal::BAD_TAPE)),
-        Scan::Commands(count) => {
+        Scan::Commands(count, fence) => {
             if count < c {
                 return Answer::Refused(Refusal::of(Refusal::PAST_END));
             }
+            note_flushes(last, tape, fence);
             codec::copy_all(work, image);
             replay(work, left, last, tape, c);
             Answer::Accepted
@@ -403,4 +416,12 @@ pub fn emit_flush(tape: &mut [u8], at: usize, line: usize)
     ensures { λ _. ⌜ now (tape .exit) ≡ splice (now (tape .entry)) at (flushBytes line) ⌝ }
 {
     put_head(tape, at, 3, line);
+}
+
+// Writes a barrier.
+pub fn emit_barrier(tape: &mut [u8], at: usize)
+    requires { ⌜ at + 4 ≤ length (now tape) ⌝ }
+    ensures { λ _. ⌜ now (tape .exit) ≡ splice (now (tape .entry)) at barrierBytes ⌝ }
+{
+    put_head(tape, at, 4, 0);
 }

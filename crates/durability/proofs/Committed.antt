@@ -1,5 +1,5 @@
--- The commit store of an accepted transaction stands on its tape where the definition of its place finds it, with its flush next; and what a
--- cut of the tape leaves, by that place.
+-- The commit store of an accepted transaction stands on its tape where the definition of its place finds it, with its flush next and a
+-- barrier after it; and what a cut of the tape leaves, by that place.
 -- Assumes nothing.
 use Prim.Native.Nat.{ℕ, suc, _+_, _-_, _≤_}
 use mathlib.Core.Path.{_≡_, refl, sym, ap, ap₂, _∙_, subst}
@@ -12,10 +12,11 @@ use borrow.Author.Tests.{eq-eqb, ne-eqb, le-leb, lt-ltb}
 use Rattle.codec.specs.Lists.{All}
 use Rattle.codec.specs.Numbers.{bytesOf}
 use Rattle.codec.proofs.Agree.{or-left, or-right}
-use Rattle.device.specs.Tape.{Op, store, flush, malformed, Writable}
+use Rattle.device.specs.Tape.{Op, store, flush, barrier, malformed, Writable}
 use Rattle.device.specs.Cut.{hits, touches, durable, lineOf}
-use Rattle.device.proofs.Clauses.{touches-store, touches-flush, durable-here}
-use Rattle.device.proofs.Segments.{durable-late}
+use Rattle.device.proofs.Clauses.{touches-store, touches-flush, touches-barrier}
+use Rattle.device.proofs.Durable.{flush-barrier, durable-first}
+use Rattle.device.proofs.Segments.{durable-two}
 use Rattle.image.specs.PageZero.{rootOf, markBytes}
 use Rattle.image.specs.Image.{sound}
 use Rattle.image.specs.Table.{table}
@@ -36,7 +37,7 @@ use Rattle.journal.proofs.Fitting.{taken-fits}
 use Rattle.transaction.specs.declared.Transacted.the-variants.{Accepted}
 use Rattle.transaction.specs.Calls.{commandsOn}
 use Rattle.transaction.proofs.Demand2.{was-sound, target, target-edited, room, answer-is, commands-are}
-use Rattle.durability.specs.Demand.{Call, onImage, placeOffset, storeAt, commitAt, Flushed, CommitStands}
+use Rattle.durability.specs.Demand.{Call, onImage, placeOffset, storeAt, commitAt, PastBarrier, CommitStands}
 
 -- a store of a word or a line at o stores byte o
 stores-first : (n o p : ℕ) (vs : List ℕ) → Writable n (store p vs) → hits (store p vs) o ≡ false → p ≡ o → ⊥
@@ -55,27 +56,28 @@ first-store n o vs rest (store p us ∷ cs) w t =
     rw (ne-eqb p o (stores-first n o p us (w .0) (or-left (hits (store p us) o) (touches cs o) e)))
     (ap suc (first-store n o vs rest cs (w .1) (or-right (hits (store p us) o) (touches cs o) e)))
 first-store n o vs rest (flush l ∷ cs) w t = ap suc (first-store n o vs rest cs (w .1) (sym (touches-flush l cs o) ∙ t))
+first-store n o vs rest (barrier ∷ cs) w t = ap suc (first-store n o vs rest cs (w .1) (sym (touches-barrier cs o) ∙ t))
 first-store n o vs rest (malformed ∷ cs) w t = absurd (w .0)
 
--- ---- a store with its flush next, after commands that do not store there
+-- ---- a store with its flush next and a barrier after it, after commands that do not store there
 
-module _ (n : ℕ) (place : CommitPlace) (cs bef : List Op) (vs : List ℕ) (rest : List Op) (shape : cs ≡ bef ++ (store (placeOffset place) vs ∷ flush (lineOf (placeOffset place)) ∷ rest))
+module _ (n : ℕ) (place : CommitPlace) (cs bef : List Op) (vs : List ℕ) (rest : List Op) (shape : cs ≡ bef ++ (store (placeOffset place) vs ∷ flush (lineOf (placeOffset place)) ∷ barrier ∷ rest))
     (writes : All (Writable n) bef) (first : touches bef (placeOffset place) ≡ false) where
   abbrev o : ℕ
   o = placeOffset place
 
   pub found : commitAt place cs ≡ length bef
-  found = ap (storeAt o) shape ∙ first-store n o vs (flush (lineOf o) ∷ rest) bef writes first
+  found = ap (storeAt o) shape ∙ first-store n o vs (flush (lineOf o) ∷ barrier ∷ rest) bef writes first
 
-  -- past the store, its own flush is the first command before the cut
-  own : (c : ℕ) → length bef + 2 ≤ c → Flushed place cs c
+  -- past the store, its own flush and the barrier are the first commands before the cut
+  own : (c : ℕ) → length bef + 3 ≤ c → PastBarrier place cs c
   own c h =
-      let d : ℕ = c - (length bef + 2) in
-      let q : c ≡ length bef + suc (suc d) = omega arith in
+      let d : ℕ = c - (length bef + 3) in
+      let q : c ≡ length bef + suc (suc (suc d)) = omega arith in
       ap₂ (λ (m i : ℕ). durable (lineOf o) (drop (suc m) (take i cs))) found q
-      ∙ ap (λ (t : List Op). durable (lineOf o) (drop (suc (length bef)) (take (length bef + suc (suc d)) t))) shape
-      ∙ ap (durable (lineOf o)) (past-command bef (store o vs) (flush (lineOf o) ∷ rest) (suc d))
-      ∙ durable-here (lineOf o) (take d rest)
+      ∙ ap (λ (t : List Op). durable (lineOf o) (drop (suc (length bef)) (take (length bef + suc (suc (suc d))) t))) shape
+      ∙ ap (durable (lineOf o)) (past-command bef (store o vs) (flush (lineOf o) ∷ barrier ∷ rest) (suc (suc d)))
+      ∙ durable-first (lineOf o) (flush (lineOf o) ∷ barrier ∷ []) (take d rest) (flush-barrier (lineOf o))
 
   pub stands : CommitStands place cs
   stands =
@@ -87,8 +89,8 @@ module _ (n : ℕ) (place : CommitPlace) (cs bef : List Op) (vs : List ℕ) (res
         first = first;
         issued = λ c h. omega (arith, found);
         issues = λ c h. omega (arith, found);
-        flushed = λ c h. omega (arith, found, durable-late (lineOf o) (suc (commitAt place cs)) c cs h);
-        flushes = own;
+        waited = λ c h. omega (arith, found, durable-two (lineOf o) (suc (commitAt place cs)) c cs h);
+        waits = own;
       }
 
 -- ---- the commit place of a transaction from a to w
@@ -116,8 +118,8 @@ module _ (way : Way) (a w : List ℕ) (s : sound a ≡ true) (d : Edited a w) (r
   abbrev vs : List ℕ
   vs = place-store (x .place) .0
 
-  shape : x .tape ≡ t .safe .prepare ++ (store (placeOffset (x .place)) vs ∷ flush (lineOf (placeOffset (x .place))) ∷ t .safe .rest)
-  shape = follows-shape a w x t ∙ ap₂ (λ (c : Op) (l : ℕ). t .safe .prepare ++ (c ∷ flush l ∷ t .safe .rest)) (place-store (x .place) .1) (place-line (x .place))
+  shape : x .tape ≡ t .safe .prepare ++ (store (placeOffset (x .place)) vs ∷ flush (lineOf (placeOffset (x .place))) ∷ barrier ∷ t .safe .rest)
+  shape = follows-shape a w x t ∙ ap₂ (λ (c : Op) (l : ℕ). t .safe .prepare ++ (c ∷ flush l ∷ barrier ∷ t .safe .rest)) (place-store (x .place) .1) (place-line (x .place))
 
   writes : All (Writable (length a)) (t .safe .prepare)
   writes = All-left (Writable (length a)) (t .safe .prepare) _ (subst (All (Writable (length a))) shape (taken-fits way a w s d room))
@@ -171,7 +173,7 @@ module _ (a : List ℕ) (k : Call) (d : Commit) (e : onImage a k .answer ≡ Acc
       subst (P (d .place)) (sym (commands-are (k .way) a (k .work) (k .tape) (k .edits) d e))
       (subst (λ (c : Commit). P (c .place) (made .tape)) (sym (answer-is (k .way) a (k .work) (k .tape) (k .edits) d e)) h)
 
-  -- the commit store of an accepted transaction stands on its tape, with its flush next
+  -- the commit store of an accepted transaction stands on its tape, with its flush next and a barrier after it
   pub commit-stands : CommitStands (d .place) cs
   commit-stands = answered CommitStands (taken-stands (k .way) a w s edited inLog)
 

@@ -56,14 +56,14 @@ module _ (a : List ℕ) (s : sound a ≡ true) (y : Day) (r : DayRuns a y) where
       go (inl e) =
           record {
             survived = false;
-            decides = record { beforeIssue = λ z. refl; afterFlush = λ z. absurd (omega (arith, claim .afterFlush z)) };
+            decides = record { beforeIssue = λ z. refl; afterBarrier = λ z. absurd (omega (arith, claim .afterBarrier z)) };
             isSound = holds .isSound;
             isTable = at (acceptedIn a (y .calls)) e ∙ table-at-n a (y .calls) (y .next);
           }
       go (inr e) =
           record {
             survived = true;
-            decides = record { beforeIssue = λ z. absurd (omega (arith, claim .beforeIssue z)); afterFlush = λ z. refl };
+            decides = record { beforeIssue = λ z. absurd (omega (arith, claim .beforeIssue z)); afterBarrier = λ z. refl };
             isSound = holds .isSound;
             isTable = at (suc (acceptedIn a (y .calls))) e ∙ table-at-next a (y .calls) (y .next) (y .commit) (r .accepts);
           }

@@ -24,7 +24,7 @@ use Rattle.journal.specs.Holds.{Holds, CutHolds}
 use Rattle.transaction.specs.Calls.{isAccepted}
 use Rattle.transaction.specs.declared.Transacted.the-variants as transacted
 use Rattle.transaction.proofs.Demand2.{target, target-table}
-use Rattle.durability.specs.Demand.{Call, onImage, played, imageAfter, acceptedIn, feedOf, feeds, Attempt, placeOffset, commitAt, Issued, Flushed, commands, failed, last, history, ledger, accepted, Survives, Demand3}
+use Rattle.durability.specs.Demand.{Call, onImage, played, imageAfter, acceptedIn, feedOf, feeds, Attempt, placeOffset, commitAt, Issued, PastBarrier, commands, failed, last, history, ledger, accepted, Survives, Demand3}
 use Rattle.durability.proofs.Transactions.{accepted-feed, played-table}
 use Rattle.durability.proofs.Attempts.{holds-allowed, holds-accepted, completed, attempts-hold, attempts-allowed}
 use Rattle.durability.proofs.Committed.{commit-cut}
@@ -84,7 +84,7 @@ module _ (a : List ℕ) (ks : List Call) (k : Call) (c : ℕ) (f : ℕ → ℕ) 
       ∙ sym (table-at-next a ks k d e)
 
   -- the image that the failure leaves decides what is held
-  survives : (j : ℕ) → (j ≡ n) ⊎ (j ≡ suc n) → ((Issued (d .place) cs c → ⊥) → j ≡ n) → (Flushed (d .place) cs c → j ≡ suc n) →
+  survives : (j : ℕ) → (j ≡ n) ⊎ (j ≡ suc n) → ((Issued (d .place) cs c → ⊥) → j ≡ n) → (PastBarrier (d .place) cs c → j ≡ suc n) →
       Holds (tableAt j (ledger a ks k c f xs d) (history a ks k c f xs d)) (failed a ks k c f xs d) → Survives a ks k c f xs d
   survives j o b g h =
       let t = tableAt j (ledger a ks k c f xs d) (history a ks k c f xs d) in
@@ -93,7 +93,7 @@ module _ (a : List ℕ) (ks : List Call) (k : Call) (c : ℕ) (f : ℕ → ℕ) 
         held = j;
         oneOf = o;
         beforeIssue = b;
-        afterFlush = g;
+        afterBarrier = g;
         onlyRoom = attempts-allowed xs t (failed a ks k c f xs d) h;
         nextOnlyRoom = holds-allowed t (last a ks k c f xs d) img-last;
         roomCompletes = holds-accepted t (last a ks k c f xs d) img-last;
@@ -102,7 +102,7 @@ module _ (a : List ℕ) (ks : List Call) (k : Call) (c : ℕ) (f : ℕ → ℕ) 
             record { isSound = u .0; isTable = u .1 };
       }
 
-  old : Holds (table img) (failed a ks k c f xs d) → (Flushed (d .place) cs c → ⊥) → Survives a ks k c f xs d
+  old : Holds (table img) (failed a ks k c f xs d) → (PastBarrier (d .place) cs c → ⊥) → Survives a ks k c f xs d
   old h g =
       survives n (inl refl) (λ z. refl) (λ z. absurd (g z)) (subst (λ (t : List Rec). Holds t (failed a ks k c f xs d)) table-n h)
 
@@ -122,7 +122,7 @@ module _ (a : List ℕ) (ks : List Call) (k : Call) (c : ℕ) (f : ℕ → ℕ) 
       cut : CutHolds (table img) (table w) img cs at l f c
       cut = commit-cut img k d e f c
 
-      between : (Flushed (d .place) cs c → ⊥) → Issued (d .place) cs c → Holds (table img) (failed a ks k c f xs d) ⊎ Holds (table w) (failed a ks k c f xs d) → Survives a ks k c f xs d
+      between : (PastBarrier (d .place) cs c → ⊥) → Issued (d .place) cs c → Holds (table img) (failed a ks k c f xs d) ⊎ Holds (table w) (failed a ks k c f xs d) → Survives a ks k c f xs d
       between g i (inl h) = old h g
       between g i (inr h) = new h i
 

@@ -23,6 +23,7 @@ use Rattle.edit.specs.EditList.{Edit}
 use Rattle.edit.proofs.Parsing.{list-proper}
 use Rattle.journal.specs.Changes.{changedPages}
 use Rattle.journal.specs.Way.{IsWord}
+use Rattle.journal.specs.Order.{Grouped}
 use Rattle.journal.specs.Log.{SameButLog}
 use Rattle.journal.specs.Tape.{commitOf, roomInLog, takenFor}
 use Rattle.journal.specs.Recovery.{replayFrom, recoveryTape, replayable}
@@ -32,6 +33,7 @@ use Rattle.journal.specs.declared.Way.the-variants.{ByWords}
 use Rattle.journal.specs.declared.Commit.{Commit}
 use Rattle.journal.specs.declared.CommitPlace.{CommitPlace}
 use Rattle.journal.specs.declared.CommitPlace.the-variants.{Header, Root, Log}
+use Rattle.journal.proofs.Groups.{taken-grouped, recovery-grouped}
 use Rattle.journal.proofs.Devices as devices
 use Rattle.journal.proofs.Devices.{taken-words, words-place, same-back, taken-work}
 use Rattle.tree.specs.State.{State}
@@ -46,7 +48,7 @@ use Rattle.transaction.proofs.Demand2.{was-sound, target, target-edited, answer
 use Rattle.recovery.specs.Calls.{Result, refusedWith, acceptedWith, recoverCall}
 use Rattle.recovery.specs.declared.Redone.{Redone}
 use Rattle.recovery.specs.declared.Recovered.the-variants as recovered
-use Rattle.durability.specs.Devices.{WordTape, TransactionWords, RecoveryWords, transactionSays, recoverySays, AtTape, Alike, refused, at-tape, BothCalls, BothRecoveries}
+use Rattle.durability.specs.Devices.{TransactionGroups, RecoveryGroups, WordTape, TransactionWords, RecoveryWords, transactionSays, recoverySays, AtTape, Alike, refused, at-tape, BothCalls, BothRecoveries}
 use Rattle.durability.proofs.Recovered.{refused-not}
 use Rattle.durability.proofs.Attempts as attempts
 
@@ -227,3 +229,13 @@ recovery-words a work tape e q =
       words = subst (All IsWord) (sym cs) (devices.recovery-words a h);
       counts = attempts.flushes-are (table (replay a)) a h ByWords work tape e q ∙ ap flushCount (sym cs);
     }
+
+-- ---- the groups of flushes, on both devices
+
+pub transaction-groups : TransactionGroups
+transaction-groups way a work tape bytes c e = subst Grouped (sym (commands-are way a work tape bytes c e)) (taken-grouped way a (target way a work tape bytes c e))
+
+pub recovery-groups : RecoveryGroups
+recovery-groups way a work tape e q =
+    let h = accepted-holds a work way tape e q in
+    subst Grouped (sym (attempts.commands-are (table (replay a)) a h way work tape e q)) (recovery-grouped way a)

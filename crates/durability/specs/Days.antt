@@ -19,7 +19,7 @@ use Rattle.transaction.specs.declared.Transacted.the-variants as transacted
 use Rattle.recovery.specs.Calls as recovery
 use Rattle.recovery.specs.declared.Redone.{Redone}
 use Rattle.recovery.specs.declared.Recovered.the-variants as recovered
-use Rattle.durability.specs.Demand.{Call, onImage, played, acceptedIn, feeds, Attempt, AllAllowed, Issued, Flushed, commands, failed, last}
+use Rattle.durability.specs.Demand.{Call, onImage, played, acceptedIn, feeds, Attempt, AllAllowed, Issued, PastBarrier, commands, failed, last}
 
 -- ---- a day
 
@@ -28,7 +28,7 @@ pub record Day : Type 0 where
   pub calls : List Call
   pub next : Call
   pub commit : Commit
-  -- power fails after `stop` of its commands; line l keeps the first `choices l` of its pending stores
+  -- power fails after `stop` of its commands; line l keeps the first `choices l` of its stores that are not durable
   pub stop : ℕ
   pub choices : ℕ → ℕ
   -- the recoveries that are refused or cut
@@ -70,10 +70,10 @@ daysEnd a (y ∷ ys) = daysEnd (dayEnd a y) ys
 
 -- ---- which of the cut transactions survived: a Bool a day
 
--- not one whose commit store was not issued before the cut; one whose commit store was flushed
+-- not one whose commit store was not issued before the cut; one whose commit store was past its barrier
 pub record Decides (a : List ℕ) (y : Day) (b : Bool) : Type 0 where
   pub beforeIssue : (Issued (y .commit .place) (cutCommands a y) (y .stop) → ⊥) → b ≡ false
-  pub afterFlush : Flushed (y .commit .place) (cutCommands a y) (y .stop) → b ≡ true
+  pub afterBarrier : PastBarrier (y .commit .place) (cutCommands a y) (y .stop) → b ≡ true
 
 unfoldable pub Decided : List ℕ → List Day → List Bool → Type 0
 Decided a [] [] = Unit {0}

@@ -10,7 +10,7 @@ use mathlib.Core.List.{List, [], _∷_, _++_}
 use lib.ListN.{length, take, drop}
 use lib.Dec.{eqb}
 use Rattle.codec.specs.Lists.{pick}
-use Rattle.device.specs.Tape.{Op, store, flush, malformed, tapeBytes}
+use Rattle.device.specs.Tape.{Op, store, flush, barrier, malformed, tapeBytes}
 use Rattle.device.specs.Cut.{after, cutImage, durable, lineOf, touches}
 use Rattle.device.specs.Calls.{workSize, tapeShort}
 use Rattle.page.specs.Layout.{pageSize}
@@ -92,6 +92,7 @@ unfoldable pub storeAt : ℕ → List Op → ℕ
 storeAt o [] = 0
 storeAt o (store p vs ∷ cs) = let rest = suc (storeAt o cs) in pick (eqb p o) 0 rest
 storeAt o (flush l ∷ cs) = suc (storeAt o cs)
+storeAt o (barrier ∷ cs) = suc (storeAt o cs)
 storeAt o (malformed ∷ cs) = suc (storeAt o cs)
 
 -- "The commit store is the one changed place's store, or the mark's first store."
@@ -102,22 +103,23 @@ commitAt place cs = storeAt (placeOffset place) cs
 abbrev pub Issued : CommitPlace → List Op → ℕ → Type 0
 Issued place cs c = commitAt place cs < c
 
-abbrev pub Flushed : CommitPlace → List Op → ℕ → Type 0
-Flushed place cs c = durable (lineOf (placeOffset place)) (drop (suc (commitAt place cs)) (take c cs)) ≡ true
+-- "The recovered count now says 'flushed and past a barrier'" (document 02 (h)): the commit store is durable
+abbrev pub PastBarrier : CommitPlace → List Op → ℕ → Type 0
+PastBarrier place cs c = durable (lineOf (placeOffset place)) (drop (suc (commitAt place cs)) (take c cs)) ≡ true
 
--- The commit store stands on the tape cs with its own flush next, and the two words above mean what they say: it is issued once its command
--- is among the first c, and not before; it is flushed once its own flush is, and not before.
+-- The commit store stands on the tape cs with its own flush next and a barrier after it, and the two words above mean what they say: it is issued
+-- once its command is among the first c, and not before; it is past its barrier once that barrier is, and not before.
 pub record CommitStands (place : CommitPlace) (cs : List Op) : Type 0 where
   pub before : List Op
   pub bytes : List ℕ
   pub rest : List Op
-  pub shape : cs ≡ before ++ (store (placeOffset place) bytes ∷ flush (lineOf (placeOffset place)) ∷ rest)
+  pub shape : cs ≡ before ++ (store (placeOffset place) bytes ∷ flush (lineOf (placeOffset place)) ∷ barrier ∷ rest)
   -- "the mark's first store": no command before it stores there
   pub first : touches before (placeOffset place) ≡ false
   pub issued : (c : ℕ) → Issued place cs c → length before + 1 ≤ c
   pub issues : (c : ℕ) → length before + 1 ≤ c → Issued place cs c
-  pub flushed : (c : ℕ) → Flushed place cs c → length before + 2 ≤ c
-  pub flushes : (c : ℕ) → length before + 2 ≤ c → Flushed place cs c
+  pub waited : (c : ℕ) → PastBarrier place cs c → length before + 3 ≤ c
+  pub waits : (c : ℕ) → length before + 3 ≤ c → PastBarrier place cs c
 
 -- ---- recoveries
 
@@ -162,7 +164,7 @@ module _ (a : List ℕ) (ks : List Call) (k : Call) (c : ℕ) (f : ℕ → ℕ) 
   abbrev pub commands : List Op
   commands = commandsOn before (d .bytes) (onImage before k .tape)
 
-  -- power fails after c of them; line l keeps the first f l of its pending stores
+  -- power fails after c of them; "whatever first part of its stores not yet durable each line keeps": line l keeps the first f l of them
   abbrev pub failed : List ℕ
   failed = cutImage before f c commands
 
@@ -181,12 +183,12 @@ module _ (a : List ℕ) (ks : List Call) (k : Call) (c : ℕ) (f : ℕ → ℕ) 
   abbrev pub accepted : ℕ
   accepted = acceptedIn a ks
 
-  -- "the store holds exactly n transactions before the commit store is issued, n + 1 once it is flushed, one of the two between"
+  -- "the store holds exactly n transactions before the commit store is issued, n + 1 once it is" flushed and past a barrier, "one of the two between"
   pub record Survives : Type 0 where
     pub held : ℕ
     pub oneOf : (held ≡ accepted) ⊎ (held ≡ suc accepted)
     pub beforeIssue : (Issued (d .place) commands c → ⊥) → held ≡ accepted
-    pub afterFlush : Flushed (d .place) commands c → held ≡ suc accepted
+    pub afterBarrier : PastBarrier (d .place) commands c → held ≡ suc accepted
     -- "no recovery in the list is refused but with 2 or 13", nor is any next one
     pub onlyRoom : AllAllowed failed xs
     pub nextOnlyRoom : (way : Way) (work tape : List ℕ) → Allowed (recovery.recoverCall way last work tape .answer)

@@ -1,5 +1,5 @@
--- The calls of the two devices beside each other (document 02 (d)): what the tapes without line stores are made of, and in what the answers and
--- images of the two calls can differ.
+-- The calls of the two devices beside each other (document 02 (d) and (h)): the groups of flushes on their tapes, what the tapes without line stores
+-- are made of, and in what the answers and images of the two calls can differ.
 -- Assumes nothing.
 use Prim.Native.Nat.{ℕ}
 use mathlib.Core.Path.{_≡_}
@@ -12,6 +12,7 @@ use Rattle.device.specs.declared.Refusal.{Refusal}
 use Rattle.device.specs.declared.Answer.{Answer}
 use Rattle.device.specs.declared.Answer.the-variants as answers
 use Rattle.journal.specs.Way.{IsWord}
+use Rattle.journal.specs.Order.{Grouped}
 use Rattle.journal.specs.Log.{SameButLog}
 use Rattle.journal.specs.declared.Way.{Way}
 use Rattle.journal.specs.declared.Way.the-variants.{ByWords}
@@ -24,6 +25,18 @@ use Rattle.recovery.specs.Calls.{recoverCall}
 use Rattle.recovery.specs.declared.Redone.{Redone}
 use Rattle.recovery.specs.declared.Recovered.{Recovered}
 use Rattle.recovery.specs.declared.Recovered.the-variants as recovered
+
+-- ---- on both devices
+
+-- "Each unbroken group of flushes on every tape is followed by one barrier": a transaction's and a recovery's
+abbrev pub TransactionGroups : Type 0
+TransactionGroups =
+    (way : Way) (a work tape bytes : List ℕ) (c : Commit) → transactionCall way a work tape bytes .answer ≡ transacted.Accepted c →
+    Grouped (commandsOn a (c .bytes) (transactionCall way a work tape bytes .tape))
+
+abbrev pub RecoveryGroups : Type 0
+RecoveryGroups =
+    (way : Way) (a work tape : List ℕ) (e : Redone) → recoverCall way a work tape .answer ≡ recovered.Accepted e → Grouped (commandsOn a (e .bytes) (recoverCall way a work tape .tape))
 
 -- ---- without line stores
 

@@ -15,12 +15,12 @@ use Rattle.codec.proofs.Tests.{All-map}
 use Rattle.codec.proofs.Lists.{sets-apart, length-splice}
 use Rattle.codec.proofs.Numbers.{length-bytesOf}
 use Rattle.codec.proofs.Agree.{part-sets, part-agree}
-use Rattle.device.specs.Tape.{Op, store, flush}
-use Rattle.device.specs.Cut.{after, touches, Writes}
-use Rattle.device.proofs.Clauses.{after-store, after-flush, durable-here, stores-nil, stores-flush}
-use Rattle.device.proofs.Cuts.{length-after, after-append}
+use Rattle.device.specs.Tape.{Op, store, flush, barrier}
+use Rattle.device.specs.Cut.{after, some, durable, touches, stores, withBarrier, Writes}
+use Rattle.device.proofs.Clauses.{after-nil, after-store}
+use Rattle.device.proofs.Cuts.{length-after, after-append, after-stores}
 use Rattle.device.proofs.Segments.{run-other, closed-append}
-use Rattle.device.proofs.Writing.{writes-at, writes-after, writes-move, flushes-write, touches-both, touches-left, touches-right, untouched-first, untouched-rest}
+use Rattle.device.proofs.Writing.{writes-at, writes-after, writes-move, own-storeless, flushing-quiet, quiet-write, touches-both, touches-left, touches-right, untouched-first, untouched-rest}
 use Rattle.page.specs.Layout.{pageSize, lineSize}
 use Rattle.image.specs.PageZero.{pageCount, isPage, rootOf, logMost, markBytes, noMark, pageZero}
 use Rattle.image.specs.Image.{reached, among, distinct, sound}
@@ -32,9 +32,9 @@ use Rattle.image.proofs.Zero.{Size, Line, ready-facts, facts-waiting}
 use Rattle.image.proofs.Soundness.{sound-facts}
 use Rattle.image.proofs.Frame.{frame, live-place}
 use Rattle.journal.specs.Changes.{stageA, changedPages, sameRoot}
-use Rattle.journal.specs.Log.{ownPage, headerStores, headerFlushes, logTape, ending, replayTape}
+use Rattle.journal.specs.Log.{ownPage, headerStores, headerFlushes, headerTape, logTape, ending, replayTape}
 use Rattle.journal.specs.Recovery.{linesFrom, logged, loggedOk, rootIs, recoveryTape}
-use Rattle.journal.specs.Tape.{newHeaders, joinLines, byLog}
+use Rattle.journal.specs.Tape.{newHeaders, joinLines, markFlush, byLog}
 use Rattle.journal.specs.Edited.{Edited}
 use Rattle.journal.specs.Commit.{commitStore, commitLine}
 use Rattle.journal.specs.Holds.{tapeOf}
@@ -51,16 +51,31 @@ use Rattle.journal.proofs.Follows.{Follows}
 use Rattle.journal.proofs.Edits.{size, line-w, changed, own-all, headers-lines, headers-write, headers-ok, agree}
 use Rattle.journal.proofs.OnePlace.{agree-same}
 
+-- ---- the mark's flush and its barrier
+
+mark-storeless : stores markFlush ≡ []
+unfolding markFlush
+mark-storeless = own-storeless 0
+
+-- the mark is durable before the headers are stored
+mark-durable : durable 0 markFlush ≡ true
+unfolding markFlush durable some
+mark-durable = refl
+
+mark-own : markFlush ≡ flush 0 ∷ barrier ∷ []
+unfolding markFlush
+mark-own = refl
+
 -- a byte that the end of the tape does not store
 ending-untouched : (root i : ℕ) (same : Bool) → touches (ending same root) i ≡ false → (8 ≤ i) × ((same ≡ true) ⊎ (16 ≤ i))
 unfolding ending
 ending-untouched root i same t = go same t
   where
     clear : List Op
-    clear = store 0 noMark ∷ flush 0 ∷ []
+    clear = store 0 noMark ∷ withBarrier (flush 0 ∷ [])
 
     past : touches clear i ≡ false → 8 ≤ i
-    past u = out (untouched-first 0 noMark (flush 0 ∷ []) i u)
+    past u = out (untouched-first 0 noMark (withBarrier (flush 0 ∷ [])) i u)
       where
         out : (i < 0) ⊎ (0 + length noMark ≤ i) → 8 ≤ i
         out (inl h) = absurd (omega arith)
@@ -238,23 +253,25 @@ module _ (way : Way) (a w : List ℕ) (s : sound a ≡ true) (d : Edited a w) (s
       cleared = line-writes 0 noMark (omega arith) length-noMark (line-w a w s d .mark)
 
       go : (q : Bool) → All (Writes work) (ending q root)
-      go true = (cleared, (tt, tt))
-      go false = (rootIn, (cleared, (tt, tt)))
+      go true = (cleared, (tt, (tt, tt)))
+      go false = (rootIn, (cleared, (tt, (tt, tt))))
 
   replay-writes : All (Writes work) (replayTape way hs same root)
-  unfolding replayTape
+  unfolding replayTape headerTape
   replay-writes =
-      All-append (Writes work) (headerStores way hs) (headerFlushes hs ++ ending same root)
+      All-append (Writes work) (headerTape way hs) (ending same root)
+      (All-append (Writes work) (headerStores way hs) (withBarrier (headerFlushes hs))
       (move (headerStores way hs) (λ i h. headers-outside way (pageCount a) hs i lines (logged-inside (pageCount a) hs hs-ok) h) (headers-write a w s d way (changedPages a w) (changed a w s d)))
-      (All-append (Writes work) (headerFlushes hs) (ending same root) (flushes-write work (headerFlushes hs) (header-flushing way hs .flushes)) ending-writes)
+      (quiet-write work (withBarrier (headerFlushes hs)) (flushing-quiet (headerStores way hs) (headerFlushes hs) (header-flushing way hs)))) ending-writes
 
   -- ---- and every byte where a and the work image differ is stored
 
   replay-untouched : (i : ℕ) → touches (replayTape way hs same root) i ≡ false → (touches (headerStores ByLine hs) i ≡ false) × (8 ≤ i) × ((same ≡ true) ⊎ (16 ≤ i))
-  unfolding replayTape
+  unfolding replayTape headerTape
   replay-untouched i u =
-      let e = ending-untouched root i same (touches-right (headerFlushes hs) (ending same root) i (touches-right (headerStores way hs) (headerFlushes hs ++ ending same root) i u)) in
-      (sym (headers-touches hs (headerStores way hs) i lines (headers-in way hs)) ∙ touches-left (headerStores way hs) (headerFlushes hs ++ ending same root) i u, e .0, e .1)
+      let e = ending-untouched root i same (touches-right (headerTape way hs) (ending same root) i u) in
+      let t = touches-left (headerTape way hs) (ending same root) i u in
+      (sym (headers-touches hs (headerStores way hs) i lines (headers-in way hs)) ∙ touches-left (headerStores way hs) (withBarrier (headerFlushes hs)) i t, e .0, e .1)
 
   agrees : (i : ℕ) → touches prepare i ≡ false → touches (replayTape way hs same root) i ≡ false → getD a i 0 ≡ getD work i 0
   agrees i t u = go (v .2) ∙ sym (work-other way w (d .isSound) hs lines few-hs long i (touches-right (stageA a w) (logTape way hs) i t))
@@ -274,11 +291,12 @@ module _ (way : Way) (a w : List ℕ) (s : sound a ≡ true) (d : Edited a w) (s
       writes-after work b (replayTape way hs same root) (length-b ∙ sym (length-work-w ∙ d .sameLength)) replay-writes
       (λ i u. past-mark i (replay-untouched i u .1) ∙ writes-at work a prepare i (sym (length-work-w ∙ d .sameLength)) prepare-writes (λ t. agrees i t u))
 
-  leaves : after a (prepare ++ (store 0 mark ∷ flush 0 ∷ replayTape way hs same root)) ≡ work
+  leaves : after a (prepare ++ (store 0 mark ∷ (markFlush ++ replayTape way hs same root))) ≡ work
   leaves =
-      after-append a prepare (store 0 mark ∷ flush 0 ∷ replayTape way hs same root)
-      ∙ after-store 0 mark (flush 0 ∷ replayTape way hs same root) x
-      ∙ after-flush 0 (replayTape way hs same root) b
+      after-append a prepare (store 0 mark ∷ (markFlush ++ replayTape way hs same root))
+      ∙ after-store 0 mark (markFlush ++ replayTape way hs same root) x
+      ∙ after-append b markFlush (replayTape way hs same root)
+      ∙ ap (λ (y : List ℕ). after y (replayTape way hs same root)) (sym (after-stores b markFlush) ∙ ap (after b) mark-storeless ∙ after-nil b)
       ∙ run
 
   dead : (i : ℕ) → live a i ≡ true → touches prepare i ≡ false
@@ -316,9 +334,9 @@ module _ (way : Way) (a w : List ℕ) (s : sound a ≡ true) (d : Edited a w) (s
               prepared = closed-append (stageA a w) (logTape way hs) (stageA-closed a w) (log-closed way hs);
               place = 0;
               bytes = mark;
-              wait = flush 0 ∷ [];
-              noStore = stores-flush 0 [] ∙ stores-nil;
-              isDurable = durable-here 0 [];
+              wait = markFlush;
+              noStore = mark-storeless;
+              isDurable = mark-durable;
               rest = replayTape way hs same root;
               commits = inr by-mark;
               shape = refl;
@@ -328,7 +346,7 @@ module _ (way : Way) (a w : List ℕ) (s : sound a ≡ true) (d : Edited a w) (s
         commits = refl;
         isStore = ap (λ (n : ℕ). store 0 (markBytes n (rootOf w))) (sym count);
         isLine = refl;
-        ownFlush = refl;
+        ownFlush = mark-own;
         sameTable = f .1;
         names = (some, few);
       }

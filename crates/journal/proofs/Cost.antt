@@ -1,5 +1,5 @@
 -- What a transaction that changes one leaf costs: it commits by the leaf's header, stores no word that lies elsewhere, and flushes each line that
--- it stores to once.
+-- it stores to once, with one barrier for the words and one for the header.
 -- Assumes nothing.
 use Prim.Native.Nat.{ℕ, zero, suc, _+_, _-_, _*_, _/_, _%_, _≤_, _<_}
 use mathlib.Core.Path.{_≡_, refl, sym, ap, _∙_}
@@ -15,11 +15,11 @@ use Rattle.codec.specs.Lists.{part, pick, All}
 use Rattle.codec.proofs.Tests.{eqs-same, eqs-differ}
 use Rattle.codec.proofs.Lists.{length-part}
 use Rattle.codec.proofs.Agree.{part-agree}
-use Rattle.device.specs.Tape.{Op, store, flush, malformed, flushCount}
-use Rattle.device.specs.Cut.{stores}
-use Rattle.device.proofs.Cuts.{flushCount-append}
+use Rattle.device.specs.Tape.{Op, store, flush, barrier, malformed, howMany, flushCount, barrierCount}
+use Rattle.device.specs.Cut.{stores, withBarrier}
+use Rattle.device.proofs.Cuts.{flushCount-append, barrierCount-append}
 use Rattle.device.proofs.Stores.{stores-append}
-use Rattle.device.proofs.Writing.{flushing-stores}
+use Rattle.device.proofs.Writing.{flushing-stores, group-most, group-flushes}
 use Rattle.page.specs.Layout.{pageSize, lineSize}
 use Rattle.image.specs.PageZero.{pageCount, rootOf}
 use Rattle.image.specs.Image.{reached, among, sound}
@@ -43,9 +43,10 @@ module _ (bottom top : ℕ) where
   Between ps = All (λ (p : ℕ). (bottom ≤ p / lineSize) × (p / lineSize < top)) ps
 
   from-few : (l low : ℕ) (cs : List Op) → l < top → l ≤ low / lineSize → RisesFrom low (storePlaces cs) → Between (storePlaces cs) → flushCount (flushesFrom l cs) ≤ top - l
-  unfolding flushesFrom storePlaces flushCount
+  unfolding flushesFrom storePlaces howMany
   from-few l low [] inside h r b = omega arith
   from-few l low (flush m ∷ cs) inside h r b = from-few l low cs inside h r b
+  from-few l low (barrier ∷ cs) inside h r b = from-few l low cs inside h r b
   from-few l low (malformed ∷ cs) inside h r b = from-few l low cs inside h r b
   from-few l low (store p vs ∷ cs) inside h r b = at (decLt l (p / lineSize)) (from-few (p / lineSize) (suc p) cs (b .0 .1) (omega arith) (r .1) (b .1))
     where
@@ -63,16 +64,17 @@ module _ (bottom top : ℕ) where
       at (no u) k = let e : l ≡ p / lineSize = omega (arith, r .0) in rw (eq-eqb l (p / lineSize) e) (omega (arith, e, k))
 
   of-few : (low : ℕ) (cs : List Op) → RisesFrom low (storePlaces cs) → Between (storePlaces cs) → flushCount (flushesOf cs) ≤ top - bottom
-  unfolding flushesOf storePlaces flushCount
+  unfolding flushesOf storePlaces howMany
   of-few low [] r b = omega arith
   of-few low (flush m ∷ cs) r b = of-few low cs r b
+  of-few low (barrier ∷ cs) r b = of-few low cs r b
   of-few low (malformed ∷ cs) r b = of-few low cs r b
   of-few low (store p vs ∷ cs) r b = omega (arith, b .0 .0, from-few (p / lineSize) (suc p) cs (b .0 .1) (omega arith) (r .1) (b .1))
 
--- where nothing is stored, nothing is flushed
-none-flushed : (cs : List Op) → length cs ≡ 0 → flushCount (flushesOf cs) ≡ 0
-unfolding flushesOf flushCount
-none-flushed [] e = refl
+-- where nothing is stored, nothing is flushed and nothing waited for
+none-flushed : (cs : List Op) → length cs ≡ 0 → (flushCount (flushesOf cs) ≡ 0) × (barrierCount (withBarrier (flushesOf cs)) ≡ 0)
+unfolding flushesOf howMany
+none-flushed [] e = (refl, refl)
 none-flushed (o ∷ cs) e = absurd (omega arith)
 
 -- ---- stage A, where the words that it stores lie in a page's bytes from `from` on and below `to`
@@ -89,12 +91,12 @@ module _ (rs a w : List ℕ) (from to : ℕ) (inside : (k : ℕ) → freeWord rs
       walk-all rs a w (λ n k cs. Between (from / lineSize) ((to + 63) / lineSize) (storePlaces cs)) (λ k. tt) (λ n k cs q h. h)
       (λ n k cs free differ h. ((omega (arith, inside k free differ), omega (arith, inside k free differ)), h))
 
--- no flush is among its stores
-walk-stores : (rs a w : List ℕ) (n k : ℕ) → (stores (walk rs a w n k) ≡ walk rs a w n k) × (flushCount (walk rs a w n k) ≡ 0)
-unfolding stores flushCount
+-- no flush and no barrier is among its stores
+walk-stores : (rs a w : List ℕ) (n k : ℕ) → (stores (walk rs a w n k) ≡ walk rs a w n k) × (flushCount (walk rs a w n k) ≡ 0) × (barrierCount (walk rs a w n k) ≡ 0)
+unfolding stores howMany
 walk-stores rs a w =
-    walk-all rs a w (λ n k cs. (stores cs ≡ cs) × (flushCount cs ≡ 0)) (λ k. (refl, refl)) (λ n k cs q h. h)
-    (λ n k cs free differ h. (ap (λ (r : List Op). store (wordSize * k) (wordAt w k) ∷ r) (h .0), h .1))
+    walk-all rs a w (λ n k cs. (stores cs ≡ cs) × (flushCount cs ≡ 0) × (barrierCount cs ≡ 0)) (λ k. (refl, refl, refl)) (λ n k cs q h. h)
+    (λ n k cs free differ h. (ap (λ (r : List Op). store (wordSize * k) (wordAt w k) ∷ r) (h .0), h .1, h .2))
 
 -- ---- the changed pages, where one header differs
 
@@ -195,7 +197,11 @@ module _ (a w : List ℕ) (s : sound a ≡ true) (d : Edited a w) (q from to : �
 
   stage-flushes : flushCount (stageA a w) ≡ flushCount (flushesOf A)
   unfolding stageA
-  stage-flushes = flushCount-append A (flushesOf A) ∙ omega (arith, walk-stores rs a w (length a / wordSize) 0 .1)
+  stage-flushes = flushCount-append A (withBarrier (flushesOf A)) ∙ omega (arith, walk-stores rs a w (length a / wordSize) 0 .1, group-flushes (flushesOf A))
+
+  stage-barriers : barrierCount (stageA a w) ≡ barrierCount (withBarrier (flushesOf A))
+  unfolding stageA
+  stage-barriers = barrierCount-append A (withBarrier (flushesOf A)) ∙ omega (arith, walk-stores rs a w (length a / wordSize) 0 .2)
 
   tape-stores : stores (byHeader (stageA a w) w q .tape) ≡ A ++ (store (pageSize * q) (headerLine w q) ∷ [])
   unfolding byHeader stores
@@ -203,8 +209,13 @@ module _ (a w : List ℕ) (s : sound a ≡ true) (d : Edited a w) (q from to : �
 
   -- "One changed place: its line store .., then its flush."
   tape-flushes : flushCount (byHeader (stageA a w) w q .tape) ≡ flushCount (flushesOf A) + 1
-  unfolding byHeader flushCount
+  unfolding byHeader howMany
   tape-flushes = flushCount-append (stageA a w) _ ∙ omega (arith, stage-flushes)
+
+  -- and its barrier
+  tape-barriers : barrierCount (byHeader (stageA a w) w q .tape) ≡ barrierCount (withBarrier (flushesOf A)) + 1
+  unfolding byHeader howMany
+  tape-barriers = barrierCount-append (stageA a w) _ ∙ omega (arith, stage-barriers)
 
   few-flushes : flushCount (flushesOf A) ≤ linesBetween from to
   few-flushes =
@@ -227,5 +238,6 @@ module _ (a w : List ℕ) (s : sound a ≡ true) (d : Edited a w) (q from to : �
         areWords = walk-words rs a w (length a / wordSize) 0 (omega (arith, d .sameLength));
         fewWords = omega (arith, walk-few rs a w (pageSize * q + from) (pageSize * q + to) inside (length a / wordSize) 0 .0);
         fewFlushes = omega (arith, tape-flushes, few-flushes);
-        alone = λ e. omega (arith, tape-flushes, none-flushed A e);
+        fewBarriers = omega (arith, tape-barriers, group-most (flushesOf A) (flushing-of A .flushes));
+        alone = λ e. (omega (arith, tape-flushes, none-flushed A e .0), omega (arith, tape-barriers, none-flushed A e .1));
       })

@@ -13,17 +13,18 @@ use Rattle.codec.specs.Lists.{All}
 use Rattle.codec.specs.Numbers.{bytesOf}
 use Rattle.codec.proofs.Lists.{length-part}
 use Rattle.codec.proofs.Numbers.{length-bytesOf}
-use Rattle.device.specs.Tape.{Op, store, flush, malformed}
-use Rattle.device.specs.Cut.{IsFlush}
+use Rattle.device.specs.Tape.{Op, store, flush, barrier, malformed}
+use Rattle.device.specs.Cut.{Quiet, Flushing, withBarrier}
+use Rattle.device.proofs.Writing.{flushing-quiet}
 use Rattle.page.specs.Layout.{pageSize, lineSize, Rec}
 use Rattle.image.specs.PageZero.{rootOf, logMost, markBytes}
 use Rattle.image.specs.Image.{reached, sound}
 use Rattle.image.proofs.General.{All-append}
 use Rattle.journal.specs.Changes.{wordSize, wordStores, flushesOf, stageA, headerLine, changedPages, sameRoot}
 use Rattle.journal.specs.Way.{lineBy, IsWord}
-use Rattle.journal.specs.Log.{SameButLog, ownPage, logStores, logFlushes, logTape, headerStores, headerFlushes, ending, replayTape}
+use Rattle.journal.specs.Log.{SameButLog, ownPage, logStores, logFlushes, logTape, headerStores, headerFlushes, headerTape, ending, replayTape}
 use Rattle.journal.specs.Recovery.{logged, rootIs, recoveryTape}
-use Rattle.journal.specs.Tape.{newHeaders, byHeader, byRoot, byLog, roomInLog, takenFor}
+use Rattle.journal.specs.Tape.{newHeaders, byHeader, byRoot, markFlush, byLog, roomInLog, takenFor}
 use Rattle.journal.specs.Edited.{Edited}
 use Rattle.journal.specs.Holds.{tapeOf, Holds}
 use Rattle.journal.specs.declared.Way.{Way}
@@ -41,11 +42,16 @@ use Rattle.journal.proofs.ByLog.{length-work, work-other, log-apart}
 
 -- ---- every store is of a word: stage A on either device
 
-flush-words : (ys : List Op) → All IsFlush ys → All IsWord ys
-flush-words [] h = tt
-flush-words (store p vs ∷ ys) h = absurd (h .0)
-flush-words (flush l ∷ ys) h = (tt, flush-words ys (h .1))
-flush-words (malformed ∷ ys) h = absurd (h .0)
+quiet-words : (ys : List Op) → All Quiet ys → All IsWord ys
+quiet-words [] h = tt
+quiet-words (store p vs ∷ ys) h = absurd (h .0)
+quiet-words (flush l ∷ ys) h = (tt, quiet-words ys (h .1))
+quiet-words (barrier ∷ ys) h = (tt, quiet-words ys (h .1))
+quiet-words (malformed ∷ ys) h = absurd (h .0)
+
+-- stores of words, their flushes and a barrier
+group-words : (xs ys : List Op) → Flushing xs ys → All IsWord xs → All IsWord (xs ++ withBarrier ys)
+group-words xs ys f k = All-append IsWord xs (withBarrier ys) k (quiet-words (withBarrier ys) (flushing-quiet xs ys f))
 
 pub walk-words : (rs a w : List ℕ) (n k : ℕ) → wordSize * (k + n) ≤ length w → All IsWord (walk rs a w n k)
 walk-words rs a w =
@@ -56,7 +62,7 @@ pub stageA-words : (a w : List ℕ) → length w ≡ length a → length a % pag
 unfolding stageA
 stageA-words a w same whole =
     let stores = wordStores (reached a (rootOf a)) (length a / wordSize) 0 a w in
-    All-append IsWord stores (flushesOf stores) (walk-words (reached a (rootOf a)) a w (length a / wordSize) 0 (omega arith)) (flush-words (flushesOf stores) (flushing-of stores .flushes))
+    group-words stores (flushesOf stores) (flushing-of stores) (walk-words (reached a (rootOf a)) a w (length a / wordSize) 0 (omega arith))
 
 -- ---- log and headers on the one without line stores
 
@@ -72,18 +78,17 @@ headers-words (h ∷ hs) k = All-append IsWord (lineBy ByWords (pageSize * ownPa
 
 ending-words : (same : Bool) (root : ℕ) → All IsWord (ending same root)
 unfolding ending
-ending-words true root = (length-noMark, (tt, tt))
-ending-words false root = (length-bytesOf 8 root, (length-noMark, (tt, tt)))
+ending-words true root = (length-noMark, (tt, (tt, tt)))
+ending-words false root = (length-bytesOf 8 root, (length-noMark, (tt, (tt, tt))))
 
 replay-words : (hs : List (List ℕ)) (same : Bool) (root : ℕ) → Lines hs → All IsWord (replayTape ByWords hs same root)
-unfolding replayTape
+unfolding replayTape headerTape
 replay-words hs same root k =
-    All-append IsWord (headerStores ByWords hs) (headerFlushes hs ++ ending same root) (headers-words hs k)
-    (All-append IsWord (headerFlushes hs) (ending same root) (flush-words (headerFlushes hs) (header-flushing ByWords hs .flushes)) (ending-words same root))
+    All-append IsWord (headerTape ByWords hs) (ending same root) (group-words (headerStores ByWords hs) (headerFlushes hs) (header-flushing ByWords hs) (headers-words hs k)) (ending-words same root)
 
 log-tape-words : (hs : List (List ℕ)) → Lines hs → All IsWord (logTape ByWords hs)
 unfolding logTape
-log-tape-words hs k = All-append IsWord (logStores ByWords 1 hs) (logFlushes 1 hs) (log-words 1 hs k) (flush-words (logFlushes 1 hs) (log-flushing ByWords 1 hs .flushes))
+log-tape-words hs k = group-words (logStores ByWords 1 hs) (logFlushes 1 hs) (log-flushing ByWords 1 hs) (log-words 1 hs k)
 
 -- "A separate transaction call and recovery call use no kind 2 command": recovery's
 pub recovery-words : {t : List Rec} (img : List ℕ) → Holds t img → All IsWord (tapeOf ByWords img)
@@ -109,18 +114,18 @@ module _ (a w : List ℕ) (s : sound a ≡ true) (d : Edited a w) where
   before = stageA-words a w (d .sameLength) (size a w s d .whole)
 
   by-log : (same : Bool) (ps : List ℕ) → changedPages a w ≡ ps → All IsWord (byLog ByWords (stageA a w) w same (newHeaders w ps) .tape)
-  unfolding byLog
+  unfolding byLog markFlush
   by-log same ps e =
       subst (λ (qs : List ℕ). All IsWord (byLog ByWords (stageA a w) w same (newHeaders w qs) .tape)) e
-      (All-append IsWord (stageA a w ++ logTape ByWords new) (store 0 (markBytes (length new) (rootOf w)) ∷ flush 0 ∷ replayTape ByWords new same (rootOf w))
-      (All-append IsWord (stageA a w) (logTape ByWords new) before (log-tape-words new lines)) (length-mark (length new) (rootOf w), (tt, replay-words new same (rootOf w) lines)))
+      (All-append IsWord (stageA a w ++ logTape ByWords new) (store 0 (markBytes (length new) (rootOf w)) ∷ (withBarrier (flush 0 ∷ []) ++ replayTape ByWords new same (rootOf w)))
+      (All-append IsWord (stageA a w) (logTape ByWords new) before (log-tape-words new lines)) (length-mark (length new) (rootOf w), (tt, (tt, replay-words new same (rootOf w) lines))))
 
   -- and the transaction's
   pub taken-words : All IsWord (takenFor ByWords a w .tape)
   unfolding takenFor byRoot
   taken-words =
       choose-all ByWords (stageA a w) w (λ same ps t. changedPages a w ≡ ps → All IsWord (t .tape))
-      (λ same e. All-append IsWord (stageA a w) (store 8 (bytesOf 8 (rootOf w)) ∷ flush 0 ∷ []) before (length-bytesOf 8 (rootOf w), (tt, tt))) (λ line. absurd (not-line line)) (λ same p ps e. by-log same (p ∷ ps) e)
+      (λ same e. All-append IsWord (stageA a w) (store 8 (bytesOf 8 (rootOf w)) ∷ withBarrier (flush 0 ∷ [])) before (length-bytesOf 8 (rootOf w), (tt, (tt, tt)))) (λ line. absurd (not-line line)) (λ same p ps e. by-log same (p ∷ ps) e)
       (sameRoot a w) (changedPages a w) refl
 
 -- ---- "a change of any header, even one, goes through the log": no header is a commit place

@@ -13,7 +13,8 @@ use Rattle.codec.specs.Lists.{pick, part, eqs, All}
 use Rattle.codec.specs.Numbers.{bytesOf}
 use Rattle.codec.proofs.Lists.{length-part}
 use Rattle.codec.proofs.Numbers.{length-bytesOf}
-use Rattle.device.specs.Tape.{Op, store, flush, malformed, decode, tapeBytes, Writable}
+use Rattle.device.specs.Tape.{Op, store, flush, barrier, malformed, decode, tapeBytes, Writable}
+use Rattle.device.specs.Cut.{withBarrier}
 use Rattle.device.proofs.Encode.{decode-whole}
 use Rattle.page.specs.Layout.{pageSize, lineSize, Rec}
 use Rattle.image.specs.PageZero.{pageCount, rootOf, logMost, markBytes}
@@ -22,8 +23,8 @@ use Rattle.image.proofs.General.{All-append}
 use Rattle.image.proofs.Zero.{size-true, isPage-true}
 use Rattle.journal.specs.Changes.{wordSize, freeWord, wordStores, flushesFrom, flushesOf, stageA, headerLine, changedPages, sameRoot}
 use Rattle.journal.specs.Way.{lineBy}
-use Rattle.journal.specs.Log.{pageLines, ownPage, logStores, logFlushes, logTape, headerStores, headerFlushes, ending, replayTape}
-use Rattle.journal.specs.Tape.{newHeaders, byHeader, byRoot, byLog, roomInLog, takenFor}
+use Rattle.journal.specs.Log.{pageLines, ownPage, logStores, logFlushes, logTape, headerStores, headerFlushes, headerTape, ending, replayTape}
+use Rattle.journal.specs.Tape.{newHeaders, byHeader, byRoot, markFlush, byLog, roomInLog, takenFor}
 use Rattle.journal.specs.Recovery.{logged, recoveryTape}
 use Rattle.journal.specs.Edited.{Edited}
 use Rattle.journal.specs.Holds.{tapeOf, Holds}
@@ -38,6 +39,12 @@ use Rattle.journal.proofs.Changed.{InBoth}
 use Rattle.journal.proofs.Chosen.{choose-all}
 use Rattle.journal.proofs.Edits.{size, changed, header-length, headers-lines, headers-ok}
 
+-- ---- flushes and their barrier
+
+group-fits : (n : ℕ) (ys : List Op) → All (Writable n) ys → All (Writable n) (withBarrier ys)
+group-fits n [] h = tt
+group-fits n (o ∷ ys) h = All-append (Writable n) (o ∷ ys) (barrier ∷ []) h (tt, tt)
+
 -- ---- stage A
 
 module _ (n : ℕ) (whole : n % pageSize ≡ 0) where
@@ -50,6 +57,7 @@ module _ (n : ℕ) (whole : n % pageSize ≡ 0) where
   unfolding flushesFrom
   from-fits l [] h k = (h, tt)
   from-fits l (flush m ∷ cs) h k = from-fits l cs h (k .1)
+  from-fits l (barrier ∷ cs) h k = from-fits l cs h (k .1)
   from-fits l (malformed ∷ cs) h k = absurd (k .0)
   from-fits l (store p vs ∷ cs) h k = go (eqb l (p / lineSize)) (from-fits (p / lineSize) cs (flush-fits p vs (k .0)) (k .1))
     where
@@ -64,6 +72,7 @@ module _ (n : ℕ) (whole : n % pageSize ≡ 0) where
   unfolding flushesOf
   flushes-fit [] k = tt
   flushes-fit (flush m ∷ cs) k = flushes-fit cs (k .1)
+  flushes-fit (barrier ∷ cs) k = flushes-fit cs (k .1)
   flushes-fit (malformed ∷ cs) k = absurd (k .0)
   flushes-fit (store p vs ∷ cs) k = from-fits (p / lineSize) cs (flush-fits p vs (k .0)) (k .1)
 
@@ -79,7 +88,7 @@ unfolding stageA
 stageA-fits a w same whole =
     let stores = wordStores (reached a (rootOf a)) (length a / wordSize) 0 a w in
     let k : All (Writable (length a)) stores = subst (λ (n : ℕ). All (Writable n) stores) same (words-fit (reached a (rootOf a)) a w (length a / wordSize) 0 (omega arith)) in
-    All-append (Writable (length a)) stores (flushesOf stores) k (flushes-fit (length a) whole stores k)
+    All-append (Writable (length a)) stores (withBarrier (flushesOf stores)) k (group-fits (length a) (flushesOf stores) (flushes-fit (length a) whole stores k))
 
 -- ---- the log, the headers, the end of the tape
 
@@ -97,7 +106,7 @@ module _ (way : Way) (n : ℕ) where
 
   log-fits : (hs : List (List ℕ)) → Lines hs → lineSize * (1 + length hs) ≤ n → All (Writable n) (logTape way hs)
   unfolding logTape
-  log-fits hs k h = All-append (Writable n) (logStores way 1 hs) (logFlushes 1 hs) (log-stores-fit 1 hs k h) (log-flushes-fit 1 hs h)
+  log-fits hs k h = All-append (Writable n) (logStores way 1 hs) (withBarrier (logFlushes 1 hs)) (log-stores-fit 1 hs k h) (group-fits n (logFlushes 1 hs) (log-flushes-fit 1 hs h))
 
   -- a header at its page
   header-fits : (v : Way) (p : ℕ) (h : List ℕ) → length h ≡ lineSize → p < n / pageSize → All (Writable n) (lineBy v (pageSize * p) h)
@@ -124,14 +133,15 @@ module _ (way : Way) (n : ℕ) where
 
     ending-fits : (same : Bool) (root : ℕ) → All (Writable n) (ending same root)
     unfolding ending
-    ending-fits true root = (inl (length-noMark, refl, omega arith), (omega arith, tt))
-    ending-fits false root = (root-fits root, (inl (length-noMark, refl, omega arith), (omega arith, tt)))
+    ending-fits true root = (inl (length-noMark, refl, omega arith), (omega arith, (tt, tt)))
+    ending-fits false root = (root-fits root, (inl (length-noMark, refl, omega arith), (omega arith, (tt, tt))))
 
     replay-fits : (hs : List (List ℕ)) (same : Bool) (root : ℕ) → Lines hs → Inside (n / pageSize) hs → All (Writable n) (replayTape way hs same root)
-    unfolding replayTape
+    unfolding replayTape headerTape
     replay-fits hs same root k i =
-        All-append (Writable n) (headerStores way hs) (headerFlushes hs ++ ending same root) (headers-fit hs k i)
-        (All-append (Writable n) (headerFlushes hs) (ending same root) (header-flushes-fit hs i) (ending-fits same root))
+        All-append (Writable n) (headerTape way hs) (ending same root)
+        (All-append (Writable n) (headerStores way hs) (withBarrier (headerFlushes hs)) (headers-fit hs k i) (group-fits n (headerFlushes hs) (header-flushes-fit hs i)))
+        (ending-fits same root)
 
 -- ---- a transaction's tape
 
@@ -143,7 +153,7 @@ module _ (way : Way) (a w : List ℕ) (s : sound a ≡ true) (d : Edited a w) (r
   before = stageA-fits a w (d .sameLength) (size a w s d .whole)
 
   by-log : (same : Bool) (ps : List ℕ) → changedPages a w ≡ ps → All (Writable (length a)) (byLog way (stageA a w) w same (newHeaders w ps) .tape)
-  unfolding byLog roomInLog
+  unfolding byLog markFlush roomInLog
   by-log same ps e = subst (λ (qs : List ℕ). All (Writable (length a)) (byLog way (stageA a w) w same (newHeaders w qs) .tape)) e go
     where
       hs : List (List ℕ)
@@ -160,22 +170,22 @@ module _ (way : Way) (a w : List ℕ) (s : sound a ≡ true) (d : Edited a w) (r
 
       go : All (Writable (length a)) (byLog way (stageA a w) w same hs .tape)
       go =
-          All-append (Writable (length a)) (stageA a w ++ logTape way hs) (store 0 (markBytes (length hs) (rootOf w)) ∷ flush 0 ∷ replayTape way hs same (rootOf w))
+          All-append (Writable (length a)) (stageA a w ++ logTape way hs) (store 0 (markBytes (length hs) (rootOf w)) ∷ (withBarrier (flush 0 ∷ []) ++ replayTape way hs same (rootOf w)))
           (All-append (Writable (length a)) (stageA a w) (logTape way hs) before (log-fits way (length a) hs lines fits))
-          (mark, (omega (arith, long), replay-fits way (length a) long hs same (rootOf w) lines (logged-inside (pageCount a) hs (headers-ok a w s d))))
+          (mark, (omega (arith, long), (tt, replay-fits way (length a) long hs same (rootOf w) lines (logged-inside (pageCount a) hs (headers-ok a w s d)))))
 
   pub taken-fits : All (Writable (length a)) (takenFor way a w .tape)
   unfolding takenFor byHeader byRoot lineBy
   taken-fits =
       choose-all way (stageA a w) w (λ same ps t. changedPages a w ≡ ps → All (Writable (length a)) (t .tape))
-      (λ same e. All-append (Writable (length a)) (stageA a w) _ before (root-fits way (length a) long (rootOf w), (omega (arith, long), tt))) header (λ same p ps e. by-log same (p ∷ ps) e)
+      (λ same e. All-append (Writable (length a)) (stageA a w) _ before (root-fits way (length a) long (rootOf w), (omega (arith, long), (tt, tt)))) header (λ same p ps e. by-log same (p ∷ ps) e)
       (sameRoot a w) (changedPages a w) refl
     where
       header : way ≡ ByLine → (p : ℕ) → changedPages a w ≡ p ∷ [] → All (Writable (length a)) (byHeader (stageA a w) w p .tape)
       header line p e =
           let b : InBoth a w p = (subst (All (InBoth a w)) e (changed a w s d)) .0 in
           let q = isPage-true (pageCount a) p (b .page) in
-          All-append (Writable (length a)) (stageA a w) _ before (header-fits way (length a) ByLine p (headerLine w p) (header-length a w s d p b) (q .1) .0, (header-flush-fits way (length a) p (q .1), tt))
+          All-append (Writable (length a)) (stageA a w) _ before (header-fits way (length a) ByLine p (headerLine w p) (header-length a w s d p b) (q .1) .0, (header-flush-fits way (length a) p (q .1), (tt, tt)))
 
   -- the tape's bytes say its commands
   pub taken-decode : decode (length a) (tapeBytes (takenFor way a w .tape)) ≡ takenFor way a w .tape

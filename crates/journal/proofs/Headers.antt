@@ -13,18 +13,18 @@ use Rattle.codec.proofs.Tests.{first, second}
 use Rattle.codec.proofs.Lists.{splice-sets, length-splice, length-part}
 use Rattle.codec.proofs.Agree.{part-agree}
 use Rattle.device.specs.Tape.{Op}
-use Rattle.device.specs.Cut.{after, touches, stores, Flushing}
+use Rattle.device.specs.Cut.{after, touches, Closed, stores, Flushing}
 use Rattle.device.proofs.Clauses.{after-nil, touches-nil, stores-nil}
 use Rattle.device.proofs.Cuts.{after-append}
 use Rattle.device.proofs.Segments.{touches-append}
 use Rattle.device.proofs.Stores.{stores-append}
-use Rattle.device.proofs.Writing.{flushing-none, touches-both}
+use Rattle.device.proofs.Writing.{flushing-none, flushing-closed, flushing-stores, touches-both}
 use Rattle.page.specs.Layout.{pageSize, lineSize}
 use Rattle.image.specs.PageZero.{pageCount, isPage}
 use Rattle.image.specs.Image.{distinct}
 use Rattle.image.proofs.Zero.{isPage-true}
 use Rattle.journal.specs.Way.{lineBy}
-use Rattle.journal.specs.Log.{pageLines, ownPage, headerStores, headerFlushes}
+use Rattle.journal.specs.Log.{pageLines, ownPage, headerStores, headerFlushes, headerTape}
 use Rattle.journal.specs.Recovery.{linesFrom, loggedOk, withHeaders}
 use Rattle.journal.specs.Safe.{HeadersIn}
 use Rattle.journal.specs.declared.Way.{Way}
@@ -71,13 +71,22 @@ unfolding headerStores headerFlushes
 header-flushing way [] = flushing-none
 header-flushing way (h ∷ hs) = line-flushing way (pageSize * ownPage h) h (pageLines * ownPage h) (headerStores way hs) (headerFlushes hs) (omega arith) (header-flushing way hs)
 
-pub header-stores : (way : Way) (hs : List (List ℕ)) → stores (headerStores way hs) ≡ headerStores way hs
+header-stores : (way : Way) (hs : List (List ℕ)) → stores (headerStores way hs) ≡ headerStores way hs
 unfolding headerStores
 header-stores way [] = stores-nil
 header-stores way (h ∷ hs) =
     let p = pageSize * ownPage h in
     stores-append (lineBy way p h) (headerStores way hs)
     ∙ ap₂ (λ (xs ys : List Op). xs ++ ys) (line-stores p h way (pageLines * ownPage h) (omega arith)) (header-stores way hs)
+
+-- with their flushes and the barrier: all durable, and no other store
+pub headers-closed : (way : Way) (hs : List (List ℕ)) → Closed (headerTape way hs)
+unfolding headerTape
+headers-closed way hs = flushing-closed (headerStores way hs) (headerFlushes hs) (header-flushing way hs)
+
+pub headers-stored : (way : Way) (hs : List (List ℕ)) → stores (headerTape way hs) ≡ headerStores way hs
+unfolding headerTape
+headers-stored way hs = flushing-stores (headerStores way hs) (headerFlushes hs) (header-flushing way hs) ∙ header-stores way hs
 
 -- page 0 is not touched
 pub headers-outside : (way : Way) (n : ℕ) (hs : List (List ℕ)) (i : ℕ) → Lines hs → Inside n hs → i < pageSize → touches (headerStores way hs) i ≡ false

@@ -17,6 +17,7 @@ pub mod Taken
 pub mod Fitting
 pub mod Rising
 pub mod Order
+pub mod Groups
 pub mod Stated
 pub mod Devices
 pub mod Cost

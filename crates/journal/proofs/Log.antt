@@ -11,10 +11,10 @@ use lib.Seq.{sets, length-sets}
 use Rattle.codec.specs.Lists.{part, splice, All}
 use Rattle.codec.proofs.Lists.{splice-sets, sets-append, sets-apart}
 use Rattle.codec.proofs.Agree.{part-sets, part-agree}
-use Rattle.device.specs.Cut.{after, touches, Closed, Flushing, Writes}
+use Rattle.device.specs.Cut.{after, touches, Closed, Flushing, withBarrier, Writes}
 use Rattle.device.proofs.Clauses.{after-nil, touches-nil}
 use Rattle.device.proofs.Cuts.{after-append}
-use Rattle.device.proofs.Writing.{flushing-none, flushing-closed, flushing-touches, flushing-after, flushes-write, touches-both}
+use Rattle.device.proofs.Writing.{flushing-none, flushing-closed, flushing-touches, flushing-after, flushing-quiet, quiet-write, touches-both}
 use Rattle.page.specs.Layout.{lineSize}
 use Rattle.image.proofs.General.{All-append}
 use Rattle.journal.specs.Way.{lineBy}
@@ -119,4 +119,5 @@ module _ (way : Way) (hs : List (List ℕ)) where
     pub log-writes : (b : List ℕ) → lineSize * (1 + length hs) ≤ length b → logged (length hs) b ≡ hs → All (Writes b) (logTape way hs)
     unfolding logTape logged
     log-writes b fits e =
-        All-append (Writes b) (logStores way 1 hs) (logFlushes 1 hs) (stores-write way 1 hs b lines fits e) (flushes-write b (logFlushes 1 hs) (log-flushing way 1 hs .flushes))
+        All-append (Writes b) (logStores way 1 hs) (withBarrier (logFlushes 1 hs)) (stores-write way 1 hs b lines fits e)
+        (quiet-write b (withBarrier (logFlushes 1 hs)) (flushing-quiet (logStores way 1 hs) (logFlushes 1 hs) (log-flushing way 1 hs)))

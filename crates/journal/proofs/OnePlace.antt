@@ -14,9 +14,10 @@ use Rattle.codec.proofs.Tests.{eqs-true}
 use Rattle.codec.proofs.Numbers.{length-bytesOf}
 use Rattle.codec.proofs.Agree.{agree-part}
 use Rattle.device.specs.Tape.{Op, store, flush}
-use Rattle.device.specs.Cut.{after, lineOf, durable, touches, Writes}
-use Rattle.device.proofs.Clauses.{durable-here, touches-nil, stores-nil, stores-flush}
-use Rattle.device.proofs.Writing.{writes-after, touches-left, touches-right, untouched-first, touches-out}
+use Rattle.device.specs.Cut.{after, lineOf, durable, touches, withBarrier, Writes}
+use Rattle.device.proofs.Clauses.{touches-nil}
+use Rattle.device.proofs.Durable.{flush-barrier}
+use Rattle.device.proofs.Writing.{own-storeless, writes-after, touches-left, touches-right, untouched-first, touches-out}
 use Rattle.page.specs.Layout.{pageSize}
 use Rattle.image.specs.PageZero.{rootOf, noMark}
 use Rattle.image.specs.Image.{sound}
@@ -55,13 +56,13 @@ module _ (a w : List ℕ) (s : sound a ≡ true) (d : Edited a w) where
 
   -- one store of what stands in w, after stage A, where a and w differ nowhere else
   module _ (q : ℕ) (vs : List ℕ) (stands : Writes w (store q vs)) (alike : (i : ℕ) → touches (stageA a w) i ≡ false → (i < q) ⊎ (q + length vs ≤ i) → getD a i 0 ≡ getD w i 0) where
-    one-leaves : (l : ℕ) → after a (stageA a w ++ (store q vs ∷ flush l ∷ [])) ≡ w
+    one-leaves : (l : ℕ) → after a (stageA a w ++ (store q vs ∷ withBarrier (flush l ∷ []))) ≡ w
     one-leaves l =
-        let commit = store q vs ∷ flush l ∷ [] in
-        writes-after w a (stageA a w ++ commit) (sym (d .sameLength)) (All-append (Writes w) (stageA a w) commit (stageA-writes a w (d .sameLength) (size a w s d .whole)) (stands, (tt, tt)))
-        (λ i t. alike i (touches-left (stageA a w) commit i t) (untouched-first q vs (flush l ∷ []) i (touches-right (stageA a w) commit i t)))
+        let commit = store q vs ∷ withBarrier (flush l ∷ []) in
+        writes-after w a (stageA a w ++ commit) (sym (d .sameLength)) (All-append (Writes w) (stageA a w) commit (stageA-writes a w (d .sameLength) (size a w s d .whole)) (stands, (tt, (tt, tt))))
+        (λ i t. alike i (touches-left (stageA a w) commit i t) (untouched-first q vs (withBarrier (flush l ∷ [])) i (touches-right (stageA a w) commit i t)))
 
-    one-follows : (x : Taken) → x .tape ≡ stageA a w ++ (store q vs ∷ flush (commitLine (x .place)) ∷ []) → x .commitAt ≡ length (stageA a w) → x .work ≡ w →
+    one-follows : (x : Taken) → x .tape ≡ stageA a w ++ (store q vs ∷ withBarrier (flush (commitLine (x .place)) ∷ [])) → x .commitAt ≡ length (stageA a w) → x .work ≡ w →
         commitStore w (length (changedPages a w)) (x .place) ≡ store q vs → commitLine (x .place) ≡ lineOf q → safe.OnePlace a q vs → Names a w (x .place) → Follows a w x
     one-follows x tape at work isStore isLine one names =
         let l = commitLine (x .place) in
@@ -73,9 +74,9 @@ module _ (a w : List ℕ) (s : sound a ≡ true) (d : Edited a w) where
                 prepared = stageA-closed a w;
                 place = q;
                 bytes = vs;
-                wait = flush l ∷ [];
-                noStore = stores-flush l [] ∙ stores-nil;
-                isDurable = ap (λ (m : ℕ). durable m (flush l ∷ [])) (sym isLine) ∙ durable-here l [];
+                wait = withBarrier (flush l ∷ []);
+                noStore = own-storeless l;
+                isDurable = ap (λ (m : ℕ). durable m (withBarrier (flush l ∷ []))) (sym isLine) ∙ flush-barrier l;
                 rest = [];
                 commits = inl (one, refl);
                 shape = tape;

@@ -11,15 +11,16 @@ use borrow.Author.Tests.{leb-true, lt-leb, eq-eqb}
 use Rattle.codec.specs.Lists.{splice, All}
 use Rattle.codec.specs.Numbers.{bytesOf}
 use Rattle.codec.proofs.Numbers.{length-bytesOf}
-use Rattle.device.specs.Tape.{Op, store, flush, malformed}
-use Rattle.device.specs.Cut.{IsFlush}
+use Rattle.device.specs.Tape.{Op, store, flush, barrier, malformed}
+use Rattle.device.specs.Cut.{Quiet, withBarrier}
+use Rattle.device.proofs.Writing.{flushing-quiet}
 use Rattle.page.specs.Layout.{pageSize, lineSize}
 use Rattle.image.specs.PageZero.{rootOf, logMost, markBytes, noMark}
 use Rattle.image.specs.Image.{sound}
 use Rattle.journal.specs.Changes.{wordSize, stageA, headerLine, changedPages, sameRoot}
 use Rattle.journal.specs.Way.{lineBy}
-use Rattle.journal.specs.Log.{pageLines, ownPage, logStores, logFlushes, logTape, headerStores, headerFlushes, ending, replayTape}
-use Rattle.journal.specs.Tape.{newHeaders, joinLines, byHeader, byRoot, byLog, roomInLog, takenFor}
+use Rattle.journal.specs.Log.{pageLines, ownPage, logStores, logFlushes, logTape, headerStores, headerFlushes, headerTape, ending, replayTape}
+use Rattle.journal.specs.Tape.{newHeaders, joinLines, byHeader, byRoot, markFlush, byLog, roomInLog, takenFor}
 use Rattle.journal.specs.Recovery.{logged}
 use Rattle.journal.specs.Edited.{Edited}
 use Rattle.journal.specs.Order.{RisesFrom, Rises, placesPast}
@@ -41,23 +42,24 @@ place-near : (p : ℕ) (vs : List ℕ) (rest : List Op) → p < lineSize → len
 unfolding placesPast
 place-near p vs rest h e = rw (lt-leb lineSize p h, eq-eqb (length vs) wordSize e)
 
-past-flushes : (ys rest : List Op) → All IsFlush ys → placesPast (ys ++ rest) ≡ placesPast rest
+past-quiet : (ys rest : List Op) → All Quiet ys → placesPast (ys ++ rest) ≡ placesPast rest
 unfolding placesPast
-past-flushes [] rest h = refl
-past-flushes (store p vs ∷ ys) rest h = absurd (h .0)
-past-flushes (flush l ∷ ys) rest h = past-flushes ys rest (h .1)
-past-flushes (malformed ∷ ys) rest h = absurd (h .0)
+past-quiet [] rest h = refl
+past-quiet (store p vs ∷ ys) rest h = absurd (h .0)
+past-quiet (flush l ∷ ys) rest h = past-quiet ys rest (h .1)
+past-quiet (barrier ∷ ys) rest h = past-quiet ys rest (h .1)
+past-quiet (malformed ∷ ys) rest h = absurd (h .0)
 
 ending-near : (same : Bool) (root : ℕ) → placesPast (ending same root) ≡ []
 unfolding ending placesPast
 ending-near same root = go same
   where
-    cleared : placesPast (store 0 noMark ∷ flush 0 ∷ []) ≡ []
-    cleared = place-near 0 noMark (flush 0 ∷ []) (omega arith) length-noMark
+    cleared : placesPast (store 0 noMark ∷ withBarrier (flush 0 ∷ [])) ≡ []
+    cleared = place-near 0 noMark (withBarrier (flush 0 ∷ [])) (omega arith) length-noMark
 
     go : (same : Bool) → placesPast (ending same root) ≡ []
     go true = cleared
-    go false = place-near 8 (bytesOf 8 root) (store 0 noMark ∷ flush 0 ∷ []) (omega arith) (length-bytesOf 8 root) ∙ cleared
+    go false = place-near 8 (bytesOf 8 root) (store 0 noMark ∷ withBarrier (flush 0 ∷ [])) (omega arith) (length-bytesOf 8 root) ∙ cleared
 
 -- ---- the log, with what follows it
 
@@ -100,30 +102,34 @@ module _ (way : Way) (a w : List ℕ) (s : sound a ≡ true) (d : Edited a w) (r
   log-inside = omega (arith, length-map (changedPages a w) (headerLine w), leb-true (length (changedPages a w)) logMost room)
 
   replay-rises : (same : Bool) → RisesFrom pageSize (placesPast (replayTape way new same (rootOf w)))
-  unfolding replayTape
+  unfolding replayTape headerTape
   replay-rises same =
-      headers-rise 1 (changedPages a w) (headerFlushes new ++ ending same (rootOf w)) (omega arith) (changed a w s d) (from-one a w)
-      (past-flushes (headerFlushes new) (ending same (rootOf w)) (header-flushing way new .flushes) ∙ ending-near same (rootOf w))
+      let H = headerStores way new in
+      let F = withBarrier (headerFlushes new) in
+      let E = ending same (rootOf w) in
+      subst (λ (cs : List Op). RisesFrom pageSize (placesPast cs)) (sym (append-assoc H F E))
+      (headers-rise 1 (changedPages a w) (F ++ E) (omega arith) (changed a w s d) (from-one a w)
+      (past-quiet F E (flushing-quiet H (headerFlushes new) (header-flushing way new)) ∙ ending-near same (rootOf w)))
 
   log-tape : (rest : List Op) → RisesFrom pageSize (placesPast rest) → RisesFrom lineSize (placesPast (logTape way new ++ rest))
   unfolding logTape
   log-tape rest r =
       let L = logStores way 1 new in
-      let F = logFlushes 1 new in
+      let F = withBarrier (logFlushes 1 new) in
       subst (λ (cs : List Op). RisesFrom lineSize (placesPast cs)) (sym (append-assoc L F rest))
       (log-rises way 1 new (F ++ rest) (omega arith)
-      (subst (RisesFrom (lineSize * (1 + length new))) (sym (past-flushes F rest (log-flushing way 1 new .flushes))) (rises-lower (lineSize * (1 + length new)) pageSize (placesPast rest) log-inside r)))
+      (subst (RisesFrom (lineSize * (1 + length new))) (sym (past-quiet F rest (flushing-quiet L (logFlushes 1 new) (log-flushing way 1 new)))) (rises-lower (lineSize * (1 + length new)) pageSize (placesPast rest) log-inside r)))
 
   -- stage A first; past it, all stores but the words of line 0 rise
   abbrev Ordered : List Op → Type 0
   Ordered cs = (rest : List Op) × (cs ≡ stageA a w ++ rest) × Rises (placesPast rest)
 
   by-log : (same : Bool) (ps : List ℕ) → changedPages a w ≡ ps → Ordered (byLog way (stageA a w) w same (newHeaders w ps) .tape)
-  unfolding byLog placesPast
+  unfolding byLog markFlush placesPast
   by-log same ps e = subst (λ (qs : List ℕ). Ordered (byLog way (stageA a w) w same (newHeaders w qs) .tape)) e (logTape way new ++ (store 0 mark ∷ T), append-assoc (stageA a w) (logTape way new) (store 0 mark ∷ T), go)
     where
       T : List Op
-      T = flush 0 ∷ replayTape way new same (rootOf w)
+      T = withBarrier (flush 0 ∷ []) ++ replayTape way new same (rootOf w)
 
       mark : List ℕ
       mark = markBytes (length new) (rootOf w)
@@ -137,15 +143,15 @@ module _ (way : Way) (a w : List ℕ) (s : sound a ≡ true) (d : Edited a w) (r
   pub lines-rising : Ordered (takenFor way a w .tape)
   unfolding takenFor byHeader byRoot placesPast lineBy
   lines-rising =
-      choose-all way (stageA a w) w (λ same ps t. changedPages a w ≡ ps → Ordered (t .tape)) (λ same e. (store 8 (bytesOf 8 (rootOf w)) ∷ flush 0 ∷ [], refl, root)) header (λ same p ps e. by-log same (p ∷ ps) e)
+      choose-all way (stageA a w) w (λ same ps t. changedPages a w ≡ ps → Ordered (t .tape)) (λ same e. (store 8 (bytesOf 8 (rootOf w)) ∷ withBarrier (flush 0 ∷ []), refl, root)) header (λ same p ps e. by-log same (p ∷ ps) e)
       (sameRoot a w) (changedPages a w) refl
     where
-      root : Rises (placesPast (store 8 (bytesOf 8 (rootOf w)) ∷ flush 0 ∷ []))
-      root = subst Rises (sym (place-near 8 (bytesOf 8 (rootOf w)) (flush 0 ∷ []) (omega arith) (length-bytesOf 8 (rootOf w)))) tt
+      root : Rises (placesPast (store 8 (bytesOf 8 (rootOf w)) ∷ withBarrier (flush 0 ∷ [])))
+      root = subst Rises (sym (place-near 8 (bytesOf 8 (rootOf w)) (withBarrier (flush 0 ∷ [])) (omega arith) (length-bytesOf 8 (rootOf w)))) tt
 
       header : way ≡ ByLine → (p : ℕ) → changedPages a w ≡ p ∷ [] → Ordered (byHeader (stageA a w) w p .tape)
       header line p e =
-          let ends = flush (pageLines * p) ∷ [] in
+          let ends = withBarrier (flush (pageLines * p) ∷ []) in
           let past = (subst (RisesFrom 1) e (from-one a w)) .0 in
           (store (pageSize * p) (headerLine w p) ∷ ends, refl, line-rises (pageSize * p) (headerLine w p) ByLine 0 ends (omega arith) (omega arith) tt)
 

@@ -3,7 +3,7 @@
 use Prim.Native.Nat.{ℕ}
 use mathlib.Core.Path.{_≡_, refl, sym, ap, _∙_, subst}
 use mathlib.Core.Logic.{inl, inr}
-use mathlib.Core.List.{List, [], _∷_, _++_, append-assoc}
+use mathlib.Core.List.{List, [], _∷_}
 use Rattle.device.specs.Tape.{flush}
 use Rattle.device.specs.Cut.{after, cutImage, Closed, Flushing}
 use Rattle.device.proofs.Clauses.{after-nil, closed-nil}
@@ -14,12 +14,12 @@ use Rattle.page.specs.Layout.{Rec}
 use Rattle.image.specs.PageZero.{pageZero}
 use Rattle.image.specs.declared.PageZero.{PageZero}
 use Rattle.image.specs.declared.PageZero.the-variants.{Wrong, Waiting, Ready}
-use Rattle.journal.specs.Log.{headerStores, headerFlushes, endStores, ending, replayTape}
+use Rattle.journal.specs.Log.{headerTape, endStores, ending, replayTape}
 use Rattle.journal.specs.Recovery.{logged, rootIs, recoveryTape}
 use Rattle.journal.specs.Holds.{replay, tapeOf, Holds}
 use Rattle.journal.specs.Safe.{HeadersIn, Redo}
 use Rattle.journal.specs.declared.Way.{Way}
-use Rattle.journal.proofs.Headers.{header-flushing, header-stores, headers-in}
+use Rattle.journal.proofs.Headers.{headers-closed, headers-stored, headers-in}
 use Rattle.journal.proofs.Holds.{Cases, cases, Recovers, recovers-holds}
 use Rattle.journal.proofs.Redo.{end-line, redo-closed, redo-run, redo-cut}
 
@@ -27,17 +27,15 @@ pub recovery-redo : (way : Way) (img : List ℕ) (k root : ℕ) → pageZero img
 unfolding recoveryTape replayTape ending
 recovery-redo way img k root e =
     let hs = logged k img in
-    let H = headerStores way hs in
-    let F = headerFlushes hs in
     let es = endStores (rootIs img root) root in
     let line = end-line (rootIs img root) root in
     let flushed : Flushing es (flush 0 ∷ []) = to-flushing 0 es line in
     record {
-      headers = H ++ F;
+      headers = headerTape way hs;
       ending = ending (rootIs img root) root;
-      shape = ap (recoveryTape way img) e ∙ sym (append-assoc H F (ending (rootIs img root) root));
-      headersIn = subst (HeadersIn hs) (sym (flushing-stores H F (header-flushing way hs) ∙ header-stores way hs)) (headers-in way hs);
-      headersDurable = flushing-closed H F (header-flushing way hs);
+      shape = ap (recoveryTape way img) e;
+      headersIn = subst (HeadersIn hs) (sym (headers-stored way hs)) (headers-in way hs);
+      headersDurable = headers-closed way hs;
       ends = flushing-stores es (flush 0 ∷ []) flushed ∙ to-stores 0 es line;
       endDurable = flushing-closed es (flush 0 ∷ []) flushed;
     }

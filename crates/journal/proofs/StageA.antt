@@ -15,10 +15,10 @@ use Rattle.codec.specs.Lists.{part, eqs, pick, All}
 use Rattle.codec.proofs.Tests.{first, not-true, eqs-true, eqs-same}
 use Rattle.codec.proofs.Lists.{length-part}
 use Rattle.codec.proofs.Agree.{length-part-le, agree-part, part-agree}
-use Rattle.device.specs.Tape.{Op, store, flush, malformed}
-use Rattle.device.specs.Cut.{after, durable, touches, Closed, Flushing, Writes}
-use Rattle.device.proofs.Clauses.{durable-here, touches-nil}
-use Rattle.device.proofs.Writing.{flushing-none, flushing-flush, flushing-past, flushing-closed, flushing-touches, writes-at, flushes-write, touches-out, untouched-first, untouched-rest}
+use Rattle.device.specs.Tape.{Op, store, flush, barrier, malformed}
+use Rattle.device.specs.Cut.{after, flushesLine, some, touches, Closed, Flushing, withBarrier, Writes}
+use Rattle.device.proofs.Clauses.{flushed-here, touches-nil}
+use Rattle.device.proofs.Writing.{flushing-none, flushing-flush, flushing-past, flushing-closed, flushing-quiet, flushing-touches, writes-at, quiet-write, touches-out, untouched-first, untouched-rest}
 use Rattle.page.specs.Layout.{pageSize, lineSize}
 use Rattle.image.specs.PageZero.{rootOf}
 use Rattle.image.specs.Image.{reached, among}
@@ -29,25 +29,27 @@ use Rattle.journal.specs.Edited.{Edited}
 
 -- ---- the flushes of a list of stores
 
-flushing-from : (l : ℕ) (cs : List Op) → Flushing cs (flushesFrom l cs) × (durable l (flushesFrom l cs) ≡ true)
+flushing-from : (l : ℕ) (cs : List Op) → Flushing cs (flushesFrom l cs) × (some (flushesLine l) (flushesFrom l cs) ≡ true)
 unfolding flushesFrom
-flushing-from l [] = (flushing-flush l [] [] flushing-none, durable-here l [])
+flushing-from l [] = (flushing-flush l [] [] flushing-none, flushed-here l [])
 flushing-from l (flush m ∷ cs) = let h = flushing-from l cs in (flushing-past (flush m) cs (flushesFrom l cs) tt (h .0), h .1)
+flushing-from l (barrier ∷ cs) = let h = flushing-from l cs in (flushing-past barrier cs (flushesFrom l cs) tt (h .0), h .1)
 flushing-from l (malformed ∷ cs) = let h = flushing-from l cs in (flushing-past malformed cs (flushesFrom l cs) tt (h .0), h .1)
 flushing-from l (store p vs ∷ cs) = go (eqb l (p / lineSize)) refl (flushing-from (p / lineSize) cs)
   where
     rest : List Op
     rest = flushesFrom (p / lineSize) cs
 
-    go : (t : Bool) → eqb l (p / lineSize) ≡ t → Flushing cs rest × (durable (p / lineSize) rest ≡ true) →
-        Flushing (store p vs ∷ cs) (pick t rest (flush l ∷ rest)) × (durable l (pick t rest (flush l ∷ rest)) ≡ true)
-    go true e h = (flushing-past (store p vs) cs rest (h .1) (h .0), ap (λ (m : ℕ). durable m rest) (eqb-true l (p / lineSize) e) ∙ h .1)
-    go false e h = (flushing-flush l (store p vs ∷ cs) rest (flushing-past (store p vs) cs rest (h .1) (h .0)), durable-here l rest)
+    go : (t : Bool) → eqb l (p / lineSize) ≡ t → Flushing cs rest × (some (flushesLine (p / lineSize)) rest ≡ true) →
+        Flushing (store p vs ∷ cs) (pick t rest (flush l ∷ rest)) × (some (flushesLine l) (pick t rest (flush l ∷ rest)) ≡ true)
+    go true e h = (flushing-past (store p vs) cs rest (h .1) (h .0), ap (λ (m : ℕ). some (flushesLine m) rest) (eqb-true l (p / lineSize) e) ∙ h .1)
+    go false e h = (flushing-flush l (store p vs ∷ cs) rest (flushing-past (store p vs) cs rest (h .1) (h .0)), flushed-here l rest)
 
 pub flushing-of : (cs : List Op) → Flushing cs (flushesOf cs)
 unfolding flushesOf
 flushing-of [] = flushing-none
 flushing-of (flush m ∷ cs) = flushing-past (flush m) cs (flushesOf cs) tt (flushing-of cs)
+flushing-of (barrier ∷ cs) = flushing-past barrier cs (flushesOf cs) tt (flushing-of cs)
 flushing-of (malformed ∷ cs) = flushing-past malformed cs (flushesOf cs) tt (flushing-of cs)
 flushing-of (store p vs ∷ cs) = let h = flushing-from (p / lineSize) cs in flushing-past (store p vs) cs (flushesFrom (p / lineSize) cs) (h .1) (h .0)
 
@@ -177,8 +179,8 @@ module _ (a w : List ℕ) where
     pub stageA-writes : All (Writes w) (stageA a w)
     unfolding stageA
     stageA-writes =
-        All-append (Writes w) stores (flushesOf stores) (walk-writes (reached a (rootOf a)) a w (length a / wordSize) 0 (omega arith))
-        (flushes-write w (flushesOf stores) (flushing-of stores .flushes))
+        All-append (Writes w) stores (withBarrier (flushesOf stores)) (walk-writes (reached a (rootOf a)) a w (length a / wordSize) 0 (omega arith))
+        (quiet-write w (withBarrier (flushesOf stores)) (flushing-quiet stores (flushesOf stores) (flushing-of stores)))
 
     -- a free word that is not stored does not differ
     pub stageA-covers : (i : ℕ) → freeByte a i ≡ true → touches (stageA a w) i ≡ false → getD a i 0 ≡ getD w i 0

@@ -4,7 +4,7 @@ use Prim.Native.Nat.{ℕ, _*_, _≤_}
 use mathlib.Core.Path.{_≡_, refl, sym, ap, _∙_, subst}
 use mathlib.Core.Logic.{_⊎_, inl, inr}
 use mathlib.Core.Bool.{Bool, true, false, not}
-use mathlib.Core.List.{List, [], _∷_, _++_, append-assoc}
+use mathlib.Core.List.{List, [], _∷_, _++_}
 use native.Mathlib.Omega.{arith}
 use lib.ListN.{length, take}
 use Rattle.codec.specs.Lists.{part, splice, eqs, All}
@@ -12,18 +12,17 @@ use Rattle.codec.specs.Numbers.{bytesOf}
 use Rattle.codec.proofs.Lists.{part-splice-same, part-splice-below}
 use Rattle.codec.proofs.Numbers.{length-bytesOf}
 use Rattle.device.specs.Tape.{Op, store, flush, decode, tapeBytes, flushCount}
-use Rattle.device.specs.Cut.{after, touches}
-use Rattle.device.proofs.Clauses.{touches-nil, touches-flush}
+use Rattle.device.specs.Cut.{after, touches, withBarrier}
 use Rattle.device.proofs.Segments.{touches-append}
-use Rattle.device.proofs.Writing.{flushing-touches, touches-in, touches-out, touches-both}
+use Rattle.device.proofs.Writing.{own-untouched, flushing-touches, touches-in, touches-out, touches-both}
 use Rattle.page.specs.Layout.{pageSize, lineSize}
 use Rattle.image.specs.PageZero.{pageCount, rootOf, markBytes, noMark}
 use Rattle.image.specs.Image.{sound}
 use Rattle.image.proofs.Zero.{isPage-true}
 use Rattle.journal.specs.Changes.{stageA, headerLine, changedPages, sameRoot}
-use Rattle.journal.specs.Log.{pageLines, headerStores, headerFlushes, logTape, ending, replayTape}
+use Rattle.journal.specs.Log.{pageLines, headerStores, headerFlushes, headerTape, logTape, ending, replayTape}
 use Rattle.journal.specs.Recovery.{logged, recoveryTape}
-use Rattle.journal.specs.Tape.{Taken, newHeaders, joinLines, byHeader, byRoot, byLog, roomInLog, takenFor, commitOf}
+use Rattle.journal.specs.Tape.{Taken, newHeaders, joinLines, byHeader, byRoot, markFlush, byLog, roomInLog, takenFor, commitOf}
 use Rattle.journal.specs.Edited.{Edited}
 use Rattle.journal.specs.Holds.{Waits, tapeOf}
 use Rattle.journal.specs.declared.Way.{Way}
@@ -50,21 +49,20 @@ root-in : (root : ℕ) (rest : List Op) → touches (store 8 (bytesOf 8 root) �
 root-in root rest = touches-in 8 (bytesOf 8 root) rest 8 (omega arith) (omega (arith, length-bytesOf 8 root))
 
 -- a mark, stored and flushed
-mark-out : (vs : List ℕ) → length vs ≡ 8 → touches (store 0 vs ∷ flush 0 ∷ []) 8 ≡ false
-mark-out vs e = touches-out 0 vs (flush 0 ∷ []) 8 (inr (omega arith)) (touches-flush 0 [] 8 ∙ touches-nil 8)
+mark-out : (vs : List ℕ) → length vs ≡ 8 → touches (store 0 vs ∷ withBarrier (flush 0 ∷ [])) 8 ≡ false
+mark-out vs e = touches-out 0 vs (withBarrier (flush 0 ∷ [])) 8 (inr (omega arith)) (own-untouched 0 8)
 
 ending-root : (same : Bool) (root : ℕ) → touches (ending same root) 8 ≡ not same
 unfolding ending
 ending-root true root = mark-out noMark length-noMark
-ending-root false root = root-in root (store 0 noMark ∷ flush 0 ∷ [])
+ending-root false root = root-in root (store 0 noMark ∷ withBarrier (flush 0 ∷ []))
 
 replay-root : (way : Way) (n : ℕ) (hs : List (List ℕ)) (same : Bool) (root : ℕ) → Lines hs → Inside n hs → touches (replayTape way hs same root) 8 ≡ not same
-unfolding replayTape
+unfolding replayTape headerTape
 replay-root way n hs same root l k =
     let H = headerStores way hs in
     let F = headerFlushes hs in
-    ap (λ (cs : List Op). touches cs 8) (sym (append-assoc H F (ending same root)))
-    ∙ touches-second (H ++ F) (ending same root) 8 (flushing-touches H F (header-flushing way hs) 8 ∙ headers-outside way n hs 8 l k (omega arith))
+    touches-second (headerTape way hs) (ending same root) 8 (flushing-touches H F (header-flushing way hs) 8 ∙ headers-outside way n hs 8 l k (omega arith))
     ∙ ending-root same root
 
 -- of a recovery
@@ -87,7 +85,7 @@ module _ (way : Way) (a w : List ℕ) (s : sound a ≡ true) (d : Edited a w) (r
   lines = headers-lines a w s d (changedPages a w) (changed a w s d)
 
   log-root : (same : Bool) (ps : List ℕ) → changedPages a w ≡ ps → touches (byLog way (stageA a w) w same (newHeaders w ps) .tape) 8 ≡ not same
-  unfolding byLog
+  unfolding byLog markFlush
   log-root same ps e = subst (λ (qs : List ℕ). touches (byLog way (stageA a w) w same (newHeaders w qs) .tape) 8 ≡ not same) e go
     where
       mark : List ℕ
@@ -96,10 +94,10 @@ module _ (way : Way) (a w : List ℕ) (s : sound a ≡ true) (d : Edited a w) (r
       rest : List Op
       rest = replayTape way new same (rootOf w)
 
-      go : touches ((stageA a w ++ logTape way new) ++ (store 0 mark ∷ flush 0 ∷ rest)) 8 ≡ not same
+      go : touches ((stageA a w ++ logTape way new) ++ (store 0 mark ∷ (withBarrier (flush 0 ∷ []) ++ rest))) 8 ≡ not same
       go =
-          touches-second (stageA a w ++ logTape way new) (store 0 mark ∷ flush 0 ∷ rest) 8 (touches-both (stageA a w) (logTape way new) 8 (stageA-outside a w 8 (omega arith)) (log-touches way new lines 8 (inl (omega arith))))
-          ∙ touches-second (store 0 mark ∷ flush 0 ∷ []) rest 8 (mark-out mark (length-mark (length new) (rootOf w)))
+          touches-second (stageA a w ++ logTape way new) (store 0 mark ∷ (withBarrier (flush 0 ∷ []) ++ rest)) 8 (touches-both (stageA a w) (logTape way new) 8 (stageA-outside a w 8 (omega arith)) (log-touches way new lines 8 (inl (omega arith))))
+          ∙ touches-second (store 0 mark ∷ withBarrier (flush 0 ∷ [])) rest 8 (mark-out mark (length-mark (length new) (rootOf w)))
           ∙ replay-root way (pageCount a) new same (rootOf w) lines (logged-inside (pageCount a) new (headers-ok a w s d))
 
   -- where something changed, a transaction stores the root word if it differs, and else it does not
@@ -111,15 +109,15 @@ module _ (way : Way) (a w : List ℕ) (s : sound a ≡ true) (d : Edited a w) (r
     where
       alone : (same : Bool) → (1 ≤ 0) ⊎ (same ≡ false) → touches (byRoot (stageA a w) w .tape) 8 ≡ not same
       alone same (inl h) = absurd (omega arith)
-      alone same (inr h) = touches-second (stageA a w) (store 8 (bytesOf 8 (rootOf w)) ∷ flush 0 ∷ []) 8 (stageA-outside a w 8 (omega arith)) ∙ root-in (rootOf w) (flush 0 ∷ []) ∙ ap not (sym h)
+      alone same (inr h) = touches-second (stageA a w) (store 8 (bytesOf 8 (rootOf w)) ∷ withBarrier (flush 0 ∷ [])) 8 (stageA-outside a w 8 (omega arith)) ∙ root-in (rootOf w) (withBarrier (flush 0 ∷ [])) ∙ ap not (sym h)
 
       header : way ≡ ByLine → (p : ℕ) → changedPages a w ≡ p ∷ [] → (1 ≤ length (p ∷ [])) ⊎ (true ≡ false) → touches (byHeader (stageA a w) w p .tape) 8 ≡ false
       header line p e h =
           let b : InBoth a w p = (subst (All (InBoth a w)) e (changed a w s d)) .0 in
           let q = isPage-true (pageCount a) p (b .page) in
-          let ends = flush (pageLines * p) ∷ [] in
+          let ends = withBarrier (flush (pageLines * p) ∷ []) in
           touches-second (stageA a w) (store (pageSize * p) (headerLine w p) ∷ ends) 8 (stageA-outside a w 8 (omega arith))
-          ∙ touches-out (pageSize * p) (headerLine w p) ends 8 (inl (omega arith)) (touches-flush (pageLines * p) [] 8 ∙ touches-nil 8)
+          ∙ touches-out (pageSize * p) (headerLine w p) ends 8 (inl (omega arith)) (own-untouched (pageLines * p) 8)
 
   log-left : (same : Bool) (ps : List ℕ) → changedPages a w ≡ ps → part (byLog way (stageA a w) w same (newHeaders w ps) .work) 8 8 ≡ part w 8 8
   unfolding byLog

@@ -8,7 +8,7 @@ use mathlib.Core.List.{List, _∷_}
 use native.Mathlib.Omega.{arith}
 use lib.ListN.{length, getD}
 use borrow.Author.Tests.{leb-true}
-use Rattle.device.specs.Tape.{flush, malformed}
+use Rattle.device.specs.Tape.{flush, barrier, malformed}
 use Rattle.device.specs.Cut.{after, Closed}
 use Rattle.image.specs.PageZero.{logMost}
 use Rattle.image.specs.Image.{sound}
@@ -53,10 +53,11 @@ module _ (way : Way) (a w : List ℕ) (s : sound a ≡ true) (d : Edited a w) (r
   pub taken-closed : Closed (x .tape)
   taken-closed = safe-closed a (x .tape) (x .work) s (taken-follows .safe)
 
-  -- "The commit store is the one changed place's store, or the mark's first store.", and its flush comes next
+  -- "The commit store is the one changed place's store, or the mark's first store.", its flush comes next, and then a barrier
   pub taken-commit :
       (getD (x .tape) (x .commitAt) malformed ≡ commitStore w (length (changedPages a w)) (x .place))
       × (getD (x .tape) (x .commitAt + 1) malformed ≡ flush (commitLine (x .place)))
+      × (getD (x .tape) (x .commitAt + 2) malformed ≡ barrier)
   taken-commit = follows-commit a w x taken-follows
 
   pub taken-place : Names a w (x .place)

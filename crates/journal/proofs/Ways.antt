@@ -14,9 +14,9 @@ use lib.Seq.{sets, length-take-le, take-all}
 use borrow.Author.Tests.{le-leb}
 use Rattle.codec.specs.Lists.{part, All}
 use Rattle.codec.proofs.Lists.{sets-append}
-use Rattle.device.specs.Tape.{Op, store, flush, malformed, Writable}
-use Rattle.device.specs.Cut.{after, durable, hits, touches, stores, To, Flushing, Writes}
-use Rattle.device.proofs.Clauses.{after-nil, after-store, touches-nil, durable-here}
+use Rattle.device.specs.Tape.{Op, store, flush, barrier, malformed, Writable}
+use Rattle.device.specs.Cut.{after, flushesLine, some, hits, touches, stores, To, Flushing, Writes}
+use Rattle.device.proofs.Clauses.{after-nil, after-store, touches-nil, flushed-here}
 use Rattle.device.proofs.Segments.{in-hits, hits-out}
 use Rattle.device.proofs.Stores.{to-stores}
 use Rattle.device.proofs.Writing.{touches-in, touches-out, touches-past, flushing-flush, flushing-past}
@@ -193,8 +193,9 @@ module _ (p : ℕ) (h : List ℕ) where
 to-past : (l : ℕ) (xs zs ys : List Op) → All (To l) xs → Flushing zs ys → Flushing (xs ++ zs) (flush l ∷ ys)
 to-past l [] zs ys h f = flushing-flush l zs ys f
 to-past l (store p vs ∷ xs) zs ys h f =
-    flushing-past (store p vs) (xs ++ zs) (flush l ∷ ys) (ap (λ (m : ℕ). durable m (flush l ∷ ys)) (h .0) ∙ durable-here l ys) (to-past l xs zs ys (h .1) f)
+    flushing-past (store p vs) (xs ++ zs) (flush l ∷ ys) (ap (λ (m : ℕ). some (flushesLine m) (flush l ∷ ys)) (h .0) ∙ flushed-here l ys) (to-past l xs zs ys (h .1) f)
 to-past l (flush m ∷ xs) zs ys h f = absurd (h .0)
+to-past l (barrier ∷ xs) zs ys h f = absurd (h .0)
 to-past l (malformed ∷ xs) zs ys h f = absurd (h .0)
 
 pub line-flushing : (way : Way) (p : ℕ) (h : List ℕ) (l : ℕ) (xs ys : List Op) → p ≡ lineSize * l → Flushing xs ys → Flushing (lineBy way p h ++ xs) (flush l ∷ ys)

@@ -6,7 +6,8 @@ use mathlib.Core.List.{List, [], _∷_, _++_, map}
 use lib.ListN.{length, take, drop}
 use lib.Dec.{leb, eqb}
 use Rattle.codec.specs.Lists.{part, eqs, pick}
-use Rattle.device.specs.Tape.{Op, store, flush, malformed}
+use Rattle.device.specs.Tape.{Op, store, flush, barrier, malformed}
+use Rattle.device.specs.Cut.{withBarrier}
 use Rattle.page.specs.Layout.{pageSize, lineSize}
 use Rattle.image.specs.PageZero.{pageCount, rootOf}
 use Rattle.image.specs.Image.{reached, among}
@@ -39,18 +40,21 @@ unfoldable pub flushesFrom : ℕ → List Op → List Op
 flushesFrom l [] = flush l ∷ []
 flushesFrom l (store p vs ∷ cs) = let rest = flushesFrom (p / lineSize) cs in pick (eqb l (p / lineSize)) rest (flush l ∷ rest)
 flushesFrom l (flush m ∷ cs) = flushesFrom l cs
+flushesFrom l (barrier ∷ cs) = flushesFrom l cs
 flushesFrom l (malformed ∷ cs) = flushesFrom l cs
 
 unfoldable pub flushesOf : List Op → List Op
 flushesOf [] = []
 flushesOf (store p vs ∷ cs) = flushesFrom (p / lineSize) cs
 flushesOf (flush m ∷ cs) = flushesOf cs
+flushesOf (barrier ∷ cs) = flushesOf cs
 flushesOf (malformed ∷ cs) = flushesOf cs
 
+-- and the barrier of these flushes (document 02 (h))
 unfoldable pub stageA : List ℕ → List ℕ → List Op
 stageA a w =
     let stores = wordStores (reached a (rootOf a)) (length a / wordSize) 0 a w in
-    stores ++ flushesOf stores
+    stores ++ withBarrier (flushesOf stores)
 
 -- ---- the changed places: "headers of pages reached both before and after, and the root word"
 

@@ -7,7 +7,7 @@ use mathlib.Core.Bool.{true}
 use mathlib.Core.List.{List, [], _∷_, _++_}
 use lib.ListN.{length, getD}
 use Rattle.codec.specs.Lists.{All}
-use Rattle.device.specs.Tape.{Op, store}
+use Rattle.device.specs.Tape.{Op, store, barrierCount}
 use Rattle.device.specs.Cut.{stores}
 use Rattle.page.specs.Layout.{pageSize, lineSize}
 use Rattle.image.specs.PageZero.{rootOf}
@@ -42,7 +42,7 @@ abbrev pub linesBetween : ℕ → ℕ → ℕ
 linesBetween from to = (to + 63) / lineSize - from / lineSize
 
 -- A tape with the commands cs, whose commit place and number of flushes are these: it commits by the header of page q, before which it stores
--- at most `words` words and nothing else; it has at most `most` flushes, and one where no word is stored.
+-- at most `words` words and nothing else; it has at most `most` flushes and two barriers, and one of each where no word is stored.
 pub record Costs (place : CommitPlace) (flushes : ℕ) (cs : List Op) (q words most : ℕ) : Type 0 where
   pub commits : place ≡ Header q
   pub before : List Op
@@ -52,4 +52,5 @@ pub record Costs (place : CommitPlace) (flushes : ℕ) (cs : List Op) (q words m
   pub areWords : All IsWord before
   pub fewWords : length before ≤ words
   pub fewFlushes : flushes ≤ most
-  pub alone : length before ≡ 0 → flushes ≡ 1
+  pub fewBarriers : barrierCount cs ≤ 2
+  pub alone : length before ≡ 0 → (flushes ≡ 1) × (barrierCount cs ≡ 1)

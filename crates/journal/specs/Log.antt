@@ -1,5 +1,5 @@
 -- The log: the stores and flushes of its lines, and what replays them (document 01, 'The transaction's tape'). Each line is written in the
--- device's way.
+-- device's way, and each group of flushes has its barrier (document 02 (h)).
 -- Assumes nothing.
 use Prim.Native.Nat.{ℕ, zero, suc, _*_, _≤_, _<_}
 use mathlib.Core.Path.{_≡_}
@@ -10,6 +10,7 @@ use lib.ListN.{length, getD}
 use Rattle.codec.specs.Lists.{part, pick}
 use Rattle.codec.specs.Numbers.{number, bytesOf}
 use Rattle.device.specs.Tape.{Op, store, flush}
+use Rattle.device.specs.Cut.{withBarrier}
 use Rattle.page.specs.Layout.{pageSize, lineSize}
 use Rattle.image.specs.PageZero.{noMark}
 use Rattle.journal.specs.Way.{lineBy}
@@ -38,7 +39,7 @@ logFlushes l [] = []
 logFlushes l (h ∷ hs) = flush l ∷ logFlushes (suc l) hs
 
 unfoldable pub logTape : Way → List (List ℕ) → List Op
-logTape way hs = logStores way 1 hs ++ logFlushes 1 hs
+logTape way hs = logStores way 1 hs ++ withBarrier (logFlushes 1 hs)
 
 -- "header stores, rising; their flushes": in the order of the log
 unfoldable pub headerStores : Way → List (List ℕ) → List Op
@@ -49,14 +50,17 @@ unfoldable pub headerFlushes : List (List ℕ) → List Op
 headerFlushes [] = []
 headerFlushes (h ∷ hs) = flush (pageLines * ownPage h) ∷ headerFlushes hs
 
+unfoldable pub headerTape : Way → List (List ℕ) → List Op
+headerTape way hs = headerStores way hs ++ withBarrier (headerFlushes hs)
+
 -- "the root word if it differs; mark 0"
 abbrev pub endStores : Bool → ℕ → List Op
 endStores same root = pick same [] (store 8 (bytesOf 8 root) ∷ []) ++ (store 0 noMark ∷ [])
 
 -- "flush of line 0"
 unfoldable pub ending : Bool → ℕ → List Op
-ending same root = endStores same root ++ (flush 0 ∷ [])
+ending same root = endStores same root ++ withBarrier (flush 0 ∷ [])
 
--- what follows the mark's flush, in a transaction and in a recovery
+-- what follows the mark and its flush, in a transaction and in a recovery
 unfoldable pub replayTape : Way → List (List ℕ) → Bool → ℕ → List Op
-replayTape way hs same root = headerStores way hs ++ (headerFlushes hs ++ ending same root)
+replayTape way hs same root = headerTape way hs ++ ending same root

@@ -1,5 +1,5 @@
 -- A tape that follows the method, whoever made it: stores to bytes that are not live, one commit store, and after a mark the logged headers,
--- the root word and the mark's clearing (document 02 (m)). Flushes stand anywhere, so the stores alone are named, and what is durable when.
+-- the root word and the mark's clearing (document 02 (m)). Flushes and barriers stand anywhere, so the stores alone are named, and what is durable when.
 -- Assumes nothing.
 use Prim.Native.Nat.{ℕ, _*_}
 use mathlib.Core.Path.{_≡_}

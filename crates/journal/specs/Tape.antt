@@ -8,6 +8,7 @@ use lib.Dec.{leb}
 use Rattle.codec.specs.Lists.{part, splice}
 use Rattle.codec.specs.Numbers.{bytesOf}
 use Rattle.device.specs.Tape.{Op, store, flush, tapeBytes, flushCount}
+use Rattle.device.specs.Cut.{withBarrier}
 use Rattle.page.specs.Layout.{pageSize, lineSize}
 use Rattle.image.specs.PageZero.{rootOf, logMost, markBytes}
 use Rattle.journal.specs.Changes.{stageA, headerLine, changedPages, sameRoot}
@@ -38,21 +39,25 @@ joinLines (h ∷ hs) = h ++ joinLines hs
 unfoldable pub byHeader : List Op → List ℕ → ℕ → Taken
 byHeader A w p =
     record {
-      tape = A ++ (store (pageSize * p) (headerLine w p) ∷ flush (pageLines * p) ∷ []);
+      tape = A ++ (store (pageSize * p) (headerLine w p) ∷ withBarrier (flush (pageLines * p) ∷ []));
       commitAt = length A;
       place = Header p;
       work = w;
     }
 
 unfoldable pub byRoot : List Op → List ℕ → Taken
-byRoot A w = record { tape = A ++ (store 8 (bytesOf 8 (rootOf w)) ∷ flush 0 ∷ []); commitAt = length A; place = Root; work = w }
+byRoot A w = record { tape = A ++ (store 8 (bytesOf 8 (rootOf w)) ∷ withBarrier (flush 0 ∷ [])); commitAt = length A; place = Root; work = w }
+
+-- "the mark; flush of line 0": what makes the mark durable
+unfoldable pub markFlush : List Op
+markFlush = withBarrier (flush 0 ∷ [])
 
 -- "More: log lines 1 to k take the new headers by rising page, then their flushes; the mark; flush of line 0; header stores, rising;
 -- their flushes; the root word if it differs; mark 0; flush of line 0."
 unfoldable pub byLog : Way → List Op → List ℕ → Bool → List (List ℕ) → Taken
 byLog way A w same hs =
     record {
-      tape = (A ++ logTape way hs) ++ (store 0 (markBytes (length hs) (rootOf w)) ∷ flush 0 ∷ replayTape way hs same (rootOf w));
+      tape = (A ++ logTape way hs) ++ (store 0 (markBytes (length hs) (rootOf w)) ∷ (markFlush ++ replayTape way hs same (rootOf w)));
       commitAt = length (A ++ logTape way hs);
       place = Log;
       work = splice w lineSize (joinLines hs);

@@ -5,7 +5,7 @@ use Prim.Native.Nat.{ℕ, zero, suc, _+_}
 use mathlib.Core.Path.{_≡_}
 use mathlib.Core.List.{List, [], _∷_}
 use lib.ListN.{length, take, drop}
-use Rattle.device.specs.Tape.{Op, store, flush, malformed}
+use Rattle.device.specs.Tape.{Op, store, flush, barrier, malformed}
 use Rattle.journal.specs.Changes.{wordSize, lineWords}
 use Rattle.journal.specs.declared.Way.{Way}
 use Rattle.journal.specs.declared.Way.the-variants.{ByLine, ByWords}
@@ -20,8 +20,9 @@ unfoldable pub lineBy : Way → ℕ → List ℕ → List Op
 lineBy ByLine p h = store p h ∷ []
 lineBy ByWords p h = wordsOf lineWords p h
 
--- a command of tapes that "use no kind 2 command": a store of a word, or a flush
+-- a command of tapes that "use no kind 2 command": a store of a word, a flush or a barrier
 abbrev pub IsWord : Op → Type 0
 IsWord (store p vs) = length vs ≡ wordSize
 IsWord (flush l) = Unit {0}
+IsWord barrier = Unit {0}
 IsWord malformed = ⊥

@@ -10,7 +10,7 @@ use borrow.Author.Tests.{eq-eqb, ne-eqb, le-leb}
 use native.Mathlib.Omega.{arith}
 use Rattle.codec.specs.Lists.{pick}
 use Rattle.codec.proofs.Lists.{splice-sets}
-use Rattle.device.specs.Tape.{tapeBytes, flushCount}
+use Rattle.device.specs.Tape.{tapeBytes, howMany}
 use Rattle.device.specs.Calls.{imageSize, workSize, unsound, tapeShort, refusal, isImageSize}
 use Rattle.device.specs.declared.Refusal.{Refusal}
 use Rattle.image.specs.PageZero.{pageCount, pageZero}
@@ -79,7 +79,7 @@ module _ (way : Way) (a work tape : List ℕ) where
         kept-refused e = refused-shows (sound-is ∙ e)
 
         pub kept-accepted : treeOk a root ≡ true → (x : List ℕ) → x ≡ a → Shows (Accepted (record { bytes = 0; flushes = 0 })) x tape (recoverCall way a work tape)
-        unfolding replayFrom recoveryTape acceptedWith tapeBytes flushCount
+        unfolding replayFrom recoveryTape acceptedWith tapeBytes howMany
         kept-accepted e x q =
             rw (goes-on (sound-is ∙ e), z, le-leb 0 (length tape) (omega arith), splice-sets tape 0 [] (omega arith)) (refl, (q, refl))
 

@@ -12,12 +12,13 @@ use borrow.Author.Tests.{eq-eqb, ne-eqb, eqb-true, eqb-false}
 use Rattle.codec.specs.Lists.{pick, part, splice, All}
 use Rattle.codec.specs.Numbers.{number, bytesOf}
 use Rattle.codec.proofs.Tests.{first, second}
-use Rattle.device.specs.Tape.{Op, flushCount, tapeBytes, store, flush}
+use Rattle.device.specs.Tape.{Op, howMany, flushCount, tapeBytes, store, flush}
+use Rattle.device.specs.Cut.{withBarrier}
 use Rattle.page.specs.Layout.{pageSize, lineSize}
 use Rattle.image.specs.PageZero.{rootOf, markBytes}
 use Rattle.journal.specs.Changes.{headerLine}
 use Rattle.journal.specs.Log.{pageLines, logTape, replayTape}
-use Rattle.journal.specs.Tape.{Taken, newHeaders, joinLines, byHeader, byRoot, byLog, oneHeader, choose}
+use Rattle.journal.specs.Tape.{Taken, newHeaders, joinLines, byHeader, byRoot, markFlush, byLog, oneHeader, choose}
 use Rattle.journal.specs.Recovery.{logged}
 use Rattle.journal.proofs.Log.{log-after, log-read}
 use Rattle.journal.specs.declared.Way.{Way}
@@ -25,12 +26,12 @@ use Rattle.journal.specs.declared.Way.the-variants.{ByLine, ByWords}
 use Rattle.journal.specs.declared.CommitPlace.{CommitPlace}
 use Rattle.journal.specs.declared.CommitPlace.the-variants.{Header, Root, Log}
 use Rattle.tape_write.specs.Lines.{PageIn}
-use Rattle.tape_write.specs.Sizes.{linesBytes, replayBytes, logBytes, commitsAlone, endBytes, endFlushes}
-use Rattle.tape_write.proofs.Encoding.{length-none, length-next}
+use Rattle.tape_write.specs.Sizes.{linesBytes, groupBytes, replayBytes, logBytes, commitsAlone, endBytes, endFlushes}
+use Rattle.tape_write.proofs.Encoding.{length-next, group-few}
 use Rattle.tape_write.proofs.StageTape.{all-at}
 use Rattle.tape_write.proofs.HeaderPages.{header-length, new-lines}
 use Rattle.tape_write.proofs.LineBytes.{lines-most}
-use Rattle.tape_write.proofs.Endings.{length-settled, log-size, log-count}
+use Rattle.tape_write.proofs.Endings.{length-wait, length-settled, log-size, log-count}
 
 -- ---- which it is
 
@@ -95,21 +96,21 @@ module _ (A : List Op) (w : List ℕ) where
 
 -- ---- its bytes and flushes
 
-pub replay-same : (way : Way) (k : ℕ) (same : Bool) → same ≡ true → replayBytes way k same ≡ linesBytes way k + 4 * k + 16
+pub replay-same : (way : Way) (k : ℕ) (same : Bool) → same ≡ true → replayBytes way k same ≡ linesBytes way k + groupBytes k + 20
 unfolding replayBytes
 replay-same way k same e = rw e (omega arith)
 
-pub replay-other : (way : Way) (k : ℕ) (same : Bool) → same ≡ false → replayBytes way k same ≡ linesBytes way k + 4 * k + 28
+pub replay-other : (way : Way) (k : ℕ) (same : Bool) → same ≡ false → replayBytes way k same ≡ linesBytes way k + groupBytes k + 32
 unfolding replayBytes
 replay-other way k same e = rw e (omega arith)
 
 module _ (way : Way) (k : ℕ) (same : Bool) where
-  pub bytes-none : k ≡ 0 → (endBytes way k same ≡ 16) × (endFlushes way k same ≡ 1)
+  pub bytes-none : k ≡ 0 → (endBytes way k same ≡ 20) × (endFlushes way k same ≡ 1)
   unfolding endBytes endFlushes
   bytes-none e = rw (eq-eqb k 0 e) (refl, refl)
 
   module _ (some : k ≡ 0 → ⊥) where
-    pub bytes-one : commitsAlone way k same ≡ true → (endBytes way k same ≡ 72) × (endFlushes way k same ≡ 1)
+    pub bytes-one : commitsAlone way k same ≡ true → (endBytes way k same ≡ 76) × (endFlushes way k same ≡ 1)
     unfolding endBytes endFlushes
     bytes-one t = rw (ne-eqb k 0 some, t) (refl, refl)
 
@@ -117,23 +118,23 @@ module _ (way : Way) (k : ℕ) (same : Bool) where
     unfolding endBytes endFlushes
     bytes-log t = rw (ne-eqb k 0 some, t) (refl, refl)
 
-  pub replay-few : k ≤ 15 → replayBytes way k same ≤ 1528
+  pub replay-few : k ≤ 15 → replayBytes way k same ≤ 1536
   unfolding replayBytes
-  replay-few h = omega (arith, lines-most way k, go same)
+  replay-few h = omega (arith, lines-most way k, group-few k, go same)
     where
       go : (t : Bool) → pick t 0 12 ≤ 12
       go true = omega arith
       go false = omega arith
 
-  log-few : k ≤ 15 → logBytes way k same ≤ 3044
+  log-few : k ≤ 15 → logBytes way k same ≤ 3060
   unfolding logBytes
-  log-few h = omega (arith, lines-most way k, replay-few h)
+  log-few h = omega (arith, lines-most way k, group-few k, replay-few h)
 
-  pub end-few : k ≤ 15 → (endBytes way k same ≤ 3044) × (endFlushes way k same ≤ 32)
+  pub end-few : k ≤ 15 → (endBytes way k same ≤ 3060) × (endFlushes way k same ≤ 32)
   unfolding endBytes endFlushes
   end-few h = go (eqb k 0) (commitsAlone way k same)
     where
-      go : (s t : Bool) → (pick s 16 (pick t 72 (logBytes way k same)) ≤ 3044) × (pick s 1 (pick t 1 (2 * k + 2)) ≤ 32)
+      go : (s t : Bool) → (pick s 20 (pick t 76 (logBytes way k same)) ≤ 3060) × (pick s 1 (pick t 1 (2 * k + 2)) ≤ 32)
       go true t = (omega arith, omega arith)
       go false true = (omega arith, omega arith)
       go false false = (log-few h, omega arith)
@@ -143,15 +144,15 @@ module _ (way : Way) (w : List ℕ) where
   abbrev Sized : List Op → ℕ → ℕ → Type 0
   Sized cs n m = (length (tapeBytes cs) ≡ n) × (flushCount cs ≡ m)
 
-  root-sized : Sized (byRoot [] w .tape) 16 1
-  unfolding byRoot flushCount
+  root-sized : Sized (byRoot [] w .tape) 20 1
+  unfolding byRoot howMany
   root-sized = (length-settled 1 (rootOf w), refl)
 
-  header-sized : (p : ℕ) → PageIn w p → Sized (byHeader [] w p .tape) 72 1
-  unfolding byHeader flushCount
+  header-sized : (p : ℕ) → PageIn w p → Sized (byHeader [] w p .tape) 76 1
+  unfolding byHeader howMany
   header-sized p h = (
-    length-next (store (pageSize * p) (headerLine w p)) (flush (pageLines * p) ∷ [])
-        ∙ omega (arith, length-next (flush (pageLines * p)) [], length-none, header-length w p h),
+    length-next (store (pageSize * p) (headerLine w p)) (withBarrier (flush (pageLines * p) ∷ []))
+        ∙ omega (arith, length-wait (pageLines * p), header-length w p h),
     refl,
   )
 
@@ -173,11 +174,11 @@ module _ (way : Way) (w : List ℕ) where
       sized t b f e s z = rw (e, s .0, s .1) z
 
       go : (z : Bool) → eqb n 0 ≡ z → (t : Bool) → commitsAlone way n same ≡ t → Sized (choose way [] w same ps .tape) (endBytes way n same) (endFlushes way n same)
-      go true z t e = let q = eqb-true n 0 z in sized (byRoot [] w) 16 1 (end-root way w same ps q) (bytes-none way n same q) root-sized
+      go true z t e = let q = eqb-true n 0 z in sized (byRoot [] w) 20 1 (end-root way w same ps q) (bytes-none way n same q) root-sized
       go false z true e =
           let q = eqb-false n 0 z in
           let one = alone-true way n same e .1 .0 in
-          sized (byHeader [] w (getD ps 0 0)) 72 1 (end-header way w same ps e) (bytes-one way n same q e) (header-sized (getD ps 0 0) (all-at (PageIn w) ps 0 h (omega arith)))
+          sized (byHeader [] w (getD ps 0 0)) 76 1 (end-header way w same ps e) (bytes-one way n same q e) (header-sized (getD ps 0 0) (all-at (PageIn w) ps 0 h (omega arith)))
       go false z false e =
           let q = eqb-false n 0 z in
           sized (byLog way [] w same (newHeaders w ps)) (logBytes way n same) (2 * n + 2) (end-log way w same ps q e) (bytes-log way n same q e) (log-sized same ps h small)
@@ -204,26 +205,26 @@ pub leaves-as : (x y : Taken) (t : List ℕ) (at : ℕ) (place : CommitPlace) (w
 leaves-as x y t at place work t′ e h = rw e h
 
 module _ (w : List ℕ) (t t′ : List ℕ) (at : ℕ) where
-  pub leaves-root : (v : ℕ) → v ≡ number (part w 8 8) → t′ ≡ sets t at (tapeBytes (store (8 * 1) (bytesOf 8 v) ∷ flush 0 ∷ [])) → Leaves (byRoot [] w) t at Root w t′
+  pub leaves-root : (v : ℕ) → v ≡ number (part w 8 8) → t′ ≡ sets t at (tapeBytes (store (8 * 1) (bytesOf 8 v) ∷ withBarrier (flush 0 ∷ []))) → Leaves (byRoot [] w) t at Root w t′
   unfolding byRoot rootOf
-  leaves-root v e h = (refl, (refl, h ∙ ap (λ (n : ℕ). sets t at (tapeBytes (store (8 * 1) (bytesOf 8 n) ∷ flush 0 ∷ []))) e))
+  leaves-root v e h = (refl, (refl, h ∙ ap (λ (n : ℕ). sets t at (tapeBytes (store (8 * 1) (bytesOf 8 n) ∷ withBarrier (flush 0 ∷ [])))) e))
 
-  pub leaves-header : (p : ℕ) → t′ ≡ sets t at (tapeBytes (store (pageSize * p) (headerLine w p) ∷ flush (pageLines * p) ∷ [])) → Leaves (byHeader [] w p) t at (Header p) w t′
+  pub leaves-header : (p : ℕ) → t′ ≡ sets t at (tapeBytes (store (pageSize * p) (headerLine w p) ∷ withBarrier (flush (pageLines * p) ∷ []))) → Leaves (byHeader [] w p) t at (Header p) w t′
   unfolding byHeader
   leaves-header p h = (refl, (refl, h))
 
   -- by the log, the headers stand in the log's lines of the new work image
   pub log-tape : (way : Way) (k root : ℕ) (w′ ps : List ℕ) (same : Bool) → w′ ≡ splice w lineSize (joinLines (newHeaders w ps)) → length ps ≡ k → root ≡ number (part w 8 8) →
       All (PageIn w) ps → k ≤ 15 → pageSize ≤ length w →
-      t′ ≡ sets t at (tapeBytes (logTape way (logged k w′) ++ (store 0 (markBytes k root) ∷ flush 0 ∷ replayTape way (logged k w′) same root))) →
+      t′ ≡ sets t at (tapeBytes (logTape way (logged k w′) ++ (store 0 (markBytes k root) ∷ (markFlush ++ replayTape way (logged k w′) same root)))) →
       t′ ≡ sets t at (tapeBytes (byLog way [] w same (newHeaders w ps) .tape))
   unfolding byLog rootOf
   log-tape way k root w′ ps same e n r inn few long h =
       let m : length (newHeaders w ps) ≡ length ps = length-map ps (headerLine w) in
       let hs : logged k w′ ≡ newHeaders w ps = ap (λ (j : ℕ). logged j w′) (sym n) ∙ ap (logged (length ps)) e ∙ log-back w ps inn (omega arith) long in
       h
-      ∙ ap₂ (λ (x : List (List ℕ)) (q : ℕ). sets t at (tapeBytes (logTape way x ++ (store 0 (markBytes k q) ∷ flush 0 ∷ replayTape way x same q)))) hs r
-      ∙ ap (λ (j : ℕ). sets t at (tapeBytes (logTape way (newHeaders w ps) ++ (store 0 (markBytes j (number (part w 8 8))) ∷ flush 0 ∷ replayTape way (newHeaders w ps) same (number (part w 8 8)))))) (sym n ∙ sym m)
+      ∙ ap₂ (λ (x : List (List ℕ)) (q : ℕ). sets t at (tapeBytes (logTape way x ++ (store 0 (markBytes k q) ∷ (markFlush ++ replayTape way x same q))))) hs r
+      ∙ ap (λ (j : ℕ). sets t at (tapeBytes (logTape way (newHeaders w ps) ++ (store 0 (markBytes j (number (part w 8 8))) ∷ (markFlush ++ replayTape way (newHeaders w ps) same (number (part w 8 8))))))) (sym n ∙ sym m)
 
   pub leaves-log : (way : Way) (same : Bool) (ps w′ : List ℕ) → w′ ≡ byLog way [] w same (newHeaders w ps) .work → t′ ≡ sets t at (tapeBytes (byLog way [] w same (newHeaders w ps) .tape)) →
       Leaves (byLog way [] w same (newHeaders w ps)) t at Log w′ t′

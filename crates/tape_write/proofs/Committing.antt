@@ -21,7 +21,7 @@ use Rattle.journal.specs.declared.Way.{Way}
 use Rattle.journal.specs.declared.CommitPlace.{CommitPlace}
 use Rattle.tape_write.specs.Words.{stageWords, WordIn, linesPast, stageTape}
 use Rattle.tape_write.specs.Lines.{PageIn}
-use Rattle.tape_write.specs.Sizes.{endBytes, endFlushes}
+use Rattle.tape_write.specs.Sizes.{groupBytes, endBytes, endFlushes}
 use Rattle.tape_write.specs.Calls.{Images, Counted, commitCall}
 use Rattle.tape_write.proofs.Encoding.{length-tapes, tape-then}
 use Rattle.tape_write.proofs.Collecting.{collected}
@@ -53,7 +53,7 @@ module _ (way : Way) (a w : List ℕ) (is : Images a w) where
   behind = subst (λ (A : List Op). Behind (stageTape w ks) (choose way A w (sameRoot a w) ps) (choose way [] w (sameRoot a w) ps)) (sym (stage-tape a w is)) (choose-behind (stageTape w ks) w way (sameRoot a w) ps)
 
   module _ (few : length ps ≤ 15) where
-    pub taken-size : length (tapeBytes (takenFor way a w .tape)) ≡ 12 * length ks + 4 * length (linesPast 0 ks) + endBytes way (length ps) (sameRoot a w)
+    pub taken-size : length (tapeBytes (takenFor way a w .tape)) ≡ 12 * length ks + groupBytes (length (linesPast 0 ks)) + endBytes way (length ps) (sameRoot a w)
     taken-size =
         ap (λ (cs : List Op). length (tapeBytes cs)) (behind .tape)
         ∙ length-tapes (stageTape w ks) (choose way [] w (sameRoot a w) ps .tape)
@@ -84,10 +84,10 @@ module _ (way : Way) (a w : List ℕ) (is : Images a w) (r : Changes) (c : Count
     pub pages-are : (z pages : List ℕ) → length z ≡ 64 → pages ≡ sets z 0 (changedPages a w) → take (r .headers) pages ≡ changedPages a w
     pages-are z pages n e = ap (λ (m : ℕ). take m pages) (c .headers) ∙ collected z pages (changedPages a w) e (omega (arith, pages-few))
 
-    pub bytes-are : (n : ℕ) → n ≡ endBytes way (r .headers) (r .same) → 12 * r .words + 4 * r .lines + n ≡ length (tapeBytes (takenFor way a w .tape))
-    bytes-are n e =
+    pub bytes-are : (m n : ℕ) → m ≡ groupBytes (r .lines) → n ≡ endBytes way (r .headers) (r .same) → 12 * r .words + m + n ≡ length (tapeBytes (takenFor way a w .tape))
+    bytes-are m n f e =
         let s : n ≡ endBytes way (length (changedPages a w)) (sameRoot a w) = e ∙ ap₂ (endBytes way) (c .headers) (c .root) in
-        omega (arith, c .words, c .lines, taken-size way a w is pages-few)
+        omega (arith, c .words, ap groupBytes (c .lines), taken-size way a w is pages-few)
 
 -- ---- the ways out of the call
 
@@ -107,7 +107,7 @@ module _ (way : Way) (a w tape : List ℕ) where
 
     -- stage A is written, and then the end behind it
     pub says-done : bytes ≤ length tape → (lines flushes stage : ℕ) (place : CommitPlace) (t work t′ : List ℕ) →
-        t ≡ sets tape 0 (tapeBytes (stageTape w (stageWords a w))) → stage ≡ 12 * length (stageWords a w) + 4 * length (linesPast 0 (stageWords a w)) →
+        t ≡ sets tape 0 (tapeBytes (stageTape w (stageWords a w))) → stage ≡ 12 * length (stageWords a w) + groupBytes (length (linesPast 0 (stageWords a w))) →
         Leaves (choose way [] w (sameRoot a w) (changedPages a w)) t stage place work t′ →
         lines ≡ length (linesPast 0 (stageWords a w)) → flushes ≡ endFlushes way (length (changedPages a w)) (sameRoot a w) →
         Says (writes.Done (record { place = place; bytes = bytes; flushes = lines + flushes })) work t′

@@ -1,16 +1,21 @@
--- The bytes of commands on a tape: of a word store, a line store and a flush, one command more at a place, and one list after another.
+-- The bytes of commands on a tape: of a word store, a line store, a flush and a barrier, one command more at a place, and one list after another.
 -- Assumes nothing.
 use Prim.Native.Nat.{ℕ, _+_, _-_, _*_, _/_, _≤_}
 use mathlib.Core.Path.{_≡_, refl, sym, ap, _∙_}
+use mathlib.Core.Bool.{Bool, true, false}
 use mathlib.Core.List.{List, [], _∷_, _++_}
 use native.Mathlib.Omega.{arith}
 use lib.ListN.{length, length-append}
 use lib.Seq.{sets}
-use borrow.Author.Tests.{eq-eqb, ne-eqb}
-use Rattle.codec.specs.Lists.{splice}
+use lib.Dec.{eqb}
+use borrow.Author.Tests.{eq-eqb, ne-eqb, eqb-true}
+use Rattle.codec.specs.Lists.{pick, splice}
 use Rattle.codec.proofs.Lists.{splice-sets, sets-append}
-use Rattle.device.specs.Tape.{Op, extent, wordBytes, lineBytes, flushBytes, commandBytes, tapeBytes, store, flush}
+use Rattle.device.specs.Tape.{Op, extent, wordBytes, lineBytes, flushBytes, barrierBytes, commandBytes, tapeBytes, store, flush, barrier}
+use Rattle.device.specs.Cut.{withBarrier}
 use Rattle.device.proofs.Encode.{length-commandBytes, tapeBytes-append}
+use Rattle.tape_write.specs.Lines.{closing}
+use Rattle.tape_write.specs.Sizes.{groupBytes}
 
 -- ---- one command
 
@@ -25,6 +30,10 @@ line-bytes l vs e = let q : 64 * l / 64 ≡ l = omega arith in rw (ne-eqb (lengt
 pub flush-bytes : (l : ℕ) → commandBytes (flush l) ≡ flushBytes l
 unfolding commandBytes
 flush-bytes l = refl
+
+pub barrier-bytes : commandBytes barrier ≡ barrierBytes
+unfolding commandBytes
+barrier-bytes = refl
 
 -- ---- commands at a place of the tape
 
@@ -88,10 +97,41 @@ module _ (t t′ : List ℕ) (at : ℕ) where
   pub word-last : (k : ℕ) (vs : List ℕ) → t′ ≡ splice t at (wordBytes k vs) → length vs ≡ 8 → at + 12 ≤ length t → t′ ≡ sets t at (tapeBytes (store (8 * k) vs ∷ []))
   word-last k vs e long fits = sym (tape-none t′ (at + 12)) ∙ word-next t t′ at (at + 12) [] k vs e long refl fits
 
-  pub flush-last : (l : ℕ) → t′ ≡ splice t at (flushBytes l) → at + 4 ≤ length t → t′ ≡ sets t at (tapeBytes (flush l ∷ []))
-  flush-last l e fits = sym (tape-none t′ (at + 4)) ∙ flush-next t t′ at (at + 4) [] l e refl fits
+  pub barrier-last : t′ ≡ splice t at barrierBytes → at + 4 ≤ length t → t′ ≡ sets t at (tapeBytes (barrier ∷ []))
+  barrier-last e fits = sym (tape-none t′ (at + 4)) ∙ command-next t t′ at (at + 4) barrier [] (e ∙ ap (splice t at) (sym barrier-bytes)) refl fits
 
 -- xs is written, and then ys behind it
 pub tape-then : (t t₁ t₂ : List ℕ) (at next : ℕ) (xs ys : List Op) → t₁ ≡ sets t at (tapeBytes xs) → next ≡ at + length (tapeBytes xs) → t₂ ≡ sets t₁ next (tapeBytes ys) →
     t₂ ≡ sets t at (tapeBytes (xs ++ ys))
 tape-then t t₁ t₂ at next xs ys e n f = f ∙ tape-append t t₁ at next xs ys e n
+
+-- ---- flushes and their barrier
+
+pub closing-none : (n : ℕ) → n ≡ 0 → closing n ≡ []
+unfolding closing
+closing-none n e = rw (eq-eqb n 0 e)
+
+pub closing-some : (n : ℕ) → (n ≡ 0 → ⊥) → closing n ≡ barrier ∷ []
+unfolding closing
+closing-some n some = rw (ne-eqb n 0 some)
+
+pub closing-size : (n : ℕ) → 4 * n + length (tapeBytes (closing n)) ≡ groupBytes n
+unfolding closing groupBytes
+closing-size n = go (eqb n 0) refl
+  where
+    go : (b : Bool) → eqb n 0 ≡ b → 4 * n + length (tapeBytes (pick b [] (barrier ∷ []))) ≡ pick b 0 (4 * n + 4)
+    go true e = omega (arith, eqb-true n 0 e, length-none)
+    go false e = omega (arith, length-next barrier [], length-none)
+
+pub group-is : (ys : List Op) (n : ℕ) → length ys ≡ n → withBarrier ys ≡ ys ++ closing n
+unfolding closing
+group-is [] n e = rw (eq-eqb n 0 (sym e))
+group-is (o ∷ ys) n e = rw (ne-eqb n 0 (λ q. omega arith))
+
+pub group-few : (n : ℕ) → groupBytes n ≤ 4 * n + 4
+unfolding groupBytes
+group-few n = go (eqb n 0)
+  where
+    go : (b : Bool) → pick b 0 (4 * n + 4) ≤ 4 * n + 4
+    go true = omega arith
+    go false = omega arith

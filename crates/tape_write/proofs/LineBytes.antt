@@ -8,7 +8,7 @@ use lib.ListN.{length, take, drop, length-drop}
 use lib.Seq.{sets, length-take-le, drop-drop}
 use Rattle.codec.specs.Lists.{part, splice}
 use Rattle.codec.proofs.Lists.{length-part}
-use Rattle.device.specs.Tape.{Op, flushCount, wordBytes, lineBytes, tapeBytes, store}
+use Rattle.device.specs.Tape.{Op, howMany, flushCount, wordBytes, lineBytes, tapeBytes, store}
 use Rattle.page.specs.Layout.{lineSize}
 use Rattle.image.proofs.General.{part-part}
 use Rattle.journal.specs.Changes.{wordSize, lineWords}
@@ -55,12 +55,12 @@ line-size ByLine p h e = length-next (store p h) [] ∙ omega (arith, length-non
 line-size ByWords p h e = words-size lineWords p h e
 
 words-count : (n p : ℕ) (h : List ℕ) → flushCount (wordsOf n p h) ≡ 0
-unfolding wordsOf flushCount
+unfolding wordsOf howMany
 words-count zero p h = refl
 words-count (suc n) p h = words-count n (p + wordSize) (drop wordSize h)
 
 pub line-count : (way : Way) (p : ℕ) (h : List ℕ) → flushCount (lineBy way p h) ≡ 0
-unfolding lineBy flushCount
+unfolding lineBy howMany
 line-count ByLine p h = refl
 line-count ByWords p h = words-count lineWords p h
 

@@ -11,19 +11,21 @@ use lib.Seq.{sets}
 use Rattle.codec.specs.Lists.{part, splice}
 use Rattle.codec.specs.Numbers.{number}
 use Rattle.codec.proofs.Lists.{length-part}
-use Rattle.device.specs.Tape.{Op, flushCount, flushBytes, tapeBytes, flush}
+use Rattle.device.specs.Tape.{Op, howMany, flushCount, flushBytes, tapeBytes, flush}
+use Rattle.device.specs.Cut.{withBarrier}
 use Rattle.device.proofs.Clauses.{flushCount-nil}
 use Rattle.device.proofs.Cuts.{flushCount-append}
+use Rattle.device.proofs.Writing.{group-flushes}
 use Rattle.page.specs.Layout.{pageSize, lineSize}
 use Rattle.image.proofs.General.{part-part}
 use Rattle.journal.specs.Way.{lineBy}
-use Rattle.journal.specs.Log.{pageLines, ownPage, logStores, logFlushes, headerStores, headerFlushes}
+use Rattle.journal.specs.Log.{pageLines, ownPage, logStores, logFlushes, logTape, headerStores, headerFlushes, headerTape}
 use Rattle.journal.specs.Recovery.{linesFrom, logged}
 use Rattle.journal.specs.declared.Way.{Way}
 use Rattle.journal.proofs.Headers.{Lines, lines-from}
-use Rattle.tape_write.specs.Lines.{lineFor, lineStores, lineFlushes}
-use Rattle.tape_write.specs.Sizes.{linesBytes}
-use Rattle.tape_write.proofs.Encoding.{flush-next, tape-append, tape-none, length-none, length-next, length-tapes}
+use Rattle.tape_write.specs.Lines.{lineFor, lineStores, lineFlushes, lineTape, closing}
+use Rattle.tape_write.specs.Sizes.{linesBytes, groupBytes}
+use Rattle.tape_write.proofs.Encoding.{flush-next, tape-append, tape-none, length-none, length-next, length-tapes, tape-then, closing-size, group-is}
 use Rattle.tape_write.proofs.LineBytes.{lines-zero, lines-more, line-size, line-count}
 
 -- ---- the lines, one by one
@@ -105,50 +107,93 @@ logged-length k src = go k 1
 
 -- ---- the commands of the definitions
 
-pub stores-log : (way : Way) (l : ℕ) (hs : List (List ℕ)) → lineStores way false l hs ≡ logStores way l hs
+stores-log : (way : Way) (l : ℕ) (hs : List (List ℕ)) → lineStores way false l hs ≡ logStores way l hs
 unfolding lineStores lineFor logStores
 stores-log way l [] = refl
 stores-log way l (h ∷ hs) = ap (λ (cs : List Op). lineBy way (lineSize * l) h ++ cs) (stores-log way (suc l) hs)
 
-pub flushes-logged : (l : ℕ) (hs : List (List ℕ)) → lineFlushes false l hs ≡ logFlushes l hs
+flushes-logged : (l : ℕ) (hs : List (List ℕ)) → lineFlushes false l hs ≡ logFlushes l hs
 unfolding lineFlushes lineFor logFlushes
 flushes-logged l [] = refl
 flushes-logged l (h ∷ hs) = ap (λ (cs : List Op). flush l ∷ cs) (flushes-logged (suc l) hs)
 
-pub stores-own : (way : Way) (l : ℕ) (hs : List (List ℕ)) → lineStores way true l hs ≡ headerStores way hs
+stores-own : (way : Way) (l : ℕ) (hs : List (List ℕ)) → lineStores way true l hs ≡ headerStores way hs
 unfolding lineStores lineFor headerStores
 stores-own way l [] = refl
 stores-own way l (h ∷ hs) =
     let e : lineSize * (pageLines * ownPage h) ≡ pageSize * ownPage h = omega arith in
     rw e (ap (λ (cs : List Op). lineBy way (pageSize * ownPage h) h ++ cs) (stores-own way (suc l) hs))
 
-pub flushes-own : (l : ℕ) (hs : List (List ℕ)) → lineFlushes true l hs ≡ headerFlushes hs
+flushes-own : (l : ℕ) (hs : List (List ℕ)) → lineFlushes true l hs ≡ headerFlushes hs
 unfolding lineFlushes lineFor headerFlushes
 flushes-own l [] = refl
 flushes-own l (h ∷ hs) = ap (λ (cs : List Op). flush (pageLines * ownPage h) ∷ cs) (flushes-own (suc l) hs)
 
 -- ---- their size
 
-pub stores-size : (way : Way) (own : Bool) (l : ℕ) (hs : List (List ℕ)) → Lines hs → length (tapeBytes (lineStores way own l hs)) ≡ linesBytes way (length hs)
+stores-size : (way : Way) (own : Bool) (l : ℕ) (hs : List (List ℕ)) → Lines hs → length (tapeBytes (lineStores way own l hs)) ≡ linesBytes way (length hs)
 unfolding lineStores
 stores-size way own l [] h = length-none ∙ sym (lines-zero way)
 stores-size way own l (g ∷ hs) h =
     length-tapes (lineBy way (lineSize * lineFor own l g) g) (lineStores way own (suc l) hs)
     ∙ omega (arith, line-size way (lineSize * lineFor own l g) g (h .0), stores-size way own (suc l) hs (h .1), sym (ap (linesBytes way) (add-one (length hs))) ∙ lines-more way (length hs))
 
-pub flushes-size : (own : Bool) (l : ℕ) (hs : List (List ℕ)) → length (tapeBytes (lineFlushes own l hs)) ≡ 4 * length hs
+flushes-size : (own : Bool) (l : ℕ) (hs : List (List ℕ)) → length (tapeBytes (lineFlushes own l hs)) ≡ 4 * length hs
 unfolding lineFlushes
 flushes-size own l [] = length-none
 flushes-size own l (g ∷ hs) = length-next (flush (lineFor own l g)) (lineFlushes own (suc l) hs) ∙ omega (arith, flushes-size own (suc l) hs)
 
-pub stores-count : (way : Way) (own : Bool) (l : ℕ) (hs : List (List ℕ)) → flushCount (lineStores way own l hs) ≡ 0
+stores-count : (way : Way) (own : Bool) (l : ℕ) (hs : List (List ℕ)) → flushCount (lineStores way own l hs) ≡ 0
 unfolding lineStores
 stores-count way own l [] = flushCount-nil
 stores-count way own l (g ∷ hs) =
     let p = lineSize * lineFor own l g in
     flushCount-append (lineBy way p g) (lineStores way own (suc l) hs) ∙ omega (arith, line-count way p g, stores-count way own (suc l) hs)
 
-pub flushes-count : (own : Bool) (l : ℕ) (hs : List (List ℕ)) → flushCount (lineFlushes own l hs) ≡ length hs
-unfolding flushCount lineFlushes
+flushes-count : (own : Bool) (l : ℕ) (hs : List (List ℕ)) → flushCount (lineFlushes own l hs) ≡ length hs
+unfolding howMany lineFlushes
 flushes-count own l [] = refl
 flushes-count own l (g ∷ hs) = ap suc (flushes-count own (suc l) hs)
+
+-- ---- with their flushes and the barrier
+
+pub tape-log : (way : Way) (hs : List (List ℕ)) → lineTape way false hs ≡ logTape way hs
+unfolding logTape
+tape-log way hs = ap₂ (λ (x y : List Op). x ++ withBarrier y) (stores-log way 1 hs) (flushes-logged 1 hs)
+
+pub tape-own : (way : Way) (hs : List (List ℕ)) → lineTape way true hs ≡ headerTape way hs
+unfolding headerTape
+tape-own way hs = ap₂ (λ (x y : List Op). x ++ withBarrier y) (stores-own way 1 hs) (flushes-own 1 hs)
+
+flushes-length : (own : Bool) (l : ℕ) (hs : List (List ℕ)) → length (lineFlushes own l hs) ≡ length hs
+unfolding lineFlushes
+flushes-length own l [] = refl
+flushes-length own l (g ∷ hs) = ap suc (flushes-length own (suc l) hs)
+
+module _ (way : Way) (own : Bool) (hs : List (List ℕ)) (k : ℕ) (lines : Lines hs) (count : length hs ≡ k) where
+  abbrev S : List Op
+  S = lineStores way own 1 hs
+
+  abbrev F : List Op
+  F = lineFlushes own 1 hs
+
+  group-of : withBarrier F ≡ F ++ closing k
+  group-of = group-is F k (flushes-length own 1 hs ∙ count)
+
+  stores-bytes : length (tapeBytes S) ≡ linesBytes way k
+  stores-bytes = stores-size way own 1 hs lines ∙ ap (linesBytes way) count
+
+  pub tape-size : length (tapeBytes (lineTape way own hs)) ≡ linesBytes way k + groupBytes k
+  tape-size =
+      length-tapes S (withBarrier F)
+      ∙ omega (arith, stores-bytes, ap (λ (cs : List Op). length (tapeBytes cs)) group-of, length-tapes F (closing k), flushes-size own 1 hs, closing-size k)
+
+  pub tape-flushes : flushCount (lineTape way own hs) ≡ k
+  tape-flushes = flushCount-append S (withBarrier F) ∙ omega (arith, stores-count way own 1 hs, group-flushes F, flushes-count own 1 hs)
+
+  -- the writers of the stores, of the flushes and of the barrier, one behind the other
+  pub lines-chain : (t t₁ t₂ t₃ : List ℕ) (at flushes : ℕ) → flushes ≡ at + linesBytes way k → t₁ ≡ sets t at (tapeBytes S) → t₂ ≡ sets t₁ flushes (tapeBytes F) →
+      t₃ ≡ sets t₂ (flushes + 4 * k) (tapeBytes (closing k)) → t₃ ≡ sets t at (tapeBytes (lineTape way own hs))
+  lines-chain t t₁ t₂ t₃ at flushes m e f g =
+      tape-then t t₁ t₃ at flushes S (F ++ closing k) e (omega (arith, stores-bytes)) (tape-then t₁ t₂ t₃ flushes (flushes + 4 * k) F (closing k) f (omega (arith, flushes-size own 1 hs)) g)
+      ∙ ap (λ (cs : List Op). sets t at (tapeBytes (S ++ cs))) (sym group-of)

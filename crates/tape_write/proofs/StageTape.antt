@@ -1,4 +1,4 @@
--- Stage A on the tape: the stores of its words and the flushes of their lines, one more at a time, and its size.
+-- Stage A on the tape: the stores of its words, the flushes of their lines and the barrier, one more at a time, and its size.
 -- Assumes nothing.
 use Prim.Native.Nat.{ℕ, zero, suc, _+_, _*_, _/_, _≤_, _<_}
 use mathlib.Core.Path.{_≡_, refl, sym, ap, _∙_}
@@ -7,20 +7,24 @@ use mathlib.Core.List.{List, [], _∷_, _++_, map}
 use native.Mathlib.Omega.{arith}
 use native.Mathlib.Numerals.{add-one}
 use native.Mathlib.Nat.{not-suc-le-zero}
-use lib.ListN.{length, getD, take, drop, length-take, drop-of-length-le}
+use lib.ListN.{length, getD, take, drop, length-take, length-map, drop-of-length-le}
 use lib.Seq.{sets, drop-cons, getD-take}
 use lib.Dec.{eqb}
 use borrow.Author.Tests.{eq-eqb, ne-eqb, eqb-true, eqb-false}
 use Rattle.codec.specs.Lists.{pick, part, splice, All}
 use Rattle.codec.proofs.Tests.{All-map}
 use Rattle.codec.proofs.Lists.{length-part}
-use Rattle.device.specs.Tape.{Op, flushCount, wordBytes, tapeBytes, flush}
+use Rattle.device.specs.Tape.{Op, howMany, flushCount, wordBytes, tapeBytes, flush}
+use Rattle.device.specs.Cut.{withBarrier}
 use Rattle.device.proofs.Cuts.{flushCount-append}
+use Rattle.device.proofs.Writing.{group-flushes}
 use Rattle.page.specs.Layout.{lineSize}
 use Rattle.journal.specs.Changes.{wordSize, pageWords, lineWords, flushesFrom, flushesOf, stageA}
 use Rattle.tape_write.specs.Words.{storedWords, stageWords, WordIn, wordStore, linesPast, stageTape}
+use Rattle.tape_write.specs.Lines.{closing}
+use Rattle.tape_write.specs.Sizes.{groupBytes}
 use Rattle.tape_write.specs.Calls.{reachedIn, Images}
-use Rattle.tape_write.proofs.Encoding.{word-next, tape-none, length-none, length-next, length-tapes}
+use Rattle.tape_write.proofs.Encoding.{word-next, tape-none, length-none, length-next, length-tapes, tape-then, closing-size, group-is}
 use Rattle.tape_write.proofs.StageWords.{walk-words, InWords, stored-in, stored-length}
 
 -- ---- the lines that words lie in
@@ -105,36 +109,60 @@ module _ (a w : List ℕ) (is : Images a w) where
   stage-tape =
       let e = walk-words (reachedIn a) a w (length a / wordSize) 0 in
       let far = All-map (λ (k : ℕ). WordIn w k × (pageWords ≤ k)) (λ (k : ℕ). pageWords ≤ k) (λ k h. h .1) (stageWords a w) words-in in
-      ap (λ (cs : List Op). cs ++ flushesOf cs) e
-      ∙ ap (λ (cs : List Op). map (wordStore w) (storedWords (reachedIn a) a w (length a / wordSize) 0) ++ cs) (flushes-lines w (storedWords (reachedIn a) a w (length a / wordSize) 0) far)
+      ap (λ (cs : List Op). cs ++ withBarrier (flushesOf cs)) e
+      ∙ ap (λ (cs : List Op). map (wordStore w) (storedWords (reachedIn a) a w (length a / wordSize) 0) ++ withBarrier cs) (flushes-lines w (storedWords (reachedIn a) a w (length a / wordSize) 0) far)
 
 -- ---- its size
 
-pub words-size : (w ks : List ℕ) → All (WordIn w) ks → length (tapeBytes (map (wordStore w) ks)) ≡ 12 * length ks
+words-size : (w ks : List ℕ) → All (WordIn w) ks → length (tapeBytes (map (wordStore w) ks)) ≡ 12 * length ks
 words-size w [] h = length-none
 words-size w (k ∷ ks) h =
     length-next (wordStore w k) (map (wordStore w) ks) ∙ omega (arith, length-part w (wordSize * k) wordSize (h .0), words-size w ks (h .1))
 
-pub lines-size : (ls : List ℕ) → length (tapeBytes (map flush ls)) ≡ 4 * length ls
+lines-size : (ls : List ℕ) → length (tapeBytes (map flush ls)) ≡ 4 * length ls
 lines-size [] = length-none
 lines-size (l ∷ ls) = length-next (flush l) (map flush ls) ∙ omega (arith, lines-size ls)
 
 words-flushes : (w ks : List ℕ) → flushCount (map (wordStore w) ks) ≡ 0
-unfolding flushCount
+unfolding howMany
 words-flushes w [] = refl
 words-flushes w (k ∷ ks) = words-flushes w ks
 
 lines-flushes : (ls : List ℕ) → flushCount (map flush ls) ≡ length ls
-unfolding flushCount
+unfolding howMany
 lines-flushes [] = refl
 lines-flushes (l ∷ ls) = ap suc (lines-flushes ls)
 
-pub stage-size : (w ks : List ℕ) → All (WordIn w) ks → length (tapeBytes (stageTape w ks)) ≡ 12 * length ks + 4 * length (linesPast 0 ks)
-stage-size w ks h = length-tapes (map (wordStore w) ks) (map flush (linesPast 0 ks)) ∙ omega (arith, words-size w ks h, lines-size (linesPast 0 ks))
+module _ (w ks : List ℕ) where
+  abbrev F : List Op
+  F = map flush (linesPast 0 ks)
 
-pub stage-flushes : (w ks : List ℕ) → flushCount (stageTape w ks) ≡ length (linesPast 0 ks)
-stage-flushes w ks =
-    flushCount-append (map (wordStore w) ks) (map flush (linesPast 0 ks)) ∙ omega (arith, words-flushes w ks, lines-flushes (linesPast 0 ks))
+  group-of : withBarrier F ≡ F ++ closing (length (linesPast 0 ks))
+  group-of = group-is F (length (linesPast 0 ks)) (length-map (linesPast 0 ks) flush)
+
+  pub stage-size : All (WordIn w) ks → length (tapeBytes (stageTape w ks)) ≡ 12 * length ks + groupBytes (length (linesPast 0 ks))
+  stage-size h =
+      length-tapes (map (wordStore w) ks) (withBarrier F)
+      ∙ omega (
+        arith,
+        words-size w ks h,
+        ap (λ (cs : List Op). length (tapeBytes cs)) group-of,
+        length-tapes F (closing (length (linesPast 0 ks))),
+        lines-size (linesPast 0 ks),
+        closing-size (length (linesPast 0 ks)),
+      )
+
+  pub stage-flushes : flushCount (stageTape w ks) ≡ length (linesPast 0 ks)
+  stage-flushes = flushCount-append (map (wordStore w) ks) (withBarrier F) ∙ omega (arith, words-flushes w ks, group-flushes F, lines-flushes (linesPast 0 ks))
+
+  -- the writers of the stores, of the flushes and of the barrier, one behind the other
+  pub stage-chain : (t t₁ t₂ t₃ : List ℕ) (n lines : ℕ) → All (WordIn w) ks → length ks ≡ n → lines ≡ length (linesPast 0 ks) → t₁ ≡ sets t 0 (tapeBytes (map (wordStore w) ks)) →
+      t₂ ≡ sets t₁ (12 * n) (tapeBytes F) → t₃ ≡ sets t₂ (12 * n + 4 * lines) (tapeBytes (closing lines)) → t₃ ≡ sets t 0 (tapeBytes (stageTape w ks))
+  stage-chain t t₁ t₂ t₃ n lines h count l e f g =
+      tape-then t t₁ t₃ 0 (12 * n) (map (wordStore w) ks) (F ++ closing lines) e (omega (arith, words-size w ks h))
+      (tape-then t₁ t₂ t₃ (12 * n) (12 * n + 4 * lines) F (closing lines) f (omega (arith, lines-size (linesPast 0 ks))) g)
+      ∙ ap (λ (m : ℕ). sets t 0 (tapeBytes (map (wordStore w) ks ++ (F ++ closing m)))) l
+      ∙ ap (λ (cs : List Op). sets t 0 (tapeBytes (map (wordStore w) ks ++ cs))) (sym group-of)
 
 -- ---- one store or flush more
 

@@ -4,8 +4,10 @@ use Prim.Native.Nat.{ℕ, suc, _+_, _*_, _≤_}
 use mathlib.Core.Bool.{Bool}
 use mathlib.Core.List.{List, [], _∷_, _++_}
 use lib.ListN.{length}
+use lib.Dec.{eqb}
 use Rattle.codec.specs.Lists.{pick}
-use Rattle.device.specs.Tape.{Op, flush}
+use Rattle.device.specs.Tape.{Op, flush, barrier}
+use Rattle.device.specs.Cut.{withBarrier}
 use Rattle.page.specs.Layout.{pageSize, lineSize}
 use Rattle.journal.specs.Way.{lineBy}
 use Rattle.journal.specs.Log.{pageLines, ownPage}
@@ -31,3 +33,11 @@ lineStores way own l (h ∷ hs) = lineBy way (lineSize * lineFor own l h) h ++ l
 unfoldable pub lineFlushes : Bool → ℕ → List (List ℕ) → List Op
 lineFlushes own l [] = []
 lineFlushes own l (h ∷ hs) = flush (lineFor own l h) ∷ lineFlushes own (suc l) hs
+
+-- all of them: the stores, the flushes and their barrier
+abbrev pub lineTape : Way → Bool → List (List ℕ) → List Op
+lineTape way own hs = lineStores way own 1 hs ++ withBarrier (lineFlushes own 1 hs)
+
+-- what follows n flushes: their barrier, if there is a flush
+unfoldable pub closing : ℕ → List Op
+closing n = pick (eqb n 0) [] (barrier ∷ [])

@@ -1,4 +1,4 @@
--- The sizes of tapes, by what differs: a word store takes 12 bytes, a line store 68, a flush 4.
+-- The sizes of tapes, by what differs: a word store takes 12 bytes, a line store 68, a flush or a barrier 4.
 -- Assumes nothing.
 use Prim.Native.Nat.{ℕ, _+_, _*_}
 use mathlib.Core.Bool.{Bool, false, _&&_}
@@ -12,13 +12,17 @@ unfoldable pub linesBytes : Way → ℕ → ℕ
 linesBytes ByLine k = 68 * k
 linesBytes ByWords k = 96 * k
 
+-- n flushes and their barrier: no flush, no barrier
+unfoldable pub groupBytes : ℕ → ℕ
+groupBytes n = pick (eqb n 0) 0 (4 * n + 4)
+
 -- a recovery of k headers, where the root word is as it was or differs
 unfoldable pub replayBytes : Way → ℕ → Bool → ℕ
-replayBytes way k same = linesBytes way k + 4 * k + 16 + pick same 0 12
+replayBytes way k same = linesBytes way k + groupBytes k + 20 + pick same 0 12
 
--- a commit by the log: the log, the mark and its flush, the replay
+-- a commit by the log: the log, the mark with its flush and barrier, the replay
 unfoldable pub logBytes : Way → ℕ → Bool → ℕ
-logBytes way k same = linesBytes way k + 4 * k + 16 + replayBytes way k same
+logBytes way k same = linesBytes way k + groupBytes k + 20 + replayBytes way k same
 
 -- whether one header is all that changed, and a line store commits it
 unfoldable pub commitsAlone : Way → ℕ → Bool → Bool
@@ -27,7 +31,7 @@ commitsAlone ByWords k same = false
 
 -- what follows stage A, with k changed headers: one changed place, or the log
 unfoldable pub endBytes : Way → ℕ → Bool → ℕ
-endBytes way k same = pick (eqb k 0) 16 (pick (commitsAlone way k same) 72 (logBytes way k same))
+endBytes way k same = pick (eqb k 0) 20 (pick (commitsAlone way k same) 76 (logBytes way k same))
 
 unfoldable pub endFlushes : Way → ℕ → Bool → ℕ
 endFlushes way k same = pick (eqb k 0) 1 (pick (commitsAlone way k same) 1 (2 * k + 2))

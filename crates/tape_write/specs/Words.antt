@@ -6,6 +6,7 @@ use lib.ListN.{length}
 use lib.Dec.{eqb}
 use Rattle.codec.specs.Lists.{pick, part, eqs}
 use Rattle.device.specs.Tape.{Op, store, flush}
+use Rattle.device.specs.Cut.{withBarrier}
 use Rattle.image.specs.PageZero.{rootOf}
 use Rattle.image.specs.Image.{reached}
 use Rattle.journal.specs.Changes.{wordSize, lineWords, freeWord}
@@ -42,4 +43,4 @@ linesPast last (k ∷ ks) = let l = k / lineWords in pick (eqb l last) (linesPas
 
 -- the commands of stage A for the words ks
 abbrev pub stageTape : List ℕ → List ℕ → List Op
-stageTape w ks = map (wordStore w) ks ++ map flush (linesPast 0 ks)
+stageTape w ks = map (wordStore w) ks ++ withBarrier (map flush (linesPast 0 ks))

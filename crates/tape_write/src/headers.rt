@@ -12,8 +12,8 @@ ghost use Rattle.page.specs.Layout.{pageSize, lineSize};
 ghost use Rattle.journal.specs.Changes.{changedPages};
 ghost use Rattle.journal.specs.Tape.{newHeaders, joinLines};
 ghost use Rattle.journal.specs.Recovery.{logged};
-ghost use Rattle.tape_write.specs.Lines.{PageIn, lineMost, lineFor, lineStores, lineFlushes};
-ghost use Rattle.tape_write.specs.Sizes.{linesBytes};
+ghost use Rattle.tape_write.specs.Lines.{PageIn, lineMost, lineFor, lineStores, lineFlushes, lineTape, closing};
+ghost use Rattle.tape_write.specs.Sizes.{linesBytes, groupBytes};
 ghost use Rattle.tape_write.specs.Calls.{Lent};
 
 // Whether n words from `at` on are the same in both. What differs is joined and tested once at the end: without a way out the loop takes
@@ -125,4 +125,26 @@ pub fn flush_headers(tape: &mut [u8], at: usize, src: &[u8], k: usize, own: bool
         device::emit_flush(tape, at + 4 * i, line_for(src, i + 1, own));
         i += 1;
     }
+}
+
+// Writes the barrier of n flushes; none where there is no flush.
+pub fn emit_closing(tape: &mut [u8], at: usize, n: usize)
+    requires { ⌜ at + length (tapeBytes (closing n)) ≤ length (now tape) ⌝ }
+    ensures { λ _. ⌜ now (tape .exit) ≡ sets (now (tape .entry)) at (tapeBytes (closing n)) ⌝ }
+{
+    if n == 0 {
+        return;
+    }
+    device::emit_barrier(tape, at);
+}
+
+// Writes the headers in log lines 1 to k: their stores, their flushes and the barrier.
+pub fn emit_lines(way: Way, tape: &mut [u8], at: usize, src: &[u8], k: usize, own: bool)
+    requires { ⌜ (at + linesBytes way k + groupBytes k ≤ length (now tape)) × (64 * k + 64 ≤ length (now src)) × (k ≤ 65536) ⌝ }
+    ensures { λ _. ⌜ now (tape .exit) ≡ sets (now (tape .entry)) at (tapeBytes (lineTape way own (logged k (now (src .entry))))) ⌝ }
+{
+    let flushes = at + lines_bytes(way, k);
+    emit_headers(way, tape, at, src, k, own);
+    flush_headers(tape, flushes, src, k, own);
+    emit_closing(tape, flushes + 4 * k, k);
 }

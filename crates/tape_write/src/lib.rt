@@ -1,9 +1,11 @@
 // The tape of a transaction and of a recovery: what differs is found once, the size is known before the first byte is written.
 use crate::ends::emit_end;
 use crate::headers::changed_headers;
+use crate::headers::emit_closing;
 use crate::headers::same_words;
 use crate::sizes::end_bytes;
 use crate::sizes::end_flushes;
+use crate::sizes::group_bytes;
 use crate::words::changed_words;
 use crate::words::count_lines;
 use crate::words::emit_flushes;
@@ -17,6 +19,7 @@ ghost use lib.Seq.{sets};
 ghost use Rattle.codec.specs.Lists.{All};
 ghost use Rattle.device.specs.Tape.{tapeBytes};
 ghost use Rattle.journal.specs.Changes.{changedPages};
+ghost use Rattle.tape_write.specs.Sizes.{groupBytes};
 ghost use Rattle.tape_write.specs.Words.{stageWords, WordIn, linesPast, stageTape};
 ghost use Rattle.tape_write.specs.Calls.{Lent, commitCall, Counted};
 
@@ -74,13 +77,14 @@ fn find_changes(
     }
 }
 
-// Writes stage A: the word stores, and then the flushes of their lines.
-fn emit_stage(tape: &mut [u8], work: &[u8], words: &[u16], n: usize)
-    requires { ⌜ (12 * n + 4 * length (linesPast 0 (take n (now words))) ≤ length (now tape)) × (n ≤ length (now words)) × All (WordIn (now work)) (take n (now words)) ⌝ }
+// Writes stage A: the word stores, then the flushes of their lines and the barrier.
+fn emit_stage(tape: &mut [u8], work: &[u8], words: &[u16], n: usize, lines: usize)
+    requires { ⌜ (12 * n + groupBytes lines ≤ length (now tape)) × (n ≤ length (now words)) × All (WordIn (now work)) (take n (now words)) × (lines ≡ length (linesPast 0 (take n (now words)))) ⌝ }
     ensures { λ _. ⌜ now (tape .exit) ≡ sets (now (tape .entry)) 0 (tapeBytes (stageTape (now (work .entry)) (take n (now (words .entry))))) ⌝ }
 {
     emit_words(tape, 0, work, words, n);
     emit_flushes(tape, 12 * n, words, n);
+    emit_closing(tape, 12 * n + 4 * lines, lines);
 }
 
 // Writes the tape that commits the edited image in work, with room for the words that differ.
@@ -105,12 +109,12 @@ fn commit_with(
     if 15 < k {
         return Written::LogFull;
     }
-    let stage = 12 * found.words + 4 * found.lines;
+    let stage = 12 * found.words + group_bytes(found.lines);
     let bytes = stage + end_bytes(way, k, same);
     if tape.len() < bytes {
         return Written::TapeShort;
     }
-    emit_stage(tape, work, words, found.words);
+    emit_stage(tape, work, words, found.words, found.lines);
     let place = emit_end(way, work, tape, stage, &pages, k, same);
     Written::Done(Commit {
         place,

@@ -2,7 +2,7 @@
 use journal::Way;
 ghost use mathlib.Core.Path.{_≡_};
 ghost use Prim.Native.Nat.{ℕ, _≤_};
-ghost use Rattle.tape_write.specs.Sizes.{linesBytes, replayBytes, commitsAlone, endBytes, endFlushes};
+ghost use Rattle.tape_write.specs.Sizes.{linesBytes, groupBytes, replayBytes, commitsAlone, endBytes, endFlushes};
 
 // The bytes of the stores of k lines.
 pub fn lines_bytes(way: Way, k: usize) -> usize
@@ -15,16 +15,27 @@ pub fn lines_bytes(way: Way, k: usize) -> usize
     }
 }
 
+// The bytes of n flushes and their barrier.
+pub fn group_bytes(n: usize) -> usize
+    requires { ⌜ n ≤ 65536 ⌝ }
+    ensures { λ r. ⌜ r ≡ groupBytes n ⌝ }
+{
+    if n == 0 {
+        return 0;
+    }
+    4 * n + 4
+}
+
 // The bytes of a recovery's tape.
 pub fn replay_bytes(way: Way, headers: usize, same: bool) -> usize
     requires { ⌜ headers ≤ 65536 ⌝ }
     ensures { λ r. ⌜ r ≡ replayBytes way headers same ⌝ }
 {
-    let stores = lines_bytes(way, headers);
+    let lines = lines_bytes(way, headers) + group_bytes(headers);
     if same {
-        return stores + 4 * headers + 16;
+        return lines + 20;
     }
-    stores + 4 * headers + 28
+    lines + 32
 }
 
 // Whether one header is all that changed, and a line store commits it.
@@ -43,12 +54,12 @@ pub fn end_bytes(way: Way, k: usize, same: bool) -> usize
     ensures { λ r. ⌜ r ≡ endBytes way k same ⌝ }
 {
     if k == 0 {
-        return 16;
+        return 20;
     }
     if commits_alone(way, k, same) {
-        return 72;
+        return 76;
     }
-    lines_bytes(way, k) + 4 * k + 16 + replay_bytes(way, k, same)
+    lines_bytes(way, k) + group_bytes(k) + 20 + replay_bytes(way, k, same)
 }
 
 // Its flushes.

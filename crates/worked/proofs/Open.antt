@@ -3,7 +3,7 @@
 use Prim.Native.Nat.{ℕ}
 use Rattle.codec.specs.Lists.{part, splice, insertAt, removeAt, eqs, every, allB}
 use Rattle.codec.specs.Numbers.{number, bytesOf}
-use Rattle.device.specs.Tape.{unit, follows, isCommand, front, scan, decode, flushCount, headBytes, commandBytes, tapeBytes}
+use Rattle.device.specs.Tape.{unit, follows, placeOk, isCommand, front, scan, decode, howMany, headBytes, commandBytes, tapeBytes}
 use Rattle.page.specs.Layout.{up8, size, recordBytes, recordIn, recordAt, padded, slotBytes, slotsIn, headerBytes, readHead, unusedHead}
 use Rattle.page.specs.Operations.{seal, written, insertHead, updateHead, deleteHead, insert, update, delete, fillHead, fillBytes, fill, sizes, made, pageOf, putPage}
 use Rattle.page.specs.Page.{entries, records, recOk, headOk, heldB, offB, apartB, laidOut, formOk, startsAt, keysRise, pageOk}
@@ -17,8 +17,8 @@ use Rattle.image.specs.Table.{leafRecords, table}
 use Rattle.edit.specs.EditList.{editBytes, editOf, editIn, faultIn, joined, editsIn, editList}
 use Rattle.journal.specs.Changes.{freeWord, wordStores, flushesFrom, flushesOf, stageA, headerLine, changedFrom, changedPages, sameRoot}
 use Rattle.journal.specs.Way.{lineBy}
-use Rattle.journal.specs.Log.{ownPage, logStores, logFlushes, logTape, headerStores, headerFlushes, ending, replayTape}
-use Rattle.journal.specs.Tape.{joinLines, byHeader, byRoot, byLog, oneHeader, choose, roomInLog, takenFor, commitOf}
+use Rattle.journal.specs.Log.{ownPage, logStores, logFlushes, logTape, headerStores, headerFlushes, headerTape, ending, replayTape}
+use Rattle.journal.specs.Tape.{joinLines, byHeader, byRoot, markFlush, byLog, oneHeader, choose, roomInLog, takenFor, commitOf}
 use Rattle.tree.specs.Edits.{isFull, inPlace, indexRec, indexed, keptSep, splitFrom, splitPoint, firstKey, copied, split, moved, put, dropped, editAt, edited}
 use Rattle.tree.specs.State.{others, begin, takePage, taken, filled}
 use Rattle.tree.specs.Whole.{onward, editsFrom, pagesFrom, putBack, editedImage, editsOn}
@@ -27,5 +27,5 @@ use Rattle.worked.specs.Row.{lentTape, transacted, after, refusalIn, edi
 use Rattle.worked.specs.Rows.{value, inserts}
 
 unfoldable pub opened : ℕ
-unfolding part splice insertAt removeAt eqs every allB number bytesOf unit follows isCommand front scan decode flushCount headBytes commandBytes tapeBytes up8 size recordBytes recordIn recordAt padded slotBytes slotsIn headerBytes readHead unusedHead seal written insertHead updateHead deleteHead insert update delete fillHead fillBytes fill sizes made pageOf putPage entries records recOk headOk heldB offB apartB laidOut formOk startsAt keysRise pageOk searched rootFrom rootCall checkFrom checkCall keyOk zeroPage freshZero fresh childOf children reached among distinct indexOk nextSep places leafOk leafAt leavesOk treeOk isPage rootOf markBytes noMark markOk wordsPast pageZero lastFrom route leafRecords table editBytes editOf editIn faultIn joined editsIn editList freeWord wordStores flushesFrom flushesOf stageA headerLine changedFrom changedPages sameRoot lineBy ownPage logStores logFlushes logTape headerStores headerFlushes ending replayTape joinLines byHeader byRoot byLog oneHeader choose roomInLog takenFor commitOf isFull inPlace indexRec indexed keptSep splitFrom splitPoint firstKey copied split moved put dropped editAt edited others begin takePage taken filled onward editsFrom pagesFrom putBack editedImage editsOn refusedWith acceptedWith committed outcomeOf listOf checkedOf transactionCall lentTape transacted after refusalIn editNumberIn bytesIn flushesIn kindAndPlace kindsAndPlaces readOff readAll found value inserts
+unfolding part splice insertAt removeAt eqs every allB number bytesOf unit follows placeOk isCommand front scan decode howMany headBytes commandBytes tapeBytes up8 size recordBytes recordIn recordAt padded slotBytes slotsIn headerBytes readHead unusedHead seal written insertHead updateHead deleteHead insert update delete fillHead fillBytes fill sizes made pageOf putPage entries records recOk headOk heldB offB apartB laidOut formOk startsAt keysRise pageOk searched rootFrom rootCall checkFrom checkCall keyOk zeroPage freshZero fresh childOf children reached among distinct indexOk nextSep places leafOk leafAt leavesOk treeOk isPage rootOf markBytes noMark markOk wordsPast pageZero lastFrom route leafRecords table editBytes editOf editIn faultIn joined editsIn editList freeWord wordStores flushesFrom flushesOf stageA headerLine changedFrom changedPages sameRoot lineBy ownPage logStores logFlushes logTape headerStores headerFlushes headerTape ending replayTape joinLines byHeader byRoot markFlush byLog oneHeader choose roomInLog takenFor commitOf isFull inPlace indexRec indexed keptSep splitFrom splitPoint firstKey copied split moved put dropped editAt edited others begin takePage taken filled onward editsFrom pagesFrom putBack editedImage editsOn refusedWith acceptedWith committed outcomeOf listOf checkedOf transactionCall lentTape transacted after refusalIn editNumberIn bytesIn flushesIn kindAndPlace kindsAndPlaces readOff readAll found value inserts
 opened = 0

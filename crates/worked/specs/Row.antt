@@ -6,7 +6,7 @@ use mathlib.Core.List.{List, [], _∷_, _++_}
 use lib.ListN.{length, getD, take, replicate}
 use lib.Dec.{eqb}
 use Rattle.codec.specs.Lists.{pick}
-use Rattle.device.specs.Tape.{Op, store, flush, malformed, decode}
+use Rattle.device.specs.Tape.{Op, store, flush, barrier, malformed, decode, barrierCount}
 use Rattle.page.specs.Layout.{readHead}
 use Rattle.page.specs.Operations.{pageOf}
 use Rattle.image.specs.PageZero.{rootOf}
@@ -39,6 +39,8 @@ pub data Probe : Type 0 where
   editNumber : Probe
   bytes : Probe
   flushes : Probe
+  -- the number of barriers on the tape
+  barriers : Probe
   -- each command on the tape: its kind and its place
   commands : Probe
   -- of a page: its content start, its count, the offset in a slot, and whether it is reached (1 or 0)
@@ -65,22 +67,28 @@ unfoldable pub flushesIn : Transacted → ℕ
 flushesIn (Accepted c) = c .flushes
 flushesIn (Refused r) = 0
 
--- kind 1 and a word, kind 2 and a line, or kind 3 and a line
+-- kind 1 and a word, kind 2 and a line, kind 3 and a line, or kind 4 and 0
 unfoldable pub kindAndPlace : Op → List ℕ
 kindAndPlace (store p vs) = pick (eqb (length vs) 8) (1 ∷ p / 8 ∷ []) (2 ∷ p / 64 ∷ [])
 kindAndPlace (flush l) = 3 ∷ l ∷ []
+kindAndPlace barrier = 4 ∷ 0 ∷ []
 kindAndPlace malformed = []
 
 unfoldable pub kindsAndPlaces : List Op → List ℕ
 kindsAndPlaces [] = []
 kindsAndPlaces (o ∷ cs) = kindAndPlace o ++ kindsAndPlaces cs
 
+-- the commands on the tape, as far as it is used
+abbrev pub commandsIn : Result → List Op
+commandsIn r = decode (length (r .work)) (take (bytesIn (r .answer)) (r .tape))
+
 unfoldable pub readOff : Result → Probe → List ℕ
 readOff r refusal = refusalIn (r .answer) ∷ []
 readOff r editNumber = editNumberIn (r .answer) ∷ []
 readOff r bytes = bytesIn (r .answer) ∷ []
 readOff r flushes = flushesIn (r .answer) ∷ []
-readOff r commands = kindsAndPlaces (decode (length (r .work)) (take (bytesIn (r .answer)) (r .tape)))
+readOff r barriers = barrierCount (commandsIn r) ∷ []
+readOff r commands = kindsAndPlaces (commandsIn r)
 readOff r (start p) = readHead (pageOf (r .work) p) .start ∷ []
 readOff r (count p) = length (readHead (pageOf (r .work) p) .slots) ∷ []
 readOff r (slot p j) = getD (readHead (pageOf (r .work) p) .slots) j 0 ∷ []

@@ -1,4 +1,4 @@
--- The rows that document 01 marks with *, in its order, with its numbers.
+-- The rows that document 01 marks with *, in its order, with its numbers, and those of document 02 (h) where that moves them.
 -- Assumes nothing.
 use Prim.Native.Nat.{ℕ, zero, suc}
 use mathlib.Core.List.{List, [], _∷_}
@@ -15,19 +15,20 @@ unfoldable pub inserts : ℕ → ℕ → List Edit
 inserts zero k = []
 inserts (suc n) k = insert k (value 8) ∷ inserts n (suc k)
 
--- "Fresh, 8 pages; insert 101 with 8 value bytes, none zero: offset 1,000; words 381-383; flush 47; line 32; flush 32; 112 bytes, 2 flushes."
+-- "Fresh, 8 pages; insert 101 with 8 value bytes, none zero: offset 1,000; words 381-383; flush 47; line 32; flush 32; [..] 2 flushes.", each flush
+-- with its barrier: "The first two worked tapes become 120 and 108 bytes." (document 02 (h))
 abbrev pub insert-one : Row
 insert-one =
     record {
       setup = [];
       edits = insert 101 (value 8) ∷ [];
       asks = refusal ∷ slot 2 0 ∷ commands ∷ bytes ∷ flushes ∷ [];
-      says = 0 ∷ 1000 ∷ 1 ∷ 381 ∷ 1 ∷ 382 ∷ 1 ∷ 383 ∷ 3 ∷ 47 ∷ 2 ∷ 32 ∷ 3 ∷ 32 ∷ 112 ∷ 2 ∷ [];
+      says = 0 ∷ 1000 ∷ 1 ∷ 381 ∷ 1 ∷ 382 ∷ 1 ∷ 383 ∷ 3 ∷ 47 ∷ 4 ∷ 0 ∷ 2 ∷ 32 ∷ 3 ∷ 32 ∷ 4 ∷ 0 ∷ 120 ∷ 2 ∷ [];
     }
 
--- "The same, value all zero bytes: 100 bytes."
+-- "The same, value all zero bytes": 108 bytes
 abbrev pub insert-zeros : Row
-insert-zeros = record { setup = []; edits = insert 101 (replicate 8 0) ∷ []; asks = refusal ∷ bytes ∷ []; says = 0 ∷ 100 ∷ [] }
+insert-zeros = record { setup = []; edits = insert 101 (replicate 8 0) ∷ []; asks = refusal ∷ bytes ∷ []; says = 0 ∷ 108 ∷ [] }
 
 -- "Empty list: 5. Seventeen edits: 5, edit 16."
 abbrev pub no-edit : Row

@@ -44,6 +44,7 @@ pub enum Mix {
     Words,
     Lines,
     Flushes,
+    Barriers,
     All,
 }
 
@@ -135,14 +136,13 @@ pub(crate) fn any_lines(random: &mut Random, lines: usize) -> Vec<usize> {
 }
 
 pub(crate) fn any_mix(random: &mut Random) -> Mix {
-    random.pick(&[
-        Mix::All,
-        Mix::All,
-        Mix::All,
-        Mix::Words,
-        Mix::Lines,
-        Mix::Flushes,
-    ])
+    match random.below(12) {
+        0 | 1 => Mix::Words,
+        2 | 3 => Mix::Lines,
+        4 => Mix::Flushes,
+        5 => Mix::Barriers,
+        _ => Mix::All,
+    }
 }
 
 /// More stores pending on one line than a choice byte can count.
@@ -155,6 +155,10 @@ fn long_commands(random: &mut Random, lines: usize) -> Vec<Vec<u8>> {
         let at = random.below(count);
         commands[at] = command(random, Mix::Flushes, &place);
     }
+    if random.one_in(2) {
+        let at = random.below(count);
+        commands[at] = command(random, Mix::Barriers, &place);
+    }
     commands
 }
 
@@ -165,12 +169,14 @@ pub(crate) fn command(random: &mut Random, mix: Mix, lines: &[usize]) -> Vec<u8>
         Mix::Words => 1,
         Mix::Lines => 2,
         Mix::Flushes => 3,
-        Mix::All => random.pick(&[1, 1, 1, 2, 2, 3]),
+        Mix::Barriers => 4,
+        Mix::All => random.pick(&[1, 1, 1, 2, 2, 3, 3, 4]),
     };
     let (place, size) = match kind {
         1 => (8 * line + random.below(8), 8),
         2 => (line, 64),
-        _ => (line, 0),
+        3 => (line, 0),
+        _ => (0, 0),
     };
     let mut bytes = vec![kind, 0, (place % 256) as u8, (place / 256) as u8];
     bytes.extend(random.bytes(size));
@@ -212,19 +218,45 @@ fn damage(random: &mut Random, command: &[u8], image_length: usize) -> Vec<u8> {
         3 => bad.truncate(random.between(1, 3)),
         4 => bad.truncate(random.between(1, command.len()) - usize::from(command.len() > 4)),
         _ => {
-            let places = image_length / if command[0] == 1 { 8 } else { 64 };
-            // The first place outside, one past it, one inside after all.
-            let place = match random.below(5) {
-                0 | 1 => places,
-                2 => places + 1,
-                3 => 65535,
-                _ => places.saturating_sub(1),
-            };
+            let place = other_place(random, command[0], image_length);
             bad[2] = (place % 256) as u8;
             bad[3] = (place / 256 % 256) as u8;
         }
     }
     bad
+}
+
+/// The first place outside, one past it, one inside after all. A barrier has
+/// place 0 alone.
+fn other_place(random: &mut Random, kind: u8, image_length: usize) -> usize {
+    let places = match kind {
+        1 => image_length / 8,
+        4 => random.pick(&[1, 2, 256]),
+        _ => image_length / 64,
+    };
+    match random.below(5) {
+        0 | 1 => places,
+        2 => places + 1,
+        3 => 65535,
+        _ => places.saturating_sub(1),
+    }
+}
+
+/// What is wrong with a barrier that comes after commands of good form.
+pub fn bad_barrier(tape: &[u8]) -> Option<&'static str> {
+    let mut rest = tape;
+    loop {
+        let size = match *rest {
+            [4, 0, 0, 0, ..] => 4,
+            [4, 0, _, _, ..] => return Some("barrier with a place"),
+            [4, _, _, _, ..] => return Some("barrier with a second byte"),
+            [1, 0, _, _, ..] => 12,
+            [2, 0, _, _, ..] => 68,
+            [3, 0, _, _, ..] => 4,
+            _ => return None,
+        };
+        rest = rest.get(size..)?;
+    }
 }
 
 fn any_count(random: &mut Random, commands: usize) -> usize {

@@ -20,11 +20,13 @@ pub const SEED: u64 = 20_240_605;
 
 /// What must come on every device: a cut in each phase with each table that it may
 /// hold, recoveries that are cut, of either device, and stored empty values.
-pub const OUTCOMES: [&str; 9] = [
+pub const OUTCOMES: [&str; 11] = [
     "before the commit, old",
     "commit pending, old",
     "commit pending, new",
+    "commit flushed, old",
     "commit flushed, new",
+    "commit durable, new",
     "recovery cut",
     "recovery of the other device",
     BUILT_EMPTY,
@@ -39,7 +41,8 @@ pub const BUILT_EMPTY: &str = "empty value, built";
 /// The calls under test, with the numbers of their answers.
 pub mod calls {
     use reference::device::Device;
-    use reference::numbers::of_transaction;
+    use reference::numbers::{of_recovery, of_transaction};
+    use reference::recovery::recover_with;
     use reference::transaction::{transaction_with, Fault};
 
     pub fn transaction(
@@ -63,11 +66,15 @@ pub mod calls {
     }
 
     pub fn recover(
-        device: Device,
+        (device, fault): (Device, Fault),
         image: &mut [u8],
         work: &mut [u8],
         tape: &mut [u8],
     ) -> (u8, [u64; 2]) {
+        if fault != Fault::None {
+            let (number, two) = of_recovery(&recover_with(device, fault, image, work, tape));
+            return (number, two.unwrap_or_default());
+        }
         let make = match device {
             Device::Lines => proved::recover,
             Device::Words => proved::recover_words,
@@ -113,21 +120,23 @@ impl Tally {
 pub enum Phase {
     BeforeCommit,
     CommitPending,
+    /// Flushed, with no barrier after that yet.
     CommitFlushed,
+    /// Document 02 (h): "flushed and past a barrier".
+    CommitDurable,
 }
 
 impl Phase {
     /// "Whether a store is issued or flushed is judged by the commands before
     /// the cut." The commit store is the first store to its place's line.
     pub fn after(self, command: &Command, commit_line: usize) -> Phase {
-        if command.line() != commit_line {
-            return self;
-        }
-        match (command, self) {
-            (Command::Flush { .. }, Phase::CommitPending) => Phase::CommitFlushed,
-            (Command::Flush { .. }, same) => same,
-            (_, Phase::BeforeCommit) => Phase::CommitPending,
-            (_, same) => same,
+        let stores = command.stored_line() == Some(commit_line);
+        let flushes = *command == Command::Flush { line: commit_line };
+        match self {
+            Phase::BeforeCommit if stores => Phase::CommitPending,
+            Phase::CommitPending if flushes => Phase::CommitFlushed,
+            Phase::CommitFlushed if *command == Command::Barrier => Phase::CommitDurable,
+            same => same,
         }
     }
 }
@@ -174,8 +183,13 @@ pub struct Test {
     pub random: Random,
     pub tally: Tally,
     pub device: Device,
-    fault: Fault,
+    faults: Faults,
 }
+
+/// What is broken, of the transaction and of the recovery.
+pub type Faults = (Fault, Fault);
+
+pub const UNBROKEN: Faults = (Fault::None, Fault::None);
 
 /// Stores to start from, how many transactions each has, and as what one counts
 /// that holds an empty value.
@@ -185,12 +199,12 @@ pub type Stores = (fn(&mut Random) -> Vec<u8>, usize, &'static str);
 type One = fn(&mut Test, &mut Vec<u8>, &mut Ledger) -> Result<(), String>;
 
 impl Test {
-    pub fn new(device: Device, fault: Fault) -> Test {
+    pub fn new(device: Device, faults: Faults) -> Test {
         Test {
             random: Random::new(SEED),
             tally: Tally::default(),
             device,
-            fault,
+            faults,
         }
     }
 
@@ -236,7 +250,7 @@ impl Test {
         let short = self.random.one_in(12);
         let old_tape = vec![self.random.byte(); if short { 100 } else { 65_536 }];
         let (mut work, mut tape) = (old_work.clone(), old_tape.clone());
-        let variant = (self.device, self.fault);
+        let variant = (self.device, self.faults.0);
         let (number, answer) = calls::transaction(variant, image, &mut work, &mut tape, list);
         ledger.feed(list, number == 0);
         if number != 0 {
@@ -302,7 +316,8 @@ impl Test {
         }
         let mut work = vec![0; image.len()];
         let mut tape = vec![0; 2_000];
-        let (number, [bytes, _]) = calls::recover(device, image, &mut work, &mut tape);
+        let variant = (device, self.faults.1);
+        let (number, [bytes, _]) = calls::recover(variant, image, &mut work, &mut tape);
         if number != 0 {
             return Err(format!("recovery refused {number}"));
         }
@@ -316,8 +331,8 @@ impl Test {
     }
 
     /// Before the commit store the recovered store holds what it held, once
-    /// that store is flushed what the ledger then holds, and between one of the
-    /// two.
+    /// that store is flushed and past a barrier what the ledger then holds, and
+    /// between one of the two.
     pub fn judge(&mut self, image: &[u8], ledger: &Ledger, phase: Phase) -> Result<(), String> {
         let table: Option<Table> = table(image);
         let last = ledger.count();
@@ -328,7 +343,9 @@ impl Test {
             (Phase::BeforeCommit, true, false) => "before the commit, old",
             (Phase::CommitPending, true, false) => "commit pending, old",
             (Phase::CommitPending, false, true) => "commit pending, new",
+            (Phase::CommitFlushed, true, false) => "commit flushed, old",
             (Phase::CommitFlushed, false, true) => "commit flushed, new",
+            (Phase::CommitDurable, false, true) => "commit durable, new",
             _ => return Err(format!("{phase:?}: holds old {old}, holds new {new}")),
         });
         self.count_if_empty(table.as_ref(), "empty value, recovered");
@@ -352,13 +369,20 @@ fn whole_tape(tape: &Cuttable, work: &[u8], flushes: usize, ledger: &Ledger) -> 
     Ok(())
 }
 
-/// The faulty variant must be caught on these devices.
-pub fn caught(fault: Fault, devices: &[Device], test_all: fn(&mut Test) -> Result<(), String>) {
+/// What breaks a promise, and after how many cuts: the broken variant must be
+/// caught on these devices.
+pub fn caught(
+    faults: Faults,
+    devices: &[Device],
+    test_all: fn(&mut Test) -> Result<(), String>,
+) -> Vec<String> {
+    let mut broken = Vec::new();
     for &device in devices {
-        let mut test = Test::new(device, fault);
+        let mut test = Test::new(device, faults);
         let answer = test_all(&mut test);
         let cuts = test.tally.cuts;
-        println!("{fault:?}, {device:?}: {answer:?} after {cuts} cuts");
-        assert!(answer.is_err(), "{fault:?} was not caught");
+        println!("{faults:?}, {device:?}: {answer:?} after {cuts} cuts");
+        broken.push(answer.expect_err("it was not caught"));
     }
+    broken
 }

@@ -5,14 +5,17 @@ use cases::random::Random;
 use reference::device::{decode, Command, Device};
 use reference::edits::{Edit, Kind};
 
-/// A command as (kind, place).
+/// A command as (kind, place); a barrier's place is 0.
 pub type Outline = Vec<(u8, usize)>;
+
+pub const BARRIER: (u8, usize) = (4, 0);
 
 pub fn outline(tape: &[u8], image: &[u8]) -> Outline {
     let short = |command: &Command| match command {
         Command::WordStore { word, .. } => (1, *word),
         Command::LineStore { line, .. } => (2, *line),
         Command::Flush { line } => (3, *line),
+        Command::Barrier => BARRIER,
     };
     decode(tape, image.len())
         .unwrap()
@@ -26,9 +29,10 @@ pub fn words(from: usize, to: usize) -> Outline {
     (from..=to).map(|word| (1, word)).collect()
 }
 
-/// Flushes from one line to another, in rising order.
+/// Flushes from one line to another, in rising order, and their barrier.
 pub fn flushes(from: usize, to: usize) -> Outline {
-    (from..=to).map(|line| (3, line)).collect()
+    let lines = (from..=to).map(|line| (3, line));
+    lines.chain([BARRIER]).collect()
 }
 
 pub fn edit(kind: Kind, key: u64, length: usize) -> Vec<u8> {

@@ -1,7 +1,8 @@
 //! Transaction and recovery by the reference and by the proved library, on
 //! either device: the answer and every buffer are the same. Those without line
-//! stores are also held to the others, as document 02 (d) says. A tape of the
-//! size that is said to suffice is never too short.
+//! stores are also held to the others, as document 02 (d) says, and all tapes to
+//! what (h) says of barriers. A tape of the size that is said to suffice is never
+//! too short.
 
 // Each test uses some of these.
 #![allow(dead_code)]
@@ -9,7 +10,7 @@
 pub mod by_hand;
 
 use cases::random::Random;
-use reference::device::{decode, Command, Device};
+use reference::device::{decode, Command, Device, Pending};
 use reference::numbers::{of_recovery, of_transaction, work_holds_image};
 use reference::recovery::{recover, recover_words};
 use reference::tape::count_flushes;
@@ -43,17 +44,18 @@ impl Call {
 
 /// QUOTE_TAPE_SIZE of the C header: a tape of so many bytes is never too short for
 /// a transaction on either device. 1,600 a page: for each of its 16 lines eight
-/// word stores of 12 and a flush of 4.
+/// word stores of 12 and a flush of 4. Page 0's share holds the commit, and five
+/// barriers of 4.
 pub fn tape_size(image: &[u8]) -> usize {
     image.len() / 1024 * 1600
 }
 
 /// The same for a recovery: 15 headers of 68 bytes, by words 96, each with a flush
-/// of 4; root word and mark of 12; a flush.
+/// of 4; root word and mark of 12; a flush; two barriers of 4.
 pub fn recovery_tape_size(device: Device) -> usize {
     match device {
-        Device::Lines => 1108,
-        Device::Words => 1528,
+        Device::Lines => 1116,
+        Device::Words => 1536,
     }
 }
 
@@ -124,10 +126,10 @@ pub fn compare_transaction(device: Device, which: usize, call: &Call) -> (u8, Ca
     suffices(tape_size(&call.image), call, number, used);
     if device == Device::Words {
         beside_lines(TRANSACTION, call, number, &after);
-        if let (0, &[_, kind, _, bytes, flushes]) = (number, &after.answer[..]) {
-            assert_ne!(kind, 1, "commit by a header");
-            words_alone(&after, bytes, flushes);
-        }
+    }
+    if let (0, &[_, kind, _, bytes, flushes]) = (number, &after.answer[..]) {
+        assert!(device == Device::Lines || kind != 1, "commit by a header");
+        tape_is_good(device, &after, bytes, flushes);
     }
     (number, after)
 }
@@ -143,9 +145,9 @@ pub fn compare_recovery(device: Device, which: usize, call: &Call) -> (u8, Call)
     suffices(recovery_tape_size(device), call, number, used);
     if device == Device::Words {
         beside_lines(RECOVERY, call, number, &after);
-        if let (0, &[bytes, flushes]) = (number, &after.answer[..]) {
-            words_alone(&after, bytes, flushes);
-        }
+    }
+    if let (0, &[bytes, flushes]) = (number, &after.answer[..]) {
+        tape_is_good(device, &after, bytes, flushes);
     }
     (number, after)
 }
@@ -200,11 +202,27 @@ fn beside_lines(ways: Ways, call: &Call, number: u8, after: &Call) {
     assert!(but_log(&after.work) == but_log(&lines.work), "work");
 }
 
-/// "A separate transaction call and recovery call use no kind 2 command"; "the
-/// number of flushes in the answer is the number of flush commands on the tape".
-fn words_alone(after: &Call, bytes: u64, flushes: u64) {
+/// "The number of flushes in the answer is the number of flush commands on the
+/// tape", barriers stand where they should, and all stores are durable at the end;
+/// without line stores, "use no kind 2 command".
+fn tape_is_good(device: Device, after: &Call, bytes: u64, flushes: u64) {
     let commands = decode(&after.tape[..bytes as usize], after.image.len()).unwrap();
     let line_store = |command: &Command| matches!(command, Command::LineStore { .. });
-    assert!(!commands.iter().any(line_store), "a line store");
+    let any = commands.iter().any(line_store);
+    assert!(device == Device::Lines || !any, "a line store");
     assert_eq!(count_flushes(&commands) as u64, flushes, "flushes");
+    assert!(barriers_follow_flushes(&commands), "barriers");
+    assert!(Pending::after(&commands).stores.is_empty(), "durable");
+}
+
+/// Document 02 (h): "Each unbroken group of flushes on every tape is followed by
+/// one barrier", and no barrier stands elsewhere.
+fn barriers_follow_flushes(commands: &[Command]) -> bool {
+    let is_flush = |command: &Command| matches!(command, Command::Flush { .. });
+    let good = |(i, command): (usize, &Command)| match commands.get(i + 1) {
+        Some(Command::Barrier) => is_flush(command),
+        Some(next) => is_flush(next) || !is_flush(command),
+        None => !is_flush(command),
+    };
+    commands.first() != Some(&Command::Barrier) && commands.iter().enumerate().all(good)
 }

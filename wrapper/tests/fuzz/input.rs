@@ -125,7 +125,7 @@ fn any_tape(random: &mut Random) -> Vec<u8> {
     };
     let mut tape = random.bytes(length);
     if random.one_in(2) {
-        tape.iter_mut().for_each(|byte| *byte %= 4);
+        tape.iter_mut().for_each(|byte| *byte %= 5);
     }
     tape
 }

@@ -224,7 +224,7 @@ fn part(number: u8, look: &Buffers) -> Option<Option<&[u8]>> {
 }
 
 /// "On acceptance, the image after all the tape's stores"; "tape bytes past
-/// those used stay"; the flushes are those on the tape.
+/// those used stay"; the flushes are those on the tape, and have their barriers.
 fn tape_is_good(buffers: &Buffers, bytes: usize, flushes: u64) {
     let (image, tape) = (buffers.image.before(), buffers.tape.after());
     assert!(tape[bytes..] == buffers.tape.before()[bytes..]);
@@ -234,16 +234,34 @@ fn tape_is_good(buffers: &Buffers, bytes: usize, flushes: u64) {
     assert!(work == buffers.work.after());
     assert_eq!(calls::check(&work), Ok(()));
     assert_eq!(count(3, &tape[..bytes]), flushes);
+    assert!(barriers_follow_flushes(&kinds(&tape[..bytes])));
+}
+
+/// The kinds of the commands on a tape.
+fn kinds(mut tape: &[u8]) -> Vec<u8> {
+    let mut kinds = Vec::new();
+    while let Some(kind) = tape.first() {
+        kinds.push(*kind);
+        tape = &tape[[0, 12, 68, 4, 4][*kind as usize]..];
+    }
+    kinds
 }
 
 /// How many commands of this kind are on the tape.
-fn count(wanted: u8, mut tape: &[u8]) -> u64 {
-    let mut times = 0;
-    while let Some(kind) = tape.first() {
-        times += u64::from(*kind == wanted);
-        tape = &tape[[0, 12, 68, 4][*kind as usize]..];
-    }
-    times
+fn count(wanted: u8, tape: &[u8]) -> u64 {
+    let kinds = kinds(tape);
+    kinds.iter().filter(|kind| **kind == wanted).count() as u64
+}
+
+/// Document 02 (h): "Each unbroken group of flushes on every tape is followed by
+/// one barrier", and no barrier stands elsewhere.
+fn barriers_follow_flushes(kinds: &[u8]) -> bool {
+    let next = kinds.iter().skip(1).chain([&0]);
+    let good = |(kind, next): (&u8, &u8)| match kind {
+        3 => [3, 4].contains(next),
+        _ => *next != 4,
+    };
+    kinds.first() != Some(&4) && kinds.iter().zip(next).all(good)
 }
 
 /// The tape, mostly; or cut short, or with a bit turned.

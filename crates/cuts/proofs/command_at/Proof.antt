@@ -2,7 +2,7 @@
 -- Assumes nothing.
 use borrow.Author.Needs.{needs}
 use native.Mathlib.Omega.{arith}
-use Rattle.cuts.proofs.Commands.{describes-word, describes-line, describes-flush}
+use Rattle.cuts.proofs.Commands.{describes-word, describes-line, describes-flush, describes-barrier}
 use Rattle.cuts.proofs.command_at.Statement.{statement}
 use Rattle.cuts.proofs.command_at.Tie as tie
 
@@ -22,9 +22,12 @@ returns-2 : tie.Need-returns-2
 returns-2 c n is = describes-line n (c .before .before .before .before .before .args .at) (c .before .before .before .before .before .args .tape .now) (omega arith) is _ (c .before .before .number-at .ensures .0) (c .if2 .taken)
 
 returns-3 : tie.Need-returns-3
-returns-3 c n is = describes-flush n (c .before .before .before .before .before .args .at) (c .before .before .before .before .before .args .tape .now) (omega arith) is _ (c .before .before .number-at .ensures .0) (c .before .if1 .left) (c .if2 .left)
+returns-3 c n is = describes-flush n (c .before .before .before .before .before .before .args .at) (c .before .before .before .before .before .before .args .tape .now) (omega arith) is _ (c .before .before .before .number-at .ensures .0) (c .before .before .if1 .left) (c .before .if2 .left) (c .if3 .taken)
+
+returns-4 : tie.Need-returns-4
+returns-4 c n is = describes-barrier n (c .before .before .before .before .before .before .args .at) (c .before .before .before .before .before .before .args .tape .now) (omega arith) is _ (c .before .before .before .number-at .ensures .0) (c .before .before .if1 .left) (c .before .if2 .left) (c .if3 .left)
 
 pub command-at-spec : {M : Type 1} → statement M
 command-at-spec =
     tie.close
-    (tie.spec shared-slice-read-kind add-number-at number-at-requires returns returns-2 returns-3)
+    (tie.spec shared-slice-read-kind add-number-at number-at-requires returns returns-2 returns-3 returns-4)

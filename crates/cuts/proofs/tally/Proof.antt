@@ -33,11 +33,11 @@ add-factor c = search needs
 div-others : tie.Need-div-others
 div-others c = search needs
 
-add-pending : tie.Need-add-pending
-add-pending c = search needs
+add-counts : tie.Need-add-counts
+add-counts c = search needs
 
-slice-write-pending : tie.Need-slice-write-pending
-slice-write-pending c = search needs
+slice-write-counts : tie.Need-slice-write-counts
+slice-write-counts c = search needs
 
 add-result : tie.Need-add-result
 add-result c = search needs
@@ -52,13 +52,13 @@ returns : tie.Need-returns
 returns c =
     let s = c .before .before .before .before in
     let a = s .args in
-    let k = getD (a .pending .now) (a .line) 0 in
-    let q = others (a .pending .now) (a .line) (a .product) (c .before .wide .result) (s .pre .0 .0) (s .pre .1 .0) (c .before .wide .ensures .0) in
+    let k = getD (a .counts .now) (a .line) 0 in
+    let q = others (a .counts .now) (a .line) (a .product) (c .before .wide .result) (s .pre .0 .0) (s .pre .1 .0) (c .before .wide .ensures .0) in
     let more : suc (k + 1) ≡ c .before .wide .result + 1 + 1 = omega arith in
-    (ap₂ (λ (x y : ℕ). x * y) q (sym more) ∙ mul-comm (ways (set (a .pending .now) (a .line) 0)) (suc (k + 1)) ∙ sym (ways-set (a .pending .now) (a .line) (k + 1) (s .pre .0 .0)), rw (c .if1 .taken))
+    (ap₂ (λ (x y : ℕ). x * y) q (sym more) ∙ mul-comm (ways (set (a .counts .now) (a .line) 0)) (suc (k + 1)) ∙ sym (ways-set (a .counts .now) (a .line) (k + 1) (s .pre .0 .0)), rw (c .if1 .taken))
 
-slice-write-pending-2 : tie.Need-slice-write-pending-2
-slice-write-pending-2 c = search needs
+slice-write-counts-2 : tie.Need-slice-write-counts-2
+slice-write-counts-2 c = search needs
 
 same-length-2 : tie.Need-same-length-2
 same-length-2 c = search needs
@@ -67,7 +67,7 @@ returns-2 : tie.Need-returns-2
 returns-2 c =
     let s = c .before .before .before .before in
     let a = s .args in
-    (others (a .pending .now) (a .line) (a .product) (c .before .wide .result) (s .pre .0 .0) (s .pre .1 .0) (c .before .wide .ensures .0), rw (c .if1 .left))
+    (others (a .counts .now) (a .line) (a .product) (c .before .wide .result) (s .pre .0 .0) (s .pre .1 .0) (c .before .wide .ensures .0), rw (c .if1 .left))
 
 pub tally-spec : {M : Type 1} → statement M
 tally-spec =
@@ -77,12 +77,12 @@ tally-spec =
     wide-requires
     add-factor
     div-others
-    add-pending
-    slice-write-pending
+    add-counts
+    slice-write-counts
     add-result
     mul-result
     same-length
     returns
-    slice-write-pending-2
+    slice-write-counts-2
     same-length-2
     returns-2)

@@ -5,10 +5,10 @@ use mathlib.Core.Path.{_≡_, refl, sym, ap, _∙_}
 use mathlib.Core.Bool.{true}
 use native.Mathlib.Omega.{arith}
 use lib.ListN.{length, drop}
-use Rattle.device.specs.Tape.{store, flush, isCommand, decode, wellFormed}
+use Rattle.device.specs.Tape.{isCommand, decode, wellFormed}
 use Rattle.device.specs.Cut.{after}
-use Rattle.device.proofs.Decode.{StoreAt, FlushAt, good-command, word-at, line-at, flush-at, head-at, decode-end, store-good, flush-good}
-use Rattle.device.proofs.Turns.{play-store, play-flush}
+use Rattle.device.proofs.Decode.{StoreAt, QuietAt, good-command, word-at, line-at, quiet-at, head-at, decode-end, store-good, quiet-good}
+use Rattle.device.proofs.Turns.{play-store, play-quiet}
 use Rattle.device.proofs.play.Statement.{statement}
 use Rattle.device.proofs.play.Tie as tie
 
@@ -36,15 +36,15 @@ add-number-at c = let k = head-at _ _ _ (c .before .loop-test .taken) (here (c .
 number-at-requires : tie.Need-number-at-requires Inv-loop μ-loop
 number-at-requires c κs = let k = head-at _ _ _ (c .before .loop-test .taken) (here (c .before)) in omega arith
 
--- the word store, line store or flush that was read
+-- the word store, the line store, or what is no store, that was read
 word : (c : tie.Then1 Inv-loop μ-loop) → StoreAt (length (c .before .before .before .before .before .before .before .args .work .now)) (c .before .before .before .before .before .before .before .args .tape .now) (c .before .before .before .before .loop .at) (8 * c .before .number-at .result) 8
 word c = word-at _ _ _ (c .before .before .before .loop-test .taken) (here (c .before .before .before)) _ (c .before .number-at .ensures .0) (c .if1 .taken)
 
 line : (c : tie.Then2 Inv-loop μ-loop) → StoreAt (length (c .before .before .before .before .before .before .before .before .args .work .now)) (c .before .before .before .before .before .before .before .before .args .tape .now) (c .before .before .before .before .before .loop .at) (64 * c .before .before .number-at .result) 64
 line c = line-at _ _ _ (c .before .before .before .before .loop-test .taken) (here (c .before .before .before .before)) _ (c .before .before .number-at .ensures .0) (c .if2 .taken)
 
-flushed-line : (c : tie.Else2 Inv-loop μ-loop) → FlushAt (length (c .before .before .before .before .before .before .before .before .args .work .now)) (c .before .before .before .before .before .before .before .before .args .tape .now) (c .before .before .before .before .before .loop .at) (c .before .before .number-at .result)
-flushed-line c = flush-at _ _ _ (c .before .before .before .before .loop-test .taken) (here (c .before .before .before .before)) _ (c .before .before .number-at .ensures .0) (c .before .if1 .left) (c .if2 .left)
+quiet : (c : tie.Else2 Inv-loop μ-loop) → QuietAt (length (c .before .before .before .before .before .before .before .before .args .work .now)) (c .before .before .before .before .before .before .before .before .args .tape .now) (c .before .before .before .before .before .loop .at) (c .before .before .number-at .result)
+quiet c = quiet-at _ _ _ (c .before .before .before .before .loop-test .taken) (here (c .before .before .before .before)) _ (c .before .before .number-at .ensures .0) (c .before .if1 .left) (c .if2 .left)
 
 mul-copy-word : tie.Need-mul-copy-word Inv-loop μ-loop
 mul-copy-word c = let k = word (c .before) in omega arith
@@ -89,16 +89,16 @@ loop-again-2 c =
     (k .inTape, omega (arith, c .before .before .copy-line .kept .0), store-good _ _ _ _ _ k (l .inv .2), play-store _ _ _ _ _ (l .work) _ k (l .inv .1) (c .before .before .copy-line .ensures) ∙ l .inv .3)
 
 add-at-3 : tie.Need-add-at-3 Inv-loop μ-loop
-add-at-3 c = let k = flushed-line c in omega arith
+add-at-3 c = let k = quiet c in omega arith
 
 loop-less-3 : tie.Need-loop-less-3 Inv-loop μ-loop
-loop-less-3 c = let k = flushed-line c in omega arith
+loop-less-3 c = let k = quiet c in omega arith
 
 loop-again-3 : tie.Need-loop-again-3 Inv-loop μ-loop
 loop-again-3 c =
-    let k = flushed-line c in
+    let k = quiet c in
     let l = c .before .before .before .before .before .loop in
-    (k .inTape, l .inv .1, flush-good _ _ _ _ k (l .inv .2), play-flush _ _ _ _ (l .work) k ∙ l .inv .3)
+    (k .inTape, l .inv .1, quiet-good _ _ _ _ k (l .inv .2), play-quiet _ _ _ _ (l .work) k ∙ l .inv .3)
 
 same-length : tie.Need-same-length Inv-loop μ-loop
 same-length c = c .before .loop .inv .1

@@ -5,11 +5,12 @@ use mathlib.Core.Path.{_≡_, refl, sym, ap, _∙_}
 use mathlib.Core.Bool.{true}
 use native.Mathlib.Omega.{arith}
 use lib.ListN.{length, getD, take, drop}
-use Rattle.device.specs.Tape.{store, flush, isCommand, decode, wellFormed}
+use Rattle.device.specs.Tape.{isCommand, decode, wellFormed}
 use Rattle.device.specs.Cut.{after, kept, cutImage}
-use Rattle.device.proofs.Decode.{StoreAt, FlushAt, more-at, good-command, word-at, line-at, flush-at, head-at, store-good, flush-good}
-use Rattle.device.proofs.Counts.{Noted, noted-start}
-use Rattle.device.proofs.Turns.{replay-store, replay-flush, noted-past-store, noted-past-flush}
+use Rattle.device.specs.Counts.{flushEnd}
+use Rattle.device.proofs.Decode.{StoreAt, QuietAt, more-at, good-command, word-at, line-at, quiet-at, head-at, store-good, quiet-good}
+use Rattle.device.proofs.Counts.{finished, finished-first, Noted, noted-start}
+use Rattle.device.proofs.Turns.{replay-store, replay-quiet, noted-past-store, noted-past-quiet}
 use Rattle.device.proofs.replay.Statement.{statement}
 use Rattle.device.proofs.replay.Tie as tie
 
@@ -18,7 +19,7 @@ Inv-loop work₀ left₀ last tape c at₀ todo₀ work left at todo =
     (at ≤ length tape) × (length work ≡ length work₀) × (length left ≡ length left₀)
     × (wellFormed (decode (length work₀) (drop at tape)) ≡ true)
     × (todo ≤ length (decode (length work₀) (drop at tape)))
-    × ((l : ℕ) → Noted last at (take todo (decode (length work₀) (drop at tape))) l)
+    × ((l : ℕ) → Noted last at (finished (take todo (decode (length work₀) (drop at tape)))) l)
     × (after work (kept (λ l. getD left l 0) (take todo (decode (length work₀) (drop at tape)))) ≡ cutImage work₀ (λ l. getD left₀ l 0) c (decode (length work₀) tape))
 
 abbrev μ-loop : tie.MeasureT-loop
@@ -29,7 +30,8 @@ unfolding cutImage
 loop-holds c =
     let s = c .before .before .before .before in
     let a = s .args in
-    (omega arith, refl, refl, s .pre .1 .0 .0, s .pre .1 .0 .1, λ l. noted-start (a .last .now) (take (a .c) (decode (length (a .work .now)) (a .tape .now))) l (s .pre .1 .1 l), refl)
+    let cs = decode (length (a .work .now)) (a .tape .now) in
+    (omega arith, refl, refl, s .pre .1 .0 .0, s .pre .1 .0 .1, λ l. noted-start (a .last .now) (finished (take (a .c) cs)) l (s .pre .1 .1 l ∙ ap (flushEnd l 0) (sym (finished-first (a .c) cs))), refl)
 
 -- bytes are left where commands are
 more : (c : tie.In-loop Inv-loop μ-loop) → c .before .loop .at < length (c .before .before .before .before .before .before .args .tape .now)
@@ -50,15 +52,15 @@ add-number-at c = let k = head-at _ _ _ (more (c .before)) (here (c .before)) in
 number-at-requires : tie.Need-number-at-requires Inv-loop μ-loop
 number-at-requires c κs = let k = head-at _ _ _ (more (c .before)) (here (c .before)) in omega arith
 
--- the word store, line store or flush that was read
+-- the word store, the line store, or what is no store, that was read
 word : (c : tie.Then1 Inv-loop μ-loop) → StoreAt (length (c .before .before .before .before .before .before .before .before .before .args .work .now)) (c .before .before .before .before .before .before .before .before .before .args .tape .now) (c .before .before .before .before .loop .at) (8 * c .before .number-at .result) 8
 word c = word-at _ _ _ (more (c .before .before .before)) (here (c .before .before .before)) _ (c .before .number-at .ensures .0) (c .if1 .taken)
 
 line : (c : tie.Then2 Inv-loop μ-loop) → StoreAt (length (c .before .before .before .before .before .before .before .before .before .before .args .work .now)) (c .before .before .before .before .before .before .before .before .before .before .args .tape .now) (c .before .before .before .before .before .loop .at) (64 * c .before .before .number-at .result) 64
 line c = line-at _ _ _ (more (c .before .before .before .before)) (here (c .before .before .before .before)) _ (c .before .before .number-at .ensures .0) (c .if2 .taken)
 
-flushed-line : (c : tie.Else2 Inv-loop μ-loop) → FlushAt (length (c .before .before .before .before .before .before .before .before .before .before .args .work .now)) (c .before .before .before .before .before .before .before .before .before .before .args .tape .now) (c .before .before .before .before .before .loop .at) (c .before .before .number-at .result)
-flushed-line c = flush-at _ _ _ (more (c .before .before .before .before)) (here (c .before .before .before .before)) _ (c .before .before .number-at .ensures .0) (c .before .if1 .left) (c .if2 .left)
+quiet : (c : tie.Else2 Inv-loop μ-loop) → QuietAt (length (c .before .before .before .before .before .before .before .before .before .before .args .work .now)) (c .before .before .before .before .before .before .before .before .before .before .args .tape .now) (c .before .before .before .before .before .loop .at) (c .before .before .number-at .result)
+quiet c = quiet-at _ _ _ (more (c .before .before .before .before)) (here (c .before .before .before .before)) _ (c .before .before .number-at .ensures .0) (c .before .if1 .left) (c .if2 .left)
 
 keep-word-requires : tie.Need-keep-word-requires Inv-loop μ-loop
 keep-word-requires c κs = let k = word (c .before .before) in (omega arith, k .inTape, omega arith, omega arith)
@@ -117,7 +119,7 @@ loop-again-2 c =
     )
 
 add-at-3 : tie.Need-add-at-3 Inv-loop μ-loop
-add-at-3 c = let k = flushed-line c in omega arith
+add-at-3 c = let k = quiet c in omega arith
 
 sub-todo-3 : tie.Need-sub-todo-3 Inv-loop μ-loop
 sub-todo-3 c = omega arith
@@ -129,15 +131,15 @@ loop-again-3 : tie.Need-loop-again-3 Inv-loop μ-loop
 loop-again-3 c =
     let s = c .before .before .before .before .before .before .before .before .before .before in
     let loop-test = c .before .before .before .before .loop-test in
-    let k = flushed-line c in
+    let k = quiet c in
     let l = c .before .before .before .before .before .loop in (
       k .inTape,
       l .inv .1,
       l .inv .2,
-      flush-good _ _ _ _ k (l .inv .3),
+      quiet-good _ _ _ _ k (l .inv .3),
       omega (arith, ap length (k .next)),
-      noted-past-flush (length (s .args .work .now)) (s .args .tape .now) (l .at) (l .todo) (loop-test .taken) (s .args .last .now) (l .inv .5) _ k,
-      replay-flush (length (s .args .work .now)) (s .args .tape .now) (l .at) (l .todo) (loop-test .taken) (s .args .last .now) (l .inv .5) _ k (l .work) (l .left) ∙ l .inv .6,
+      noted-past-quiet (length (s .args .work .now)) (s .args .tape .now) (l .at) (l .todo) (loop-test .taken) (s .args .last .now) (l .inv .5) _ k,
+      replay-quiet (length (s .args .work .now)) (s .args .tape .now) (l .at) (l .todo) (loop-test .taken) (s .args .last .now) (l .inv .5) _ k (l .work) (l .left) ∙ l .inv .6,
     )
 
 same-length : tie.Need-same-length Inv-loop μ-loop

@@ -6,6 +6,7 @@ use native.Mathlib.Omega.{arith}
 use native.Mathlib.Nat.{add-zero}
 use lib.ListN.{length, drop, length-drop}
 use lib.Seq.{getD-drop}
+use borrow.Author.Tests.{not-true, not-false}
 use Rattle.codec.specs.Lists.{part}
 use Rattle.codec.specs.Numbers.{number}
 use Rattle.device.specs.Tape.{placeOf}
@@ -54,14 +55,14 @@ returns-2 c =
     let r = read (c .before .before) in
     (sym (extent-cut (a .n) _ (r .0) _ _ (r .1) (r .2) (omega (arith, length-drop (a .at) (a .tape .now), c .before .size-of .ensures .0))), omega arith)
 
-end-of-requires : tie.Need-end-of-requires
-end-of-requires c κs = search needs
+is-place-requires : tie.Need-is-place-requires
+is-place-requires c κs = search needs
 
 returns-3 : tie.Need-returns-3
 returns-3 c =
     let a = c .before .before .before .before .before .before .before .before .args in
     let r = read (c .before .before .before .before) in
-    (sym (extent-out (a .n) _ (r .0) _ _ (r .1) (r .2) (omega (arith, c .before .end-of .ensures))), omega arith)
+    (sym (extent-out (a .n) _ (r .0) _ _ (r .1) (r .2) (sym (c .before .is-place .ensures) ∙ not-true _ (c .if3 .taken))), omega arith)
 
 returns-4 : tie.Need-returns-4
 returns-4 c =
@@ -69,7 +70,7 @@ returns-4 c =
     let a = c .before .before .before .before .before .before .before .before .args in
     let r = read (c .before .before .before .before) in
     let byte = rw (add-zero (a .at)) at (getD-drop (a .at) (a .tape .now) 0 0) in
-    (size-of .ensures .0 ∙ sym (extent-size (a .n) _ (r .0) _ _ (r .1) (r .2) (omega (arith, byte, c .before .before .before .before .before .before .before .shared-slice-known .given (a .at))) (omega (arith, length-drop (a .at) (a .tape .now), size-of .ensures .0)) (omega (arith, c .before .end-of .ensures))), omega (arith, length-drop (a .at) (a .tape .now)))
+    (size-of .ensures .0 ∙ sym (extent-size (a .n) _ (r .0) _ _ (r .1) (r .2) (omega (arith, byte, c .before .before .before .before .before .before .before .shared-slice-known .given (a .at))) (omega (arith, length-drop (a .at) (a .tape .now), size-of .ensures .0)) (sym (c .before .is-place .ensures) ∙ not-false _ (c .if3 .left))), omega (arith, length-drop (a .at) (a .tape .now)))
 
 pub size-at-spec : {M : Type 1} → statement M
 size-at-spec =
@@ -82,6 +83,6 @@ size-at-spec =
     number-at-requires-2
     size-of-requires
     returns-2
-    end-of-requires
+    is-place-requires
     returns-3
     returns-4)

@@ -20,7 +20,13 @@ returns-3 c = (rw (c .match .keys3), omega arith)
 
 returns-4 : tie.Need-returns-4
 unfolding sizeOf
-returns-4 c = (rw (ne-eqb _ 1 (c .match .rest .0 .0 .1), ne-eqb _ 2 (c .match .rest .0 .1), ne-eqb _ 3 (c .match .rest .1)), omega arith)
+returns-4 c = (rw (c .match .keys4), omega arith)
+
+returns-5 : tie.Need-returns-5
+unfolding sizeOf
+returns-5 c =
+    let r = c .match .rest in
+    (rw (ne-eqb _ 1 (r .0 .0 .0 .1), ne-eqb _ 2 (r .0 .0 .1), ne-eqb _ 3 (r .0 .1), ne-eqb _ 4 (r .1)), omega arith)
 
 pub size-of-spec : {M : Type 1} → statement M
-size-of-spec = tie.close (tie.spec returns returns-2 returns-3 returns-4)
+size-of-spec = tie.close (tie.spec returns returns-2 returns-3 returns-4 returns-5)

@@ -11,7 +11,8 @@ use Rattle.device.specs.Tape.{tapeBytes}
 use Rattle.journal.specs.Tape.{choose}
 use Rattle.tape_write.specs.Words.{WordIn, linesPast, stageTape}
 use Rattle.tape_write.specs.Lines.{PageIn}
-use Rattle.tape_write.specs.Sizes.{endFlushes}
+use Rattle.tape_write.specs.Sizes.{groupBytes, endFlushes}
+use Rattle.tape_write.proofs.Encoding.{group-few}
 use Rattle.tape_write.proofs.StageTape.{words-fit}
 use Rattle.tape_write.proofs.Choosing.{end-few, leaves-as}
 use Rattle.tape_write.proofs.Committing.{words-there, pages-there, counts-few, words-are, pages-few, pages-are, bytes-are, says-full, says-short, says-done}
@@ -44,17 +45,17 @@ mul-stage c =
     let find-changes = c .before .before .before .before .before .find-changes in
     omega (arith, (counts-few (s .args .way) (s .args .image .now) (s .args .work .now) (s .pre .0 .images) (find-changes .result) (find-changes .ensures .0)) .0)
 
-mul-stage-2 : tie.Need-mul-stage-2
-mul-stage-2 c =
-    let s = c .before .before .before .before .before .before .before .before .before .before .before .before .before .before .before .before in
-    let find-changes = c .before .before .before .before .before .before .find-changes in
+group-bytes-requires : tie.Need-group-bytes-requires
+group-bytes-requires c κs =
+    let s = c .before .before .before .before .before .before .before .before .before .before .before .before .before .before .before in
+    let find-changes = c .before .before .before .before .before .find-changes in
     omega (arith, (counts-few (s .args .way) (s .args .image .now) (s .args .work .now) (s .pre .0 .images) (find-changes .result) (find-changes .ensures .0)) .1)
 
 add-stage : tie.Need-add-stage
 add-stage c =
     let s = c .before .before .before .before .before .before .before .before .before .before .before .before .before .before .before .before in
     let find-changes = c .before .before .before .before .before .before .find-changes in
-    omega (arith, (counts-few (s .args .way) (s .args .image .now) (s .args .work .now) (s .pre .0 .images) (find-changes .result) (find-changes .ensures .0)) .0, (counts-few (s .args .way) (s .args .image .now) (s .args .work .now) (s .pre .0 .images) (find-changes .result) (find-changes .ensures .0)) .1)
+    omega (arith, (counts-few (s .args .way) (s .args .image .now) (s .args .work .now) (s .pre .0 .images) (find-changes .result) (find-changes .ensures .0)) .0, (counts-few (s .args .way) (s .args .image .now) (s .args .work .now) (s .pre .0 .images) (find-changes .result) (find-changes .ensures .0)) .1, c .group-bytes .ensures, group-few ((find-changes .result) .lines))
 
 end-bytes-requires : tie.Need-end-bytes-requires
 end-bytes-requires c κs = search needs
@@ -63,7 +64,7 @@ add-bytes : tie.Need-add-bytes
 add-bytes c =
     let s = c .before .before .before .before .before .before .before .before .before .before .before .before .before .before .before .before .before in
     let find-changes = c .before .before .before .before .before .before .before .find-changes in
-    omega (arith, (counts-few (s .args .way) (s .args .image .now) (s .args .work .now) (s .pre .0 .images) (find-changes .result) (find-changes .ensures .0)) .0, (counts-few (s .args .way) (s .args .image .now) (s .args .work .now) (s .pre .0 .images) (find-changes .result) (find-changes .ensures .0)) .1, c .end-bytes .ensures, (end-few (s .args .way) ((find-changes .result) .headers) ((find-changes .result) .same) (c .before .before .before .if1 .left)) .0)
+    omega (arith, (counts-few (s .args .way) (s .args .image .now) (s .args .work .now) (s .pre .0 .images) (find-changes .result) (find-changes .ensures .0)) .0, (counts-few (s .args .way) (s .args .image .now) (s .args .work .now) (s .pre .0 .images) (find-changes .result) (find-changes .ensures .0)) .1, c .before .group-bytes .ensures, group-few ((find-changes .result) .lines), c .end-bytes .ensures, (end-few (s .args .way) ((find-changes .result) .headers) ((find-changes .result) .same) (c .before .before .before .if1 .left)) .0)
 
 same-length-3 : tie.Need-same-length-3
 same-length-3 c = search needs
@@ -76,15 +77,16 @@ returns-2 c =
     let s = c .before .before .before .before .before .before .before .before .before .before .before .before .before .before .before .before .before .before in
     let if1 = c .before .before .before .before .if1 in
     let find-changes = c .before .before .before .before .before .before .before .before .find-changes in
-    says-short (s .args .way) (s .args .image .now) (s .args .work .now) (s .args .tape .now) (s .pre .0 .images) (pages-few (s .args .way) (s .args .image .now) (s .args .work .now) (s .pre .0 .images) (find-changes .result) (find-changes .ensures .0) (if1 .left)) _ (bytes-are (s .args .way) (s .args .image .now) (s .args .work .now) (s .pre .0 .images) (find-changes .result) (find-changes .ensures .0) (if1 .left) _ (c .before .end-bytes .ensures)) (c .if2 .taken)
+    says-short (s .args .way) (s .args .image .now) (s .args .work .now) (s .args .tape .now) (s .pre .0 .images) (pages-few (s .args .way) (s .args .image .now) (s .args .work .now) (s .pre .0 .images) (find-changes .result) (find-changes .ensures .0) (if1 .left)) _ (bytes-are (s .args .way) (s .args .image .now) (s .args .work .now) (s .pre .0 .images) (find-changes .result) (find-changes .ensures .0) (if1 .left) _ _ (c .before .before .group-bytes .ensures) (c .before .end-bytes .ensures)) (c .if2 .taken)
 
 emit-stage-requires : tie.Need-emit-stage-requires
 emit-stage-requires c κs =
     let s = c .before .before .before .before .before .before .before .before .before .before .before .before .before .before .before .before .before .before .before .before .before in
     let find-changes = c .before .before .before .before .before .before .before .before .before .before .before .find-changes in (
-      omega (arith, c .before .before .before .if2 .left, ap (λ (x : List ℕ). length (linesPast 0 x)) (words-are (s .args .way) (s .args .image .now) (s .args .work .now) (s .pre .0 .images) (find-changes .result) (find-changes .ensures .0) (s .args .words .now) (find-changes .last .1 .1 .1 .1 .0) (s .pre .1) (find-changes .ensures .1 .0)), find-changes .ensures .0 .lines),
+      omega (arith, c .before .before .before .if2 .left, c .before .before .before .before .before .group-bytes .ensures),
       omega (arith, words-fit (s .args .image .now) (s .args .work .now) (s .pre .0 .images), find-changes .ensures .0 .words, find-changes .kept .1 .1 .1 .1 .0, (s .pre .1)),
       subst (All (WordIn (s .args .work .now))) (sym (words-are (s .args .way) (s .args .image .now) (s .args .work .now) (s .pre .0 .images) (find-changes .result) (find-changes .ensures .0) (s .args .words .now) (find-changes .last .1 .1 .1 .1 .0) (s .pre .1) (find-changes .ensures .1 .0))) (words-there (s .args .way) (s .args .image .now) (s .args .work .now) (s .pre .0 .images)),
+      find-changes .ensures .0 .lines ∙ ap (λ (x : List ℕ). length (linesPast 0 x)) (sym (words-are (s .args .way) (s .args .image .now) (s .args .work .now) (s .pre .0 .images) (find-changes .result) (find-changes .ensures .0) (s .args .words .now) (find-changes .last .1 .1 .1 .1 .0) (s .pre .1) (find-changes .ensures .1 .0))),
     )
 
 slice-aggregate-emit-end : tie.Need-slice-aggregate-emit-end
@@ -123,12 +125,13 @@ same-length-7 c = search needs
 returns-3 : tie.Need-returns-3
 returns-3 c =
     let s = c .before .before .before .before .before .before .before .before .before .before .before .before .before .before .before .before .before .before .before .before .before .before .before .before .before .before .before .before .before .before .before .before .before .before in
+    let group-bytes = c .before .before .before .before .before .before .before .before .before .before .before .before .before .before .before .before .before .before .group-bytes in
     let if1 = c .before .before .before .before .before .before .before .before .before .before .before .before .before .before .before .before .before .before .before .before .if1 in
     let find-changes = c .before .before .before .before .before .before .before .before .before .before .before .before .before .before .before .before .before .before .before .before .before .before .before .before .find-changes in
     let found = find-changes .ensures .0 in
-    says-done (s .args .way) (s .args .image .now) (s .args .work .now) (s .args .tape .now) (s .pre .0 .images) (pages-few (s .args .way) (s .args .image .now) (s .args .work .now) (s .pre .0 .images) (find-changes .result) (find-changes .ensures .0) (if1 .left)) _ (bytes-are (s .args .way) (s .args .image .now) (s .args .work .now) (s .pre .0 .images) (find-changes .result) (find-changes .ensures .0) (if1 .left) _ (c .before .before .before .before .before .before .before .before .before .before .before .before .before .before .before .before .before .end-bytes .ensures)) (c .before .before .before .before .before .before .before .before .before .before .before .before .before .before .before .before .if2 .left) _ _ (12 * (find-changes .result) .words + 4 * (find-changes .result) .lines) _ _ _ _
+    says-done (s .args .way) (s .args .image .now) (s .args .work .now) (s .args .tape .now) (s .pre .0 .images) (pages-few (s .args .way) (s .args .image .now) (s .args .work .now) (s .pre .0 .images) (find-changes .result) (find-changes .ensures .0) (if1 .left)) _ (bytes-are (s .args .way) (s .args .image .now) (s .args .work .now) (s .pre .0 .images) (find-changes .result) (find-changes .ensures .0) (if1 .left) _ _ (group-bytes .ensures) (c .before .before .before .before .before .before .before .before .before .before .before .before .before .before .before .before .before .end-bytes .ensures)) (c .before .before .before .before .before .before .before .before .before .before .before .before .before .before .before .before .if2 .left) _ _ (12 * (find-changes .result) .words + group-bytes .result) _ _ _ _
     (c .before .before .before .before .before .before .before .before .before .before .before .before .emit-stage .ensures ∙ ap (λ (x : List ℕ). sets (s .args .tape .now) 0 (tapeBytes (stageTape (s .args .work .now) x))) (words-are (s .args .way) (s .args .image .now) (s .args .work .now) (s .pre .0 .images) (find-changes .result) (find-changes .ensures .0) (s .args .words .now) (find-changes .last .1 .1 .1 .1 .0) (s .pre .1) (find-changes .ensures .1 .0)))
-    (omega (arith, found .words, found .lines))
+    (omega (arith, found .words, group-bytes .ensures, ap groupBytes (found .lines)))
     (leaves-as _ _ _ _ _ _ _ (ap₂ (choose (s .args .way) [] (s .args .work .now)) (sym (found .root)) (sym (pages-are (s .args .way) (s .args .image .now) (s .args .work .now) (s .pre .0 .images) (find-changes .result) (find-changes .ensures .0) (if1 .left) (replicate 64 0) (find-changes .last .1 .1 .1 .1 .1 .0) (length-replicate {A = ℕ} 64 0) (find-changes .ensures .1 .1)))) (c .before .before .before .before .before .before .emit-end .ensures))
     (found .lines) (c .before .end-flushes .ensures ∙ ap₂ (endFlushes (s .args .way)) (found .headers) (found .root))
 
@@ -142,7 +145,7 @@ commit-with-spec =
     same-length-2
     returns
     mul-stage
-    mul-stage-2
+    group-bytes-requires
     add-stage
     end-bytes-requires
     add-bytes

@@ -139,7 +139,7 @@ unsafe fn each_command(image: &[u8], tape: &[u8], mut each: impl FnMut(usize, u3
     }
     let mut count = 0;
     let range = tape.as_ptr_range();
-    let good = judge(range.start, range.end, image.len(), |line, kind| {
+    let good = judge(range.start, range.end, image.len(), |_, line, kind| {
         if count < MOST {
             each(line, kind);
         }

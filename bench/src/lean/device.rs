@@ -1,4 +1,5 @@
-//! Run and cut in two passes over the tape: judge it, then make its stores.
+//! Run and cut in two passes over the tape: judge it, in cut with a note of each
+//! line's flushes, then make its stores.
 //!
 //! Why the raw pointers are sound: the first pass judges every command to lie
 //! whole on the tape, at a place inside the image; the second reads only such
@@ -25,7 +26,7 @@ pub fn run(image: &[u8], work: &mut [u8], tape: &[u8]) -> u8 {
     }
     let range = tape.as_ptr_range();
     unsafe {
-        if !judge(range.start, range.end, length, |_, _| {}) {
+        if !judge(range.start, range.end, length, |_, _, _| {}) {
             return 14;
         }
         copy_nonoverlapping(image.as_ptr(), work.as_mut_ptr(), length);
@@ -51,55 +52,47 @@ pub fn cut(image: &[u8], work: &mut [u8], tape: &[u8], c: usize, choices: &[u8])
     unsafe { cut_lines(image, work, tape, c, choices) }
 }
 
-/// A line's stores: all of them so far, those that its last flush covers, and those
-/// that are durable. So many barriers came before that flush; once there are more,
-/// what it covers is durable, which is noted at the next flush, or at the end.
+/// Where a line's last flush stands on the tape, and where the last one stands that
+/// a barrier was seen after.
 #[derive(Clone, Copy)]
-struct Line {
-    all: u32,
-    flushed: u32,
-    durable: u32,
-    barriers: u32,
+struct Flushes {
+    last: *const u8,
+    done: *const u8,
 }
 
-impl Line {
+impl Flushes {
+    /// The last flush that a barrier comes after, where the last barrier is `fence`.
     #[inline(always)]
-    fn durable_after(&self, barriers: u32) -> u32 {
-        if self.barriers < barriers {
-            self.flushed
+    fn done_before(&self, fence: *const u8) -> *const u8 {
+        if self.last < fence {
+            self.last
         } else {
-            self.durable
+            self.done
         }
     }
 
-    /// One command more, which is of this line if it is a store or a flush.
     #[inline(always)]
-    fn after(self, kind: u32, barriers: u32) -> Line {
-        let all = self.all + (kind < FLUSH) as u32;
-        let flushed = Line {
-            all,
-            flushed: all,
-            durable: self.durable_after(barriers),
-            barriers,
-        };
-        if kind == FLUSH {
-            flushed
-        } else {
-            Line { all, ..self }
-        }
+    fn note(&mut self, at: *const u8, fence: *const u8) {
+        self.done = self.done_before(fence);
+        self.last = at;
     }
 }
 
+/// `left` counts of each line the stores that are not durable and still to be kept.
 unsafe fn cut_lines(image: &[u8], work: &mut [u8], tape: &[u8], c: usize, choices: &[u8]) -> u8 {
-    let mut space = MaybeUninit::<[Line; LINES]>::uninit();
-    let lines = space.as_mut_ptr() as *mut Line;
+    let mut space = MaybeUninit::<[Flushes; LINES]>::uninit();
+    let lines = space.as_mut_ptr() as *mut Flushes;
     lines.write_bytes(0, choices.len());
-    let (mut count, mut barriers) = (0, 0);
+    let mut space = MaybeUninit::<[u8; LINES]>::uninit();
+    let left = space.as_mut_ptr() as *mut u8;
+    copy_nonoverlapping(choices.as_ptr(), left, choices.len());
     let range = tape.as_ptr_range();
-    let good = judge(range.start, range.end, image.len(), |line, kind| {
-        if count < c {
-            *lines.add(line) = (*lines.add(line)).after(kind, barriers);
-            barriers += (kind == BARRIER) as u32;
+    let (mut count, mut fence) = (0, range.start);
+    let good = judge(range.start, range.end, image.len(), |at, line, kind| {
+        if kind == FLUSH && count < c {
+            (*lines.add(line)).note(at, fence);
+        } else if kind == BARRIER && count < c {
+            fence = at;
         }
         count += 1;
     });
@@ -109,32 +102,29 @@ unsafe fn cut_lines(image: &[u8], work: &mut [u8], tape: &[u8], c: usize, choice
     if c > count {
         return 15;
     }
-    // From here on `all` counts the stores that are still to be kept.
-    for (line, &choice) in choices.iter().enumerate() {
-        let line = &mut *lines.add(line);
-        line.all = line.durable_after(barriers) + choice as u32;
-    }
     copy_nonoverlapping(image.as_ptr(), work.as_mut_ptr(), image.len());
     let mut at = range.start;
     for _ in 0..c {
         at = step(at, work.as_mut_ptr(), |line| {
-            let left = &mut (*lines.add(line)).all;
-            let wanted = *left != 0;
-            *left = left.saturating_sub(1);
-            wanted
+            if at < (*lines.add(line)).done_before(fence) {
+                return true;
+            }
+            let more = *left.add(line);
+            *left.add(line) = more.saturating_sub(1);
+            more != 0
         });
     }
     0
 }
 
 /// Whether all commands from `at` to `end` are good. Calls `each` with every
-/// command's line and kind; a barrier's line is 0.
+/// command's place on the tape, its line and its kind; a barrier's line is 0.
 #[inline(always)]
 pub(super) unsafe fn judge(
     mut at: *const u8,
     end: *const u8,
     length: usize,
-    mut each: impl FnMut(usize, u32),
+    mut each: impl FnMut(*const u8, usize, u32),
 ) -> bool {
     while at < end {
         let left = end.offset_from(at) as usize;
@@ -156,7 +146,7 @@ pub(super) unsafe fn judge(
         if left < size || place << shift >= length {
             return false;
         }
-        each(place << shift >> 6, kind);
+        each(at, place << shift >> 6, kind);
         at = at.add(size);
     }
     true

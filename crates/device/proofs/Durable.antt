@@ -164,7 +164,7 @@ durable-other l cs o e = durable-append l cs (o ∷ []) ∙ rw e (go (durable l 
 
 -- ---- two stores
 
--- of two stores to one line, the first is durable once the second is: "A line's durable stores are always a first part of its stores"
+-- of two stores to one line, the first is durable once the second is
 pub durable-earlier : (p q : ℕ) (ws : List ℕ) (between rest : List Op) → lineOf p ≡ lineOf q → durable (lineOf q) rest ≡ true → durable (lineOf p) (between ++ (store q ws ∷ rest)) ≡ true
 unfolding durable
 durable-earlier p q ws between rest e d = durable-second (lineOf p) between (store q ws ∷ rest) (ap (λ (l : ℕ). durable l rest) e ∙ d)

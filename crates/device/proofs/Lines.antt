@@ -185,7 +185,7 @@ settled-line l (malformed ∷ cs) = settled-line l cs
 pub keep-line : (l : ℕ) (f : ℕ → ℕ) (cs : List Op) → ofLine l (kept f cs) ≡ take (settled l cs + f l) (ofLine l (stores cs))
 keep-line l f cs = ap (ofLine l) (kept-firsts f cs) ∙ line-firsts l (λ (m : ℕ). settled m cs + f m) cs
 
--- "A line's durable stores are always a first part of its stores": those alone are kept where no choice is left
+-- a line's durable stores are a first part of its stores: they alone are kept where no choice is left
 pub durable-part : (l : ℕ) (cs : List Op) → ofLine l (kept (λ (m : ℕ). 0) cs) ≡ take (settled l cs) (ofLine l (stores cs))
 durable-part l cs = keep-line l (λ (m : ℕ). 0) cs ∙ ap (λ (k : ℕ). take k (ofLine l (stores cs))) (add-zero (settled l cs))
 

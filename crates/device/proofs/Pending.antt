@@ -194,7 +194,7 @@ module _ (l : ℕ) where
   unfolding storesWhere
   unflushed-barrier cs = unflushed-other cs barrier refl ∙ add-zero (unflushed l cs)
 
-  -- "A store between that flush and the barrier is not covered by them": it alone of the line's stores is pending
+  -- a store between a flush of its line and the barrier is not covered by them: it alone of the line's stores is pending
   pub between-pending : (cs : List Op) (p : ℕ) (vs : List ℕ) → lineOf p ≡ l → pending l (((cs ++ (flush l ∷ [])) ++ (store p vs ∷ [])) ++ (barrier ∷ [])) ≡ 1
   between-pending cs p vs e =
       pending-barrier ((cs ++ (flush l ∷ [])) ++ (store p vs ∷ []))

@@ -47,9 +47,9 @@ fn small_tape(image: &[u8], tape: &[u8]) -> Counted
     if !device::is_image_size(n) {
         return Counted::Refused(Refusal::of(Refusal::IMAGE_SIZE));
     }
-    match device::judge(tape, n, 0) {
+    match device::count_commands(tape, n) {
         Scan::Broken => Counted::Refused(Refusal::of(Refusal::BAD_TAPE)),
-        Scan::Commands(count, _) => {
+        Scan::Commands(count) => {
             if 12 < count {
                 return Counted::Refused(Refusal::of(Refusal::LONG_TAPE));
             }

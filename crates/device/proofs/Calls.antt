@@ -12,10 +12,12 @@ use Rattle.codec.specs.Lists.{pick}
 use Rattle.codec.proofs.Tests.{first, second}
 use Rattle.device.specs.Tape.{Op, decode, wellFormed}
 use Rattle.device.specs.Cut.{after, cutImage}
-use Rattle.device.specs.Counts.{upToBarrier, scanned}
+use Rattle.device.specs.Counts.{scanned, Tells, Found}
 use Rattle.device.specs.Calls.{isImageSize, Ran, accepted, refused, unless, runCall, cutTape, cutCall}
 use Rattle.device.specs.declared.Answer.the-variants.{Accepted}
 use Rattle.device.specs.declared.Scan.the-variants.{Commands, Broken}
+use Rattle.device.specs.declared.Judged.{Judged}
+use Rattle.device.specs.declared.Judged.the-variants.{Good, Bad}
 
 module _ (test : Bool) (k : ℕ) (old : List ℕ) (ran : Ran) where
   pub holds : test ≡ true → unless test k old ran ≡ ran
@@ -76,16 +78,26 @@ said call done e = (sym (ap (λ (r : Ran). r .answer) e), sym (ap (λ (r : Ran).
 pub image-size-le : (n : ℕ) → isImageSize n ≡ true → n ≤ 65536
 image-size-le n e = leb-true n 65536 (first (leb n 65536) (eqb (n % 1024) 0) (second (leb 8192 n) (leb n 65536 && eqb (n % 1024) 0) e))
 
-pub scanned-broken : (c : ℕ) (cs : List Op) → scanned c cs ≡ Broken → wellFormed cs ≡ false
-scanned-broken c cs = go (wellFormed cs)
+pub scanned-broken : (cs : List Op) → scanned cs ≡ Broken → wellFormed cs ≡ false
+scanned-broken cs = go (wellFormed cs)
   where
-    go : (b : Bool) → pick b (Commands (length cs) (upToBarrier (take c cs))) Broken ≡ Broken → b ≡ false
+    go : (b : Bool) → pick b (Commands (length cs)) Broken ≡ Broken → b ≡ false
     go true e = let z : _≡_ {A = ℕ} 0 1 = cc in absurd (omega arith)
     go false e = refl
 
-pub scanned-commands : (c : ℕ) (cs : List Op) (k fence : ℕ) → scanned c cs ≡ Commands k fence → (wellFormed cs ≡ true) × (k ≡ length cs) × (fence ≡ upToBarrier (take c cs))
-scanned-commands c cs k fence = go (wellFormed cs)
+pub scanned-commands : (cs : List Op) (k : ℕ) → scanned cs ≡ Commands k → (wellFormed cs ≡ true) × (k ≡ length cs)
+scanned-commands cs k = go (wellFormed cs)
   where
-    go : (b : Bool) → pick b (Commands (length cs) (upToBarrier (take c cs))) Broken ≡ Commands k fence → (b ≡ true) × (k ≡ length cs) × (fence ≡ upToBarrier (take c cs))
-    go true e = (refl, cc, cc)
+    go : (b : Bool) → pick b (Commands (length cs)) Broken ≡ Commands k → (b ≡ true) × (k ≡ length cs)
+    go true e = (refl, cc)
     go false e = let z : _≡_ {A = ℕ} 0 1 = cc in absurd (omega arith)
+
+-- what a cut's first pass found, by its answer
+pub found-bad : (c : ℕ) (cs : List Op) (flushes : List ℕ) (r : Judged) → Found c cs flushes r → r ≡ Bad → wellFormed cs ≡ false
+unfolding Found
+found-bad c cs flushes r f e = rw e at f
+
+pub found-good : (c : ℕ) (cs : List Op) (flushes : List ℕ) (r : Judged) (count fence : ℕ) → Found c cs flushes r → r ≡ Good count fence →
+    (wellFormed cs ≡ true) × (count ≡ length cs) × Tells flushes fence (take c cs)
+unfolding Found
+found-good c cs flushes r count fence f e = rw e at f

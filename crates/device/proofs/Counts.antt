@@ -1,20 +1,20 @@
 -- Each line's last flush before the last barrier: where it ends on the tape tells whether a store is durable.
 -- Assumes nothing.
-use Prim.Native.Nat.{ℕ, zero, suc, _+_, _≤_, _<_}
+use Prim.Native.Nat.{ℕ, zero, suc, _+_, _/_, _≤_, _<_}
 use mathlib.Core.Path.{_≡_, refl, sym, ap, _∙_, fun-ext}
 use mathlib.Core.Bool.{Bool, true, false, _&&_, _||_, true≢false, false≢true}
 use mathlib.Core.List.{List, [], _∷_, _++_}
 use native.Mathlib.Omega.{arith}
 use native.Mathlib.Nat.{add-zero}
-use lib.ListN.{length, getD, set, take, drop, replicate, length-take}
-use lib.Seq.{getD-set-same, getD-set-other, getD-drop, take-take}
-use lib.Dec.{ltb, eqb}
-use borrow.Author.Tests.{lt-ltb, le-ltb, eqb-true, eqb-false, eq-eqb, ne-eqb}
+use lib.ListN.{length, getD, set, drop, replicate, length-set}
+use lib.Seq.{getD-set-same, getD-set-other, getD-drop}
+use lib.Dec.{ltb, leb, eqb}
+use borrow.Author.Tests.{lt-ltb, le-ltb, le-leb, lt-leb, eqb-true, eqb-false, eq-eqb, ne-eqb}
 use Rattle.codec.specs.Lists.{pick, part, splice}
 use Rattle.codec.proofs.Lists.{part-whole}
 use Rattle.device.specs.Tape.{Op, store, flush, barrier, malformed, extent, isBarrier}
 use Rattle.device.specs.Cut.{flushesLine, some, durable}
-use Rattle.device.specs.Counts.{upToBarrier, flushEnd}
+use Rattle.device.specs.Counts.{finished, flushEnd, flushDone, noteFlush, Tells}
 
 -- ---- lists
 
@@ -48,40 +48,14 @@ copied-choices n choices left e =
 
 -- ---- the last barrier
 
--- the commands up to it: those whose flushes are waited for
-abbrev pub finished : List Op → List Op
-finished cs = take (upToBarrier cs) cs
-
--- there is none
-barrier-none : (cs : List Op) → some isBarrier cs ≡ false → upToBarrier cs ≡ 0
-unfolding upToBarrier
-barrier-none [] e = refl
-barrier-none (o ∷ cs) e = rw e
-
 finished-none : (cs : List Op) → some isBarrier cs ≡ false → finished cs ≡ []
-finished-none cs e = ap (λ (k : ℕ). take k cs) (barrier-none cs e)
+unfolding finished
+finished-none [] e = refl
+finished-none (o ∷ cs) e = rw e
 
 finished-some : (o : Op) (cs : List Op) → some isBarrier (o ∷ cs) ≡ true → finished (o ∷ cs) ≡ o ∷ finished cs
-unfolding upToBarrier
-finished-some o cs e = ap (λ (b : Bool). take (pick b (suc (upToBarrier cs)) 0) (o ∷ cs)) e
-
--- it stands among the commands
-up-within : (cs : List Op) → upToBarrier cs ≤ length cs
-unfolding upToBarrier
-up-within [] = omega arith
-up-within (o ∷ cs) = go (some isBarrier (o ∷ cs)) (up-within cs)
-  where
-    go : (b : Bool) → upToBarrier cs ≤ length cs → pick b (suc (upToBarrier cs)) 0 ≤ suc (length cs)
-    go true h = omega arith
-    go false h = omega arith
-
--- so of the first c commands, those up to it are the first of all
-pub finished-first : (c : ℕ) (cs : List Op) → finished (take c cs) ≡ take (upToBarrier (take c cs)) cs
-finished-first c cs = take-take (upToBarrier (take c cs)) c cs (omega (arith, up-within (take c cs), length-take c cs))
-
--- and no more than there are
-pub fence-within : (c : ℕ) (cs : List Op) → upToBarrier (take c cs) ≤ length cs
-fence-within c cs = omega (arith, up-within (take c cs), length-take c cs)
+unfolding finished
+finished-some o cs e = rw e
 
 barrier-flushes : (l : ℕ) (o : Op) → isBarrier o ≡ true → flushesLine l o ≡ false
 barrier-flushes l (store p vs) e = refl
@@ -125,30 +99,6 @@ durable-finished l (o ∷ cs) = go (some isBarrier (o ∷ cs)) refl (durable-fin
     go true e i = step (isBarrier o) (some isBarrier cs) (flushesLine l o) (durable l cs) (barrier-flushes l o) e ∙ ap (λ (d : Bool). flushesLine l o || d) i ∙ sym (ap (some (flushesLine l)) (finished-some o cs e))
     go false e i = durable-none l (o ∷ cs) e ∙ sym (ap (some (flushesLine l)) (finished-none (o ∷ cs) e))
 
--- ---- counting up to it
-
--- the commands up to the last barrier, with `fence` of them among the `count` that are read and with these to come
-abbrev pub fenced : ℕ → ℕ → List Op → ℕ
-fenced fence count cs = pick (some isBarrier cs) (count + upToBarrier cs) fence
-
-pub fenced-start : (cs : List Op) → fenced 0 0 cs ≡ upToBarrier cs
-fenced-start cs = go (some isBarrier cs) refl
-  where
-    go : (b : Bool) → some isBarrier cs ≡ b → pick b (0 + upToBarrier cs) 0 ≡ upToBarrier cs
-    go true e = omega arith
-    go false e = sym (barrier-none cs e)
-
-pub fenced-next : (fence count : ℕ) (o : Op) (cs : List Op) → fenced (pick (isBarrier o) (count + 1) fence) (count + 1) cs ≡ fenced fence count (o ∷ cs)
-unfolding some upToBarrier
-fenced-next fence count o cs = go (isBarrier o) (some isBarrier cs) refl
-  where
-    go : (b s : Bool) → some isBarrier cs ≡ s →
-        pick s (count + 1 + upToBarrier cs) (pick b (count + 1) fence) ≡ pick (b || s) (count + pick (b || s) (suc (upToBarrier cs)) 0) fence
-    go true true e = omega arith
-    go true false e = omega (arith, barrier-none cs e)
-    go false true e = omega arith
-    go false false e = refl
-
 -- ---- the last flush
 
 -- it ends past where the commands start
@@ -179,19 +129,6 @@ end-none l at (flush m ∷ cs) e = go (eqb m l) (some (flushesLine l) cs) e
 end-none l at (barrier ∷ cs) e = end-none l (at + 4) cs e
 end-none l at (malformed ∷ cs) e = end-none l at cs e
 
--- ---- noting it
-
--- line l's last flush, with what is noted of the commands before `at` and with these commands from there on
-abbrev pub ends : List ℕ → ℕ → List Op → ℕ → ℕ
-ends last at cs l = pick (some (flushesLine l) cs) (flushEnd l at cs) (getD last l 0)
-
-pub ends-start : (last : List ℕ) (cs : List Op) (l : ℕ) → getD last l 0 ≡ 0 → ends last 0 cs l ≡ flushEnd l 0 cs
-ends-start last cs l e = go (some (flushesLine l) cs) refl
-  where
-    go : (d : Bool) → some (flushesLine l) cs ≡ d → pick d (flushEnd l 0 cs) (getD last l 0) ≡ flushEnd l 0 cs
-    go true q = refl
-    go false q = e ∙ sym (end-none l 0 cs q)
-
 -- a command as its place and kind say
 abbrev pub On : Op → ℕ → ℕ → Type 0
 On (store p vs) place kind = kind ≤ 2
@@ -199,72 +136,190 @@ On (flush l) place kind = (l ≡ place) × (kind ≡ 3)
 On barrier place kind = kind ≡ 4
 On malformed place kind = ⊥
 
-pub on-some : (o : Op) (place kind : ℕ) → On o place kind → 0 < extent o
-on-some (store p vs) place kind on = omega arith
-on-some (flush l) place kind on = omega arith
-on-some barrier place kind on = omega arith
-on-some malformed place kind on = absurd on
+-- ---- noting it
 
-pub on-barrier : (o : Op) (place kind : ℕ) → On o place kind → isBarrier o ≡ eqb kind 4
-on-barrier (store p vs) place kind on = sym (ne-eqb kind 4 (λ q. omega (arith, on)))
-on-barrier (flush l) place kind on = sym (ne-eqb kind 4 (λ q. omega (arith, on .1)))
-on-barrier barrier place kind on = sym (eq-eqb kind 4 on)
-on-barrier malformed place kind on = absurd on
+-- the flush of line l that is done at the end, with what is noted of the commands before `at` and with these commands from there on: if they have a
+-- barrier, the last flush before it, of theirs or of those before
+abbrev ends : List ℕ → ℕ → ℕ → List Op → ℕ → ℕ
+ends flushes fence at cs l =
+    pick (some (flushesLine l) (finished cs)) (flushEnd l at (finished cs)) (pick (some isBarrier cs) (getD flushes l 0) (flushDone flushes fence l))
 
-pub ends-next : (last : List ℕ) (at : ℕ) (o : Op) (cs : List Op) (place kind : ℕ) → On o place kind → (kind ≡ 3 → place < length last) → (l : ℕ) →
-    ends (pick (eqb kind 3) (set last place (at + 4)) last) (at + extent o) cs l ≡ ends last at (o ∷ cs) l
-unfolding some flushEnd
-ends-next last at (store p vs) cs place kind on h l = rw (ne-eqb kind 3 (λ q. omega (arith, on)))
-ends-next last at (flush m) cs place kind on h l =
-    rw (eq-eqb kind 3 (on .1), on .0) (ap (pick (some (flushesLine l) cs) (flushEnd l (at + 4) cs)) (getD-set last place (at + 4) l (h (on .1))) ∙ go (eqb place l) (some (flushesLine l) cs))
+-- what is noted of the commands before `at`, with cs from there on, comes to what it is to tell of all
+pub record Noting (flushes : List ℕ) (fence at : ℕ) (cs all : List Op) : Type 0 where
+  pub fenced : fence ≤ at
+  pub flushed : (l : ℕ) → l < length flushes / 2 → getD flushes l 0 ≤ at
+  pub comes : (l : ℕ) → l < length flushes / 2 → ends flushes fence at cs l ≡ flushEnd l 0 (finished all)
+
+pub noting-start : (flushes : List ℕ) (cs : List Op) → ((l : ℕ) → getD flushes l 0 ≡ 0) → Noting flushes 0 0 cs cs
+noting-start flushes cs none =
+    record { fenced = omega arith; flushed = λ l h. omega (arith, none l); comes = λ l h. go l (some (flushesLine l) (finished cs)) refl (some isBarrier cs) (leb (getD flushes l 0) 0) }
   where
-    go : (e d : Bool) → pick d (flushEnd l (at + 4) cs) (pick e (at + 4) (getD last l 0)) ≡ pick (e || d) (pick d (flushEnd l (at + 4) cs) (pick e (at + 4) 0)) (getD last l 0)
-    go true true = refl
-    go true false = refl
-    go false true = refl
-    go false false = refl
-ends-next last at barrier cs place kind on h l = rw (ne-eqb kind 3 (λ q. omega (arith, on)))
-ends-next last at malformed cs place kind on h l = absurd on
+    go : (l : ℕ) (d : Bool) → some (flushesLine l) (finished cs) ≡ d → (b e : Bool) →
+        pick d (flushEnd l 0 (finished cs)) (pick b (getD flushes l 0) (pick e (getD flushes l 0) (getD flushes (length flushes / 2 + l) 0))) ≡ flushEnd l 0 (finished cs)
+    go l true q b e = refl
+    go l false q true e = none l ∙ sym (end-none l 0 (finished cs) q)
+    go l false q false true = none l ∙ sym (end-none l 0 (finished cs) q)
+    go l false q false false = none (length flushes / 2 + l) ∙ sym (end-none l 0 (finished cs) q)
+
+-- past the first c commands nothing is noted
+pub noting-rest : (flushes : List ℕ) (fence at more : ℕ) (all : List Op) → Noting flushes fence at [] all → Noting flushes fence (at + more) [] all
+unfolding some finished flushEnd
+noting-rest flushes fence at more all n = record { fenced = omega (arith, n .fenced); flushed = λ l h. omega (arith, n .flushed l h); comes = n .comes }
+
+pub noting-end : (flushes : List ℕ) (fence at : ℕ) (all : List Op) → Noting flushes fence at [] all → Tells flushes fence all
+unfolding some finished
+noting-end flushes fence at all n = n .comes
+
+module _ (flushes : List ℕ) (fence at : ℕ) (cs : List Op) (l : ℕ) where
+  -- a store only moves on
+  ends-store : (p : ℕ) (vs : List ℕ) → ends flushes fence (at + (4 + length vs)) cs l ≡ ends flushes fence at (store p vs ∷ cs) l
+  unfolding some flushEnd
+  ends-store p vs = go (some isBarrier cs) refl
+    where
+      go : (b : Bool) → some isBarrier cs ≡ b → ends flushes fence (at + (4 + length vs)) cs l ≡ ends flushes fence at (store p vs ∷ cs) l
+      go true e = rw (finished-some (store p vs) cs e)
+      go false e = rw (finished-none cs e, finished-none (store p vs ∷ cs) e, e)
+
+  -- once a barrier has come, the last flush is done
+  ends-barrier : getD flushes l 0 ≤ at + 4 → ends flushes (at + 4) (at + 4) cs l ≡ ends flushes fence at (barrier ∷ cs) l
+  unfolding some flushEnd
+  ends-barrier h = rw (finished-some barrier cs refl, le-leb (getD flushes l 0) (at + 4) h) (go (some (flushesLine l) (finished cs)) (some isBarrier cs))
+    where
+      go : (d b : Bool) → pick d (flushEnd l (at + 4) (finished cs)) (pick b (getD flushes l 0) (getD flushes l 0)) ≡ pick d (flushEnd l (at + 4) (finished cs)) (getD flushes l 0)
+      go true b = refl
+      go false true = refl
+      go false false = refl
+
+  -- a flush that comes is the line's last one, and is done if a barrier comes after it
+  ends-flush : (next : List ℕ) (m : ℕ) → getD next l 0 ≡ pick (eqb m l) (at + 4) (getD flushes l 0) → flushDone next fence l ≡ flushDone flushes fence l →
+      ends next fence (at + 4) cs l ≡ ends flushes fence at (flush m ∷ cs) l
+  unfolding some flushEnd
+  ends-flush next m last done = go (some isBarrier cs) refl
+    where
+      step : (e d : Bool) → pick d (flushEnd l (at + 4) (finished cs)) (pick e (at + 4) (getD flushes l 0)) ≡ pick (e || d) (pick d (flushEnd l (at + 4) (finished cs)) (pick e (at + 4) 0)) (getD flushes l 0)
+      step true true = refl
+      step true false = refl
+      step false true = refl
+      step false false = refl
+
+      go : (b : Bool) → some isBarrier cs ≡ b → ends next fence (at + 4) cs l ≡ ends flushes fence at (flush m ∷ cs) l
+      go true e = rw (finished-some (flush m) cs e, e, last) (step (eqb m l) (some (flushesLine l) (finished cs)))
+      go false e = rw (finished-none cs e, finished-none (flush m ∷ cs) e, e) done
+
+-- a flush of line m noted
+module _ (flushes : List ℕ) (fence at m : ℕ) (inside : m < length flushes / 2) where
+  flush-length : length (noteFlush flushes fence m (at + 4)) ≡ length flushes
+  flush-length =
+      length-set (set flushes (length flushes / 2 + m) (flushDone flushes fence m)) m (at + 4) ∙ length-set flushes (length flushes / 2 + m) (flushDone flushes fence m)
+
+  flush-last : (l : ℕ) → l < length flushes / 2 → getD (noteFlush flushes fence m (at + 4)) l 0 ≡ pick (eqb m l) (at + 4) (getD flushes l 0)
+  flush-last l h =
+      let half = length flushes / 2 in
+      let done = flushDone flushes fence m in
+      getD-set (set flushes (half + m) done) m (at + 4) l (omega (arith, length-set flushes (half + m) done))
+      ∙ ap (pick (eqb m l) (at + 4)) (getD-set-other flushes (half + m) l done 0 (λ q. omega arith))
+
+  flush-before : (l : ℕ) → l < length flushes / 2 →
+      getD (noteFlush flushes fence m (at + 4)) (length flushes / 2 + l) 0 ≡ pick (eqb m l) (flushDone flushes fence m) (getD flushes (length flushes / 2 + l) 0)
+  flush-before l h =
+      let half = length flushes / 2 in
+      let done = flushDone flushes fence m in
+      getD-set-other (set flushes (half + m) done) m (half + l) (at + 4) 0 (λ q. omega arith)
+      ∙ getD-set flushes (half + m) done (half + l) (omega arith)
+      ∙ ap (λ (b : Bool). pick b done (getD flushes (half + l) 0)) (go (eqb m l) refl)
+    where
+      go : (b : Bool) → eqb m l ≡ b → eqb (length flushes / 2 + m) (length flushes / 2 + l) ≡ b
+      go true e = eq-eqb (length flushes / 2 + m) (length flushes / 2 + l) (ap (λ (i : ℕ). length flushes / 2 + i) (eqb-true m l e))
+      go false e = ne-eqb (length flushes / 2 + m) (length flushes / 2 + l) (λ q. eqb-false m l e (omega (arith, q)))
+
+  -- it is not done itself, and so none of those that are done changes
+  flush-same : (l : ℕ) → l < length flushes / 2 → fence ≤ at → flushDone (noteFlush flushes fence m (at + 4)) fence l ≡ flushDone flushes fence l
+  flush-same l h past = rw (flush-length, flush-last l h, flush-before l h) (go (eqb m l) refl)
+    where
+      go : (b : Bool) → eqb m l ≡ b →
+          (let last = pick b (at + 4) (getD flushes l 0) in pick (leb last fence) last (pick b (flushDone flushes fence m) (getD flushes (length flushes / 2 + l) 0))) ≡ flushDone flushes fence l
+      go true e = rw (lt-leb (at + 4) fence (omega arith)) (ap (flushDone flushes fence) (eqb-true m l e))
+      go false e = refl
+
+-- one command noted
+pub noting-next : (flushes next : List ℕ) (fence fence′ at : ℕ) (o : Op) (cs all : List Op) (place kind : ℕ) → On o place kind → (kind ≡ 3 → place < length flushes / 2) →
+    next ≡ pick (eqb kind 3) (noteFlush flushes fence place (at + 4)) flushes → fence′ ≡ pick (eqb kind 4) (at + 4) fence →
+    Noting flushes fence at (o ∷ cs) all → Noting next fence′ (at + extent o) cs all
+noting-next flushes next fence fence′ at (store p vs) cs all place kind on h e f n =
+    let keep : next ≡ flushes = e ∙ rw (ne-eqb kind 3 (λ q. omega (arith, on))) in
+    let stay : fence′ ≡ fence = f ∙ rw (ne-eqb kind 4 (λ q. omega (arith, on))) in
+    rw (keep, stay) (record { fenced = omega (arith, n .fenced); flushed = λ l i. omega (arith, n .flushed l i); comes = λ l i. ends-store flushes fence at cs l p vs ∙ n .comes l i })
+noting-next flushes next fence fence′ at (flush m) cs all place kind on h e f n =
+    let at3 : kind ≡ 3 = on .1 in
+    let line : m ≡ place = on .0 in
+    let inside : m < length flushes / 2 = omega (arith, h at3) in
+    let new : next ≡ noteFlush flushes fence m (at + 4) = e ∙ rw (eq-eqb kind 3 at3, line) in
+    let stay : fence′ ≡ fence = f ∙ rw (ne-eqb kind 4 (λ q. omega arith)) in
+    let long : length next ≡ length flushes = ap length new ∙ flush-length flushes fence at m inside in
+    let last : (l : ℕ) → l < length flushes / 2 → getD next l 0 ≡ pick (eqb m l) (at + 4) (getD flushes l 0) =
+    λ l i. ap (λ (x : List ℕ). getD x l 0) new ∙ flush-last flushes fence at m inside l i in
+    let done : (l : ℕ) → l < length flushes / 2 → flushDone next fence l ≡ flushDone flushes fence l =
+    λ l i. ap (λ (x : List ℕ). flushDone x fence l) new ∙ flush-same flushes fence at m inside l i (n .fenced) in
+    rw stay
+    (record {
+      fenced = omega (arith, n .fenced);
+      flushed = λ l i. at-most l (eqb m l) (getD flushes l 0) (n .flushed l (omega arith)) (last l (omega arith));
+      comes = λ l i. ends-flush flushes fence at cs l next m (last l (omega arith)) (done l (omega arith)) ∙ n .comes l (omega arith);
+    })
+  where
+    at-most : (l : ℕ) (b : Bool) (old : ℕ) → old ≤ at → getD next l 0 ≡ pick b (at + 4) old → getD next l 0 ≤ at + 4
+    at-most l true old k q = omega arith
+    at-most l false old k q = omega arith
+noting-next flushes next fence fence′ at barrier cs all place kind on h e f n =
+    let keep : next ≡ flushes = e ∙ rw (ne-eqb kind 3 (λ q. omega (arith, on))) in
+    let new : fence′ ≡ at + 4 = f ∙ rw (eq-eqb kind 4 on) in
+    rw (keep, new)
+    (record {
+      fenced = omega arith;
+      flushed = λ l i. omega (arith, n .flushed l i);
+      comes = λ l i. ends-barrier flushes fence at cs l (omega (arith, n .flushed l i)) ∙ n .comes l i;
+    })
+noting-next flushes next fence fence′ at malformed cs all place kind on h e f n = absurd on
 
 -- ---- using it
 
 -- what is noted for line l is where its last flush ends, if these commands, from `at` on, have one, else nothing past `at`
-abbrev pub Noted : List ℕ → ℕ → List Op → ℕ → Type 0
-Noted last at cs l = (some (flushesLine l) cs ≡ true → getD last l 0 ≡ flushEnd l at cs) × (some (flushesLine l) cs ≡ false → getD last l 0 ≤ at)
+abbrev pub Noted : ℕ → ℕ → List Op → ℕ → Type 0
+Noted end at cs l = (some (flushesLine l) cs ≡ true → end ≡ flushEnd l at cs) × (some (flushesLine l) cs ≡ false → end ≤ at)
 
-pub noted-start : (last : List ℕ) (cs : List Op) (l : ℕ) → getD last l 0 ≡ flushEnd l 0 cs → Noted last 0 cs l
-noted-start last cs l e = (λ q. e, λ q. omega (arith, e, end-none l 0 cs q))
+pub noted-start : (end : ℕ) (cs : List Op) (l : ℕ) → end ≡ flushEnd l 0 cs → Noted end 0 cs l
+noted-start end cs l e = (λ q. e, λ q. omega (arith, e, end-none l 0 cs q))
 
 -- so, noted of the commands up to the last barrier, a store there is durable exactly if what is noted lies past it
-pub noted-test : (last : List ℕ) (at : ℕ) (cs : List Op) (l : ℕ) → Noted last at (finished cs) l → durable l cs ≡ ltb at (getD last l 0)
-noted-test last at cs l n = durable-finished l cs ∙ go (some (flushesLine l) (finished cs)) refl
+pub noted-test : (end at : ℕ) (cs : List Op) (l : ℕ) → Noted end at (finished cs) l → durable l cs ≡ ltb at end
+noted-test end at cs l n = durable-finished l cs ∙ go (some (flushesLine l) (finished cs)) refl
   where
-    go : (d : Bool) → some (flushesLine l) (finished cs) ≡ d → d ≡ ltb at (getD last l 0)
-    go true q = sym (lt-ltb at (getD last l 0) (omega (arith, n .0 q, end-past l at (finished cs) q)))
-    go false q = sym (le-ltb at (getD last l 0) (n .1 q))
+    go : (d : Bool) → some (flushesLine l) (finished cs) ≡ d → d ≡ ltb at end
+    go true q = sym (lt-ltb at end (omega (arith, n .0 q, end-past l at (finished cs) q)))
+    go false q = sym (le-ltb at end (n .1 q))
 
 -- past a command of any list
-noted-past : (last : List ℕ) (at : ℕ) (o : Op) (cs : List Op) (l : ℕ) → Noted last at (o ∷ cs) l → Noted last (at + extent o) cs l
+noted-past : (end at : ℕ) (o : Op) (cs : List Op) (l : ℕ) → Noted end at (o ∷ cs) l → Noted end (at + extent o) cs l
 unfolding some flushEnd
-noted-past last at (store p vs) cs l n = (n .0, λ q. omega (arith, n .1 q))
-noted-past last at (flush m) cs l n = go (eqb m l) n
+noted-past end at (store p vs) cs l n = (n .0, λ q. omega (arith, n .1 q))
+noted-past end at (flush m) cs l n = go (eqb m l) n
   where
-    go : (b : Bool) → ((b || some (flushesLine l) cs) ≡ true → getD last l 0 ≡ pick (some (flushesLine l) cs) (flushEnd l (at + 4) cs) (pick b (at + 4) 0)) × ((b || some (flushesLine l) cs) ≡ false → getD last l 0 ≤ at) →
-        Noted last (at + 4) cs l
+    go : (b : Bool) → ((b || some (flushesLine l) cs) ≡ true → end ≡ pick (some (flushesLine l) cs) (flushEnd l (at + 4) cs) (pick b (at + 4) 0)) × ((b || some (flushesLine l) cs) ≡ false → end ≤ at) →
+        Noted end (at + 4) cs l
     go true k = (λ q. rw q at (k .0 refl), λ q. omega (arith, rw q at (k .0 refl)))
     go false k = (λ q. rw q at (k .0 q), λ q. omega (arith, k .1 q))
-noted-past last at barrier cs l n = (n .0, λ q. omega (arith, n .1 q))
-noted-past last at malformed cs l n = rw (add-zero at) n
+noted-past end at barrier cs l n = (n .0, λ q. omega (arith, n .1 q))
+noted-past end at malformed cs l n = rw (add-zero at) n
 
 -- where nothing is left, what is noted lies before every later place
-noted-rest : (last : List ℕ) (at more l : ℕ) → Noted last at [] l → Noted last (at + more) [] l
+noted-rest : (end at more l : ℕ) → Noted end at [] l → Noted end (at + more) [] l
 unfolding some
-noted-rest last at more l n = (λ q. absurd (false≢true q), λ q. omega (arith, n .1 q))
+noted-rest end at more l n = (λ q. absurd (false≢true q), λ q. omega (arith, n .1 q))
 
 -- and so past a command of those up to the last barrier
-pub noted-next : (last : List ℕ) (at : ℕ) (o : Op) (cs : List Op) (l : ℕ) → Noted last at (finished (o ∷ cs)) l → Noted last (at + extent o) (finished cs) l
-noted-next last at o cs l n = go (some isBarrier (o ∷ cs)) refl
+pub noted-next : (end at : ℕ) (o : Op) (cs : List Op) (l : ℕ) → Noted end at (finished (o ∷ cs)) l → Noted end (at + extent o) (finished cs) l
+noted-next end at o cs l n = go (some isBarrier (o ∷ cs)) refl
   where
-    go : (t : Bool) → some isBarrier (o ∷ cs) ≡ t → Noted last (at + extent o) (finished cs) l
-    go true e = noted-past last at o (finished cs) l (rw (finished-some o cs e) at n)
-    go false e = rw (finished-none cs (others o cs e)) (noted-rest last at (extent o) l (rw (finished-none (o ∷ cs) e) at n))
+    go : (t : Bool) → some isBarrier (o ∷ cs) ≡ t → Noted end (at + extent o) (finished cs) l
+    go true e = noted-past end at o (finished cs) l (rw (finished-some o cs e) at n)
+    go false e = rw (finished-none cs (others o cs e)) (noted-rest end at (extent o) l (rw (finished-none (o ∷ cs) e) at n))

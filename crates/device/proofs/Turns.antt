@@ -1,23 +1,22 @@
 -- One turn of each loop over the tape, over plain lists.
 -- Assumes nothing.
-use Prim.Native.Nat.{ℕ, zero, suc, _+_, _-_, _*_, _≤_, _<_}
+use Prim.Native.Nat.{ℕ, zero, suc, _+_, _-_, _*_, _/_, _≤_, _<_}
 use mathlib.Core.Path.{_≡_, refl, sym, ap, _∙_, fun-ext}
 use mathlib.Core.Bool.{Bool, true, false, _||_}
-use mathlib.Core.List.{List, [], _∷_}
+use mathlib.Core.List.{List, _∷_}
 use native.Mathlib.Omega.{arith}
-use native.Mathlib.Nat.{add-zero}
 use lib.ListN.{length, getD, set, take, drop}
-use lib.Seq.{sets, getD-set-same, getD-set-other, getD-drop}
-use lib.Dec.{ltb, leb, eqb}
-use borrow.Author.Tests.{ltb-true, ltb-false, leb-true, le-leb, eqb-true, eqb-false}
+use lib.Seq.{sets, getD-set-same, getD-set-other}
+use lib.Dec.{ltb, eqb}
+use borrow.Author.Tests.{eqb-true, eqb-false}
 use Rattle.codec.specs.Lists.{pick, part, splice}
 use Rattle.codec.specs.Numbers.{number}
-use Rattle.codec.proofs.Lists.{length-part, part-drop, splice-sets}
-use Rattle.device.specs.Tape.{Op, store, flush, barrier, kindOf, placeOf, unit, placeOk, isCommand, front, extent, beyond, scan, decode, wellFormed, isBarrier}
+use Rattle.codec.proofs.Lists.{length-part, splice-sets}
+use Rattle.device.specs.Tape.{Op, store, flush, barrier, isCommand, front, extent, decode}
 use Rattle.device.specs.Cut.{after, lineOf, some, durable, less, consIf, kept}
-use Rattle.device.specs.Counts.{sizeOf, Kept}
-use Rattle.device.proofs.Decode.{StoreAt, QuietAt, quietOf, quiet-all, quiet-at, quiet-kind, word-at, line-at, command-stands, stands-command, good-command, wellFormed-next, front-kind, extent-cut, extent-out, extent-size}
-use Rattle.device.proofs.Counts.{finished, fenced, fenced-next, On, on-some, on-barrier, ends, ends-next, Noted, noted-test, noted-next}
+use Rattle.device.specs.Counts.{finished, noteFlush, Kept}
+use Rattle.device.proofs.Decode.{StoreAt, QuietAt, quietOf, quiet-all, quiet-at, quiet-kind, word-at, line-at}
+use Rattle.device.proofs.Counts.{On, Noting, noting-next, noting-rest, Noted, noted-test, noted-next}
 
 -- ---- play
 
@@ -62,94 +61,26 @@ module _ (n at : ℕ) (t : List ℕ) (h : at < length t) (is : isCommand n (drop
   pub flush-inside : getD t at 0 ≡ 3 → 64 * number (part t (at + 2) 2) < n
   flush-inside e = let k = quiet-at n at t h is _ refl (λ q. omega arith) (λ q. omega arith) in omega (arith, k .inImage e)
 
-  -- its size, from its first two bytes as one number
-  pub size-here : getD t at 0 < 256 → (head : ℕ) → head ≡ number (part t at 2) → sizeOf head ≡ extent (front n (drop at t))
-  size-here byte head e = go (ltb (length (drop at t)) (sizeOf head)) refl (placeOk n head (placeOf (drop at t))) refl
-    where
-      first : head ≡ number (part (drop at t) 0 2)
-      first = e ∙ ap number (sym (part-drop t at 0 2 ∙ ap (λ (i : ℕ). part t i 2) (add-zero at)))
-
-      four : 4 ≤ length (drop at t)
-      four = command-stands n (drop at t) is .head
-
-      more : 0 < extent (front n (drop at t))
-      more = on-some (front n (drop at t)) (number (part t (at + 2) 2)) (getD t at 0) on-at
-
-      go : (a : Bool) → ltb (length (drop at t)) (sizeOf head) ≡ a → (b : Bool) → placeOk n head (placeOf (drop at t)) ≡ b → sizeOf head ≡ extent (front n (drop at t))
-      go true p b q = absurd (omega (arith, more, extent-cut n (drop at t) four head _ first refl (ltb-true _ _ p)))
-      go false p false q = absurd (omega (arith, more, extent-out n (drop at t) four head _ first refl q))
-      go false p true q =
-          let same : getD (drop at t) 0 0 ≡ getD t at 0 = getD-drop at t 0 0 ∙ ap (λ (i : ℕ). getD t i 0) (add-zero at) in
-          sym (extent-size n (drop at t) four head _ first refl (omega arith) (ltb-false _ _ p) q)
-
 take-some : (k : ℕ) (o : Op) (cs : List Op) → 0 < k → take k (o ∷ cs) ≡ o ∷ take (k - 1) cs
 take-some zero o cs h = absurd (omega arith)
 take-some (suc k) o cs h = let e : suc k - 1 ≡ k = omega arith in rw e
 
 -- ---- judge
 
--- one command is counted, before the cut or past it
-pub judge-turn : (c count : ℕ) (o : Op) (ds cs : List Op) (place kind fence next : ℕ) → ds ≡ o ∷ cs → On o place kind →
-    next ≡ pick (ltb count c) (pick (eqb kind 4) (count + 1) fence) fence →
-    fenced next (count + 1) (take (c - (count + 1)) cs) ≡ fenced fence count (take (c - count) ds)
-unfolding some
-judge-turn c count o ds cs place kind fence next e on f = go (ltb count c) refl
-  where
-    go : (b : Bool) → ltb count c ≡ b → fenced next (count + 1) (take (c - (count + 1)) cs) ≡ fenced fence count (take (c - count) ds)
-    go true q =
-        let less : count < c = ltb-true count c q in
-        let k : c - count - 1 ≡ c - (count + 1) = omega arith in
-        let rest : take (c - count) ds ≡ o ∷ take (c - (count + 1)) cs = ap (take (c - count)) e ∙ take-some (c - count) o cs (omega arith) ∙ ap (λ (m : ℕ). o ∷ take m cs) k in
-        let moved : next ≡ pick (isBarrier o) (count + 1) fence = f ∙ rw (q, on-barrier o place kind on) in
-        rw moved (fenced-next fence count o (take (c - (count + 1)) cs) ∙ ap (fenced fence count) (sym rest))
-    go false q =
-        let past : c ≤ count = ltb-false count c q in
-        let a : c - (count + 1) ≡ 0 = omega arith in
-        let b : c - count ≡ 0 = omega arith in
-        rw (a, b) (f ∙ rw q)
+-- one command is noted before the cut, and none past it
+module _ (c count : ℕ) (o : Op) (ds cs all : List Op) (flushes : List ℕ) (fence at size : ℕ) (e : ds ≡ o ∷ cs) (n : Noting flushes fence at (take (c - count) ds) all) where
+  pub judge-before : (next : List ℕ) (fence′ place kind : ℕ) → count < c → On o place kind → (kind ≡ 3 → place < length flushes / 2) → fence′ ≡ pick (eqb kind 4) (at + 4) fence →
+      next ≡ pick (eqb kind 3) (noteFlush flushes fence place (at + 4)) flushes → size ≡ extent o → Noting next fence′ (at + size) (take (c - (count + 1)) cs) all
+  judge-before next fence′ place kind less on fits f g s =
+      let k : c - count - 1 ≡ c - (count + 1) = omega arith in
+      let rest : take (c - count) ds ≡ o ∷ take (c - (count + 1)) cs = ap (take (c - count)) e ∙ take-some (c - count) o cs (omega arith) ∙ ap (λ (m : ℕ). o ∷ take m cs) k in
+      rw s (noting-next flushes next fence fence′ at o (take (c - (count + 1)) cs) all place kind on fits g f (rw rest at n))
 
--- ---- note_flushes
-
--- of the commands left, one is noted
-pub note-turn : (k : ℕ) (o : Op) (ds cs : List Op) (last next : List ℕ) (at place kind : ℕ) → 0 < k → ds ≡ o ∷ cs → On o place kind → (kind ≡ 3 → place < length last) →
-    next ≡ pick (eqb kind 3) (set last place (at + 4)) last → (size : ℕ) → size ≡ extent o → (l : ℕ) →
-    ends next (at + size) (take (k - 1) cs) l ≡ ends last at (take k ds) l
-note-turn k o ds cs last next at place kind h e on fits f size s l =
-    let rest : take k ds ≡ o ∷ take (k - 1) cs = ap (take k) e ∙ take-some k o cs h in
-    rw (f, s) (ends-next last at o (take (k - 1) cs) place kind on fits l ∙ ap (λ (x : List Op). ends last at x l) (sym rest))
-
--- a well-formed tape over an image is the same over a larger one
-place-wider : (n m kind place : ℕ) → n ≤ m → placeOk n kind place ≡ true → placeOk m kind place ≡ true
-unfolding placeOk
-place-wider n m kind place h = go (eqb kind 4)
-  where
-    go : (b : Bool) → pick b (eqb place 0) (leb (unit kind * place + unit kind) n) ≡ true → pick b (eqb place 0) (leb (unit kind * place + unit kind) m) ≡ true
-    go true e = e
-    go false e = le-leb (unit kind * place + unit kind) m (omega (arith, leb-true (unit kind * place + unit kind) n e))
-
-command-wider : (n m : ℕ) (t : List ℕ) → n ≤ m → isCommand n t ≡ true → isCommand m t ≡ true
-command-wider n m t h e =
-    let s = command-stands n t e in
-    stands-command m t (record { head = s .head; low = s .low; high = s .high; second = s .second; whole = s .whole; inside = place-wider n m (kindOf t) (placeOf t) h (s .inside) })
-
-front-wider : (n m : ℕ) (t : List ℕ) → n ≤ m → isCommand n t ≡ true → front m t ≡ front n t
-front-wider n m t h e = front-kind m t (kindOf t) (command-wider n m t h e) refl ∙ sym (front-kind n t (kindOf t) e refl)
-
-scan-wider : (n m k : ℕ) (t : List ℕ) → n ≤ m → wellFormed (scan n k t) ≡ true → scan m k t ≡ scan n k t
-unfolding scan decode
-scan-wider n m zero [] h e = refl
-scan-wider n m (suc k) [] h e = refl
-scan-wider n m zero (b ∷ t) h e =
-    let o = front n (b ∷ t) in
-    let is = good-command n 0 (b ∷ t) (omega arith) e in
-    let more : 0 < extent o = on-some o (number (part (b ∷ t) (0 + 2) 2)) b (on-at n 0 (b ∷ t) (omega arith) is) in
-    let rest = scan-wider n m (beyond o (length t)) t h (sym (wellFormed-next o (scan n (beyond o (length t)) t) more) ∙ e) in
-    rw (front-wider n m (b ∷ t) h is) (ap (λ (cs : List Op). o ∷ cs) rest)
-scan-wider n m (suc k) (b ∷ t) h e = scan-wider n m k t h e
-
-pub decode-wider : (n m : ℕ) (t : List ℕ) → n ≤ m → wellFormed (decode n t) ≡ true → decode m t ≡ decode n t
-unfolding decode
-decode-wider n m t h e = scan-wider n m 0 t h e
+  pub judge-past : c ≤ count → Noting flushes fence (at + size) (take (c - (count + 1)) cs) all
+  judge-past past =
+      let a : c - (count + 1) ≡ 0 = omega arith in
+      let b : c - count ≡ 0 = omega arith in
+      rw a (noting-rest flushes fence at size all (rw b at n))
 
 -- ---- replay
 
@@ -174,7 +105,7 @@ kept-store work left p m vs cs false line h e =
     go true ds = refl
     go false ds = refl
 
-module _ (n : ℕ) (t : List ℕ) (at k : ℕ) (some : 0 < k) (last : List ℕ) (noted : (l : ℕ) → Noted last at (finished (take k (decode n (drop at t)))) l) where
+module _ (n : ℕ) (t : List ℕ) (at k : ℕ) (some : 0 < k) (lines : ℕ) (done : ℕ → ℕ) (noted : (l : ℕ) → l < lines → Noted (done l) at (finished (take k (decode n (drop at t)))) l) where
   module _ (p s : ℕ) (r : StoreAt n t at p s) where
     store-next : take k (decode n (drop at t)) ≡ store p (part t (at + 4) s) ∷ take (k - 1) (decode n (drop (at + (4 + s)) t))
     store-next = ap (take k) (r .next) ∙ take-some k (store p (part t (at + 4) s)) (decode n (drop (at + (4 + s)) t)) some
@@ -182,27 +113,27 @@ module _ (n : ℕ) (t : List ℕ) (at k : ℕ) (some : 0 < k) (last : List ℕ) 
     store-size : length (part t (at + 4) s) ≡ s
     store-size = length-part t (at + 4) s (omega (arith, r .inTape))
 
-    pub replay-store : (m : ℕ) (work left work′ left′ : List ℕ) → lineOf p ≡ m → length work ≡ n → m < length left → Kept work left last at m p (part t (at + 4) s) work′ left′ →
+    pub replay-store : (m : ℕ) (work left work′ left′ : List ℕ) → lineOf p ≡ m → length work ≡ n → m < lines → m < length left → Kept work left (done m) at m p (part t (at + 4) s) work′ left′ →
         after work′ (kept (λ (l : ℕ). getD left′ l 0) (take (k - 1) (decode n (drop (at + (4 + s)) t)))) ≡ after work (kept (λ (l : ℕ). getD left l 0) (take k (decode n (drop at t))))
     unfolding durable
-    replay-store m work left work′ left′ line e h q =
+    replay-store m work left work′ left′ line e inside h q =
         let vs = part t (at + 4) s in
         let cs = take (k - 1) (decode n (drop (at + (4 + s)) t)) in
         let counts : List ℕ → ℕ → ℕ = λ x l. getD x l 0 in
         let fits : p + length vs ≤ length work = omega (arith, store-size, r .inImage) in
-        let test : durable m cs ≡ ltb at (getD last m 0) = ap (durable m) (sym store-next) ∙ noted-test last at (take k (decode n (drop at t))) m (noted m) in
-        let made : work′ ≡ pick (ltb at (getD last m 0) || ltb 0 (getD left m 0)) (sets work p vs) work =
-        q .made ∙ ap (λ (x : List ℕ). pick (ltb at (getD last m 0) || ltb 0 (getD left m 0)) x work) (splice-sets work p vs fits) in
+        let test : durable m cs ≡ ltb at (done m) = ap (durable m) (sym store-next) ∙ noted-test (done m) at (take k (decode n (drop at t))) m (noted m inside) in
+        let made : work′ ≡ pick (ltb at (done m) || ltb 0 (getD left m 0)) (sets work p vs) work =
+        q .made ∙ ap (λ (x : List ℕ). pick (ltb at (done m) || ltb 0 (getD left m 0)) x work) (splice-sets work p vs fits) in
         ap (λ (w : List ℕ). after w (kept (counts left′) cs)) made
-        ∙ ap (λ (x : List ℕ). after (pick (ltb at (getD last m 0) || ltb 0 (getD left m 0)) (sets work p vs) work) (kept (counts x) cs)) (q .counted)
-        ∙ kept-store work left p m vs cs (ltb at (getD last m 0)) line h test
+        ∙ ap (λ (x : List ℕ). after (pick (ltb at (done m) || ltb 0 (getD left m 0)) (sets work p vs) work) (kept (counts x) cs)) (q .counted)
+        ∙ kept-store work left p m vs cs (ltb at (done m)) line h test
         ∙ sym (ap (λ (ds : List Op). after work (kept (counts left) ds)) store-next)
 
-    pub noted-past-store : (l : ℕ) → Noted last (at + (4 + s)) (finished (take (k - 1) (decode n (drop (at + (4 + s)) t)))) l
-    noted-past-store l =
+    pub noted-past-store : (l : ℕ) → l < lines → Noted (done l) (at + (4 + s)) (finished (take (k - 1) (decode n (drop (at + (4 + s)) t)))) l
+    noted-past-store l h =
         let cs = take (k - 1) (decode n (drop (at + (4 + s)) t)) in
-        let here : Noted last at (finished (store p (part t (at + 4) s) ∷ cs)) l = rw store-next at (noted l) in
-        rw store-size at (noted-next last at (store p (part t (at + 4) s)) cs l here)
+        let here : Noted (done l) at (finished (store p (part t (at + 4) s) ∷ cs)) l = rw store-next at (noted l h) in
+        rw store-size at (noted-next (done l) at (store p (part t (at + 4) s)) cs l here)
 
   module _ (place : ℕ) (r : QuietAt n t at place) where
     quiet-next : take k (decode n (drop at t)) ≡ quietOf (getD t at 0) place ∷ take (k - 1) (decode n (drop (at + 4) t))
@@ -218,9 +149,9 @@ module _ (n : ℕ) (t : List ℕ) (at k : ℕ) (some : 0 < k) (last : List ℕ) 
         (ap (λ (ds : List Op). after work (kept f ds)) quiet-next
         ∙ quiet-all (λ (o : Op). after work (kept f (o ∷ cs)) ≡ after work (kept f cs)) (getD t at 0) place refl refl)
 
-    pub noted-past-quiet : (l : ℕ) → Noted last (at + 4) (finished (take (k - 1) (decode n (drop (at + 4) t)))) l
-    noted-past-quiet l =
+    pub noted-past-quiet : (l : ℕ) → l < lines → Noted (done l) (at + 4) (finished (take (k - 1) (decode n (drop (at + 4) t)))) l
+    noted-past-quiet l h =
         let o = quietOf (getD t at 0) place in
         let cs = take (k - 1) (decode n (drop (at + 4) t)) in
-        let here : Noted last at (finished (o ∷ cs)) l = rw quiet-next at (noted l) in
-        rw (quiet-all (λ (x : Op). extent x ≡ 4) (getD t at 0) place refl refl) at (noted-next last at o cs l here)
+        let here : Noted (done l) at (finished (o ∷ cs)) l = rw quiet-next at (noted l h) in
+        rw (quiet-all (λ (x : Op). extent x ≡ 4) (getD t at 0) place refl refl) at (noted-next (done l) at o cs l here)

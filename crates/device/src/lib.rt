@@ -8,7 +8,7 @@ ghost use Rattle.codec.specs.Lists.{pick, part, splice};
 ghost use Rattle.codec.specs.Numbers.{number};
 ghost use Rattle.device.specs.Tape.{decode, front, extent, placeOk, wellFormed, headBytes, wordBytes, lineBytes, flushBytes, barrierBytes};
 ghost use Rattle.device.specs.Cut.{after, cutImage};
-ghost use Rattle.device.specs.Counts.{sizeOf, upToBarrier, scanned, flushEnd, Kept};
+ghost use Rattle.device.specs.Counts.{sizeOf, scanned, flushDone, noteFlush, Tells, Found, Kept};
 ghost use Rattle.device.specs.Calls.{refusal, isImageSize, runCall, cutTape, cutCall};
 
 // A refusal: its number, and the number of the edit that it names.
@@ -70,11 +70,17 @@ pub enum Answer {
     Refused(Refusal),
 }
 
-// What reading a whole tape finds: how many commands there are, and of the first ones, as many as were asked of, how many stand up to the last
-// barrier.
+// What reading a whole tape finds: how many commands there are, unless one is malformed.
 pub enum Scan {
-    Commands(usize, usize),
+    Commands(usize),
     Broken,
+}
+
+// What a cut's first pass over the tape finds: how many commands there are, and where the last barrier among the first ones ends, unless one is
+// malformed.
+enum Judged {
+    Good(usize, usize),
+    Bad,
 }
 
 // The bytes of a command by the two bytes that it starts with; 0 if it is none.
@@ -126,37 +132,21 @@ fn size_at(tape: &[u8], at: usize, n: usize) -> usize
     size
 }
 
-// How many of the first c commands stand up to the last barrier, once one of this kind has come after `count` others, of which `fence` did.
-fn fence_after(kind: u8, count: usize, c: usize, fence: usize) -> usize
-    ensures { λ r. ⌜ r ≡ pick (ltb count c) (pick (eqb kind 4) (count + 1) fence) fence ⌝ }
-{
-    if c <= count {
-        return fence;
-    }
-    if kind != 4 {
-        return fence;
-    }
-    count + 1
-}
-
-// Judges the whole tape over an image of n bytes and counts its commands, and of the first c those up to the last barrier: a flush past it is not
-// waited for when c commands are done, and so makes nothing durable.
-pub fn judge(tape: &[u8], n: usize, c: usize) -> Scan
-    ensures { λ r. ⌜ r ≡ scanned c (decode n (now (tape .entry))) ⌝ }
+// Judges the whole tape over an image of n bytes and counts its commands.
+pub fn count_commands(tape: &[u8], n: usize) -> Scan
+    ensures { λ r. ⌜ r ≡ scanned (decode n (now (tape .entry))) ⌝ }
 {
     let mut at = 0;
     let mut count = 0;
-    let mut fence = 0;
     while at < tape.len() {
         let size = size_at(tape, at, n);
         if size == 0 {
             return Scan::Broken;
         }
-        fence = fence_after(tape[at], count, c, fence);
         at = at + size;
         count = count + 1;
     }
-    Scan::Commands(count, fence)
+    Scan::Commands(count)
 }
 
 // Makes every store of a well-formed tape.
@@ -205,9 +195,9 @@ pub fn run(image: &[u8], work: &mut [u8], tape: &[u8]) -> Answer
     if work.len() != n {
         return Answer::Refused(Refusal::of(Refusal::WORK_SIZE));
     }
-    match judge(tape, n, 0) {
+    match count_commands(tape, n) {
         Scan::Broken => Answer::Refused(Refusal::of(Refusal::BAD_TAPE)),
-        Scan::Commands(_, _) => {
+        Scan::Commands(_) => {
             codec::copy_all(work, image);
             play(work, tape);
             Answer::Accepted
@@ -215,42 +205,70 @@ pub fn run(image: &[u8], work: &mut [u8], tape: &[u8]) -> Answer
     }
 }
 
-// Notes where a flush at `at` of the tape ends.
-fn note(last: &mut [usize], tape: &[u8], at: usize)
-    requires { ⌜ (at + 4 ≤ length (now tape)) × (getD (now tape) at 0 ≡ 3 → number (part (now tape) (at + 2) 2) < length (now last)) ⌝ }
-    ensures { λ _. ⌜ now (last .exit) ≡ pick (eqb (getD (now (tape .entry)) at 0) 3) (set (now (last .entry)) (number (part (now (tape .entry)) (at + 2) 2)) (at + 4)) (now (last .entry)) ⌝ }
+// Where the line's last flush ends that a barrier comes after, 0 if there is none: its last flush, if the last barrier ends past it, else the one
+// that was done when its last flush came.
+fn flush_done(flushes: &[usize], fence: usize, line: usize) -> usize
+    requires { ⌜ line < length (now flushes) / 2 ⌝ }
+    ensures { λ r. ⌜ r ≡ flushDone (now (flushes .entry)) fence line ⌝ }
 {
-    if tape[at] != 3 {
-        return;
+    let last = flushes[line];
+    if last <= fence {
+        return last;
+    }
+    flushes[flushes.len() / 2 + line]
+}
+
+// Notes a flush at `at` of the tape, with the one of its line that is done by then, and answers where the last barrier ends once this command has come.
+fn note(flushes: &mut [usize], tape: &[u8], at: usize, fence: usize) -> usize
+    requires { ⌜ (at + 4 ≤ length (now tape)) × (getD (now tape) at 0 ≡ 3 → number (part (now tape) (at + 2) 2) < length (now flushes) / 2) ⌝ }
+    ensures { λ r. ⌜ r ≡ pick (eqb (getD (now (tape .entry)) at 0) 4) (at + 4) fence ⌝ }
+    ensures { λ _. ⌜ now (flushes .exit) ≡ pick (eqb (getD (now (tape .entry)) at 0) 3) (noteFlush (now (flushes .entry)) fence (number (part (now (tape .entry)) (at + 2) 2)) (at + 4)) (now (flushes .entry)) ⌝ }
+{
+    let kind = tape[at];
+    if kind == 4 {
+        return at + 4;
+    }
+    if kind != 3 {
+        return fence;
     }
     let line = codec::number_at(tape, at + 2);
-    last[line] = at + 4;
+    let half = flushes.len() / 2;
+    flushes[half + line] = flush_done(flushes, fence, line);
+    flushes[line] = at + 4;
+    fence
 }
 
-// Of the first k commands of a well-formed tape, notes for each line where its last flush ends. The tape is over an image of no more lines than
-// there is room for.
-fn note_flushes(last: &mut [usize], tape: &[u8], k: usize)
-    requires { ⌜ (wellFormed (decode (64 * length (now last)) (now tape)) ≡ true) × (k ≤ length (decode (64 * length (now last)) (now tape))) ⌝ }
-    requires { ⌜ ((l : ℕ) → getD (now last) l 0 ≡ 0) ⌝ }
-    ensures { λ _. ⌜ ((l : ℕ) → getD (now (last .exit)) l 0 ≡ flushEnd l 0 (take k (decode (64 * length (now (last .entry))) (now (tape .entry))))) ⌝ }
+// Judges the whole tape over an image of n bytes and counts its commands, and notes the flushes of the first c: one that no barrier comes after among
+// these is not waited for when c commands are done, and so makes nothing durable.
+fn judge(flushes: &mut [usize], tape: &[u8], n: usize, c: usize) -> Judged
+    requires { ⌜ (n ≤ 64 * (length (now flushes) / 2)) × ((l : ℕ) → getD (now flushes) l 0 ≡ 0) ⌝ }
+    ensures { λ r. ⌜ Found c (decode n (now (tape .entry))) (now (flushes .exit)) r ⌝ }
 {
     let mut at = 0;
-    let mut todo = k;
-    while 0 < todo {
-        note(last, tape, at);
-        at = at + size_of(codec::number_at(tape, at));
-        todo = todo - 1;
+    let mut count = 0;
+    let mut fence = 0;
+    while at < tape.len() {
+        let size = size_at(tape, at, n);
+        if size == 0 {
+            return Judged::Bad;
+        }
+        if count < c {
+            fence = note(flushes, tape, at, fence);
+        }
+        at = at + size;
+        count = count + 1;
     }
+    Judged::Good(count, fence)
 }
 
-// Whether a store at `at` of the tape is kept: a flush of its line that is noted ends later, so that it is durable, or its choice is not used up,
+// Whether a store at `at` of the tape is kept: the line's last flush that is done ends later, so that it is durable, or its choice is not used up,
 // which counts one less.
-fn is_kept(last: &[usize], left: &mut [u8], at: usize, line: usize) -> bool
-    requires { ⌜ (line < length (now last)) × (line < length (now left)) ⌝ }
-    ensures { λ r. ⌜ r ≡ (ltb at (getD (now (last .entry)) line 0) || ltb 0 (getD (now (left .entry)) line 0)) ⌝ }
-    ensures { λ _. ⌜ now (left .exit) ≡ pick (ltb at (getD (now (last .entry)) line 0)) (now (left .entry)) (set (now (left .entry)) line (getD (now (left .entry)) line 0 - 1)) ⌝ }
+fn is_kept(flushes: &[usize], left: &mut [u8], fence: usize, at: usize, line: usize) -> bool
+    requires { ⌜ (line < length (now flushes) / 2) × (line < length (now left)) ⌝ }
+    ensures { λ r. ⌜ r ≡ (ltb at (flushDone (now (flushes .entry)) fence line) || ltb 0 (getD (now (left .entry)) line 0)) ⌝ }
+    ensures { λ _. ⌜ now (left .exit) ≡ pick (ltb at (flushDone (now (flushes .entry)) fence line)) (now (left .entry)) (set (now (left .entry)) line (getD (now (left .entry)) line 0 - 1)) ⌝ }
 {
-    if at < last[line] {
+    if at < flush_done(flushes, fence, line) {
         return true;
     }
     let more = left[line];
@@ -262,32 +280,48 @@ fn is_kept(last: &[usize], left: &mut [u8], at: usize, line: usize) -> bool
 }
 
 // Makes a word store if it is kept.
-fn keep_word(work: &mut [u8], left: &mut [u8], last: &[usize], tape: &[u8], at: usize, place: usize)
-    requires { ⌜ (8 * place + 8 ≤ length (now work)) × (at + 12 ≤ length (now tape)) × (length (now work) ≤ 64 * length (now last)) × (length (now work) ≤ 64 * length (now left)) ⌝ }
-    ensures { λ _. ⌜ Kept (now (work .entry)) (now (left .entry)) (now (last .entry)) at (place / 8) (8 * place) (part (now (tape .entry)) (at + 4) 8) (now (work .exit)) (now (left .exit)) ⌝ }
+fn keep_word(
+    work: &mut [u8],
+    left: &mut [u8],
+    flushes: &[usize],
+    fence: usize,
+    tape: &[u8],
+    at: usize,
+    place: usize,
+)
+    requires { ⌜ (8 * place + 8 ≤ length (now work)) × (at + 12 ≤ length (now tape)) × (length (now work) ≤ 64 * (length (now flushes) / 2)) × (length (now work) ≤ 64 * length (now left)) ⌝ }
+    ensures { λ _. ⌜ Kept (now (work .entry)) (now (left .entry)) (flushDone (now (flushes .entry)) fence (place / 8)) at (place / 8) (8 * place) (part (now (tape .entry)) (at + 4) 8) (now (work .exit)) (now (left .exit)) ⌝ }
 {
-    if !is_kept(last, left, at, place / 8) {
+    if !is_kept(flushes, left, fence, at, place / 8) {
         return;
     }
     codec::copy_word(work, 8 * place, tape, at + 4);
 }
 
 // Makes a line store if it is kept.
-fn keep_line(work: &mut [u8], left: &mut [u8], last: &[usize], tape: &[u8], at: usize, place: usize)
-    requires { ⌜ (64 * place + 64 ≤ length (now work)) × (at + 68 ≤ length (now tape)) × (length (now work) ≤ 64 * length (now last)) × (length (now work) ≤ 64 * length (now left)) ⌝ }
-    ensures { λ _. ⌜ Kept (now (work .entry)) (now (left .entry)) (now (last .entry)) at place (64 * place) (part (now (tape .entry)) (at + 4) 64) (now (work .exit)) (now (left .exit)) ⌝ }
+fn keep_line(
+    work: &mut [u8],
+    left: &mut [u8],
+    flushes: &[usize],
+    fence: usize,
+    tape: &[u8],
+    at: usize,
+    place: usize,
+)
+    requires { ⌜ (64 * place + 64 ≤ length (now work)) × (at + 68 ≤ length (now tape)) × (length (now work) ≤ 64 * (length (now flushes) / 2)) × (length (now work) ≤ 64 * length (now left)) ⌝ }
+    ensures { λ _. ⌜ Kept (now (work .entry)) (now (left .entry)) (flushDone (now (flushes .entry)) fence place) at place (64 * place) (part (now (tape .entry)) (at + 4) 64) (now (work .exit)) (now (left .exit)) ⌝ }
 {
-    if !is_kept(last, left, at, place) {
+    if !is_kept(flushes, left, fence, at, place) {
         return;
     }
     codec::copy_line(work, 64 * place, tape, at + 4);
 }
 
 // Makes of the first c commands of a well-formed tape the stores that a cut keeps.
-fn replay(work: &mut [u8], left: &mut [u8], last: &[usize], tape: &[u8], c: usize)
-    requires { ⌜ (length (now work) ≤ 64 * length (now last)) × (length (now work) ≤ 64 * length (now left)) ⌝ }
+fn replay(work: &mut [u8], left: &mut [u8], flushes: &[usize], fence: usize, tape: &[u8], c: usize)
+    requires { ⌜ (length (now work) ≤ 64 * (length (now flushes) / 2)) × (length (now work) ≤ 64 * length (now left)) ⌝ }
     requires { ⌜ (wellFormed (decode (length (now work)) (now tape)) ≡ true) × (c ≤ length (decode (length (now work)) (now tape))) ⌝ }
-    requires { ⌜ ((l : ℕ) → getD (now last) l 0 ≡ flushEnd l 0 (take (upToBarrier (take c (decode (length (now work)) (now tape)))) (decode (length (now work)) (now tape)))) ⌝ }
+    requires { ⌜ Tells (now flushes) fence (take c (decode (length (now work)) (now tape))) ⌝ }
     ensures { λ _. ⌜ now (work .exit) ≡ cutImage (now (work .entry)) (λ l. getD (now (left .entry)) l 0) c (decode (length (now (work .entry))) (now (tape .entry))) ⌝ }
 {
     let mut at = 0;
@@ -296,11 +330,11 @@ fn replay(work: &mut [u8], left: &mut [u8], last: &[usize], tape: &[u8], c: usiz
         let kind = tape[at];
         let place = codec::number_at(tape, at + 2);
         if kind == 1 {
-            keep_word(work, left, last, tape, at, place);
+            keep_word(work, left, flushes, fence, tape, at, place);
             at = at + 12;
             todo = todo - 1;
         } else if kind == 2 {
-            keep_line(work, left, last, tape, at, place);
+            keep_line(work, left, flushes, fence, tape, at, place);
             at = at + 68;
             todo = todo - 1;
         } else {
@@ -310,29 +344,28 @@ fn replay(work: &mut [u8], left: &mut [u8], last: &[usize], tape: &[u8], c: usiz
     }
 }
 
-// What cut does once the buffers are of the right sizes, with room for each line's count and last flush.
+// What cut does once the buffers are of the right sizes, with room for each line's count and its two flushes.
 fn cut_tape(
     image: &[u8],
     work: &mut [u8],
     tape: &[u8],
     c: usize,
     left: &mut [u8],
-    last: &mut [usize],
+    flushes: &mut [usize],
 ) -> Answer
-    requires { ⌜ (length (now image) ≤ 65536) × (length (now work) ≡ length (now image)) × (length (now image) ≤ 64 * length (now left)) × (length (now image) ≤ 64 * length (now last)) ⌝ }
-    requires { ⌜ ((l : ℕ) → getD (now last) l 0 ≡ 0) ⌝ }
+    requires { ⌜ (length (now image) ≤ 65536) × (length (now work) ≡ length (now image)) × (length (now image) ≤ 64 * length (now left)) × (length (now image) ≤ 64 * (length (now flushes) / 2)) ⌝ }
+    requires { ⌜ ((l : ℕ) → getD (now flushes) l 0 ≡ 0) ⌝ }
     ensures { λ r. ⌜ r ≡ (cutTape (now (image .entry)) (now (work .entry)) (now (tape .entry)) c (λ l. getD (now (left .entry)) l 0)) .answer ⌝ }
     ensures { λ _. ⌜ now (work .exit) ≡ (cutTape (now (image .entry)) (now (work .entry)) (now (tape .entry)) c (λ l. getD (now (left .entry)) l 0)) .work ⌝ }
 {
-    match judge(tape, image.len(), c) {
-        Scan::Broken => Answer::Refused(Refusal::of(Refusal::BAD_TAPE)),
-        Scan::Commands(count, fence) => {
+    match judge(flushes, tape, image.len(), c) {
+        Judged::Bad => Answer::Refused(Refusal::of(Refusal::BAD_TAPE)),
+        Judged::Good(count, fence) => {
             if count < c {
                 return Answer::Refused(Refusal::of(Refusal::PAST_END));
             }
-            note_flushes(last, tape, fence);
             codec::copy_all(work, image);
-            replay(work, left, last, tape, c);
+            replay(work, left, flushes, fence, tape, c);
             Answer::Accepted
         }
     }
@@ -345,9 +378,9 @@ fn cut_large(image: &[u8], work: &mut [u8], tape: &[u8], c: usize, choices: &[u8
     ensures { λ _. ⌜ now (work .exit) ≡ (cutTape (now (image .entry)) (now (work .entry)) (now (tape .entry)) c (λ l. getD (now (choices .entry)) l 0)) .work ⌝ }
 {
     let mut left = [0u8; 1024];
-    let mut last = [0usize; 1024];
+    let mut flushes = [0usize; 2048];
     codec::copy(&mut left, 0, choices, 0, choices.len());
-    cut_tape(image, work, tape, c, &mut left, &mut last)
+    cut_tape(image, work, tape, c, &mut left, &mut flushes)
 }
 
 // The same, with room for the lines of the smallest image, which it takes less time to clear.
@@ -357,9 +390,9 @@ fn cut_small(image: &[u8], work: &mut [u8], tape: &[u8], c: usize, choices: &[u8
     ensures { λ _. ⌜ now (work .exit) ≡ (cutTape (now (image .entry)) (now (work .entry)) (now (tape .entry)) c (λ l. getD (now (choices .entry)) l 0)) .work ⌝ }
 {
     let mut left = [0u8; 128];
-    let mut last = [0usize; 128];
+    let mut flushes = [0usize; 256];
     codec::copy(&mut left, 0, choices, 0, choices.len());
-    cut_tape(image, work, tape, c, &mut left, &mut last)
+    cut_tape(image, work, tape, c, &mut left, &mut flushes)
 }
 
 // The image that a cut after c commands leaves, in work: each line keeps as many of its pending stores as its choice says.

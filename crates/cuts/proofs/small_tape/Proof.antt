@@ -27,8 +27,8 @@ sized c = sym (c .before .is-image-size .ensures) ∙ not-false _ (c .if1 .left)
 returns : tie.Need-returns
 returns c = ap Refused (c .of .ensures) ∙ sym (not-small _ _ 1 (bad-size (sym (c .before .before .is-image-size .ensures) ∙ not-true _ (c .before .if1 .taken))))
 
-judge-requires : tie.Need-judge-requires
-judge-requires c κs = search needs
+count-commands-requires : tie.Need-count-commands-requires
+count-commands-requires c κs = search needs
 
 enum-told : tie.Need-enum-told
 enum-told c = search needs
@@ -44,15 +44,15 @@ of-requires-3 c κs = search needs
 
 returns-2 : tie.Need-returns-2
 returns-2 c =
-    let found = scanned-commands 0 _ _ _ (sym (c .before .before .before .before .before .judge .ensures) ∙ c .before .before .before .count .given .1) in
+    let found = scanned-commands _ _ (sym (c .before .before .before .before .before .count-commands .ensures) ∙ c .before .before .before .count .given .1) in
     ap Refused (c .of3 .ensures) ∙ sym (not-small _ _ 17 (long-tape (sized (c .before .before .before .before .before .before)) (found .0) (omega (arith, found .1))))
 
 returns-3 : tie.Need-returns-3
-returns-3 c = ap Refused (c .of2 .ensures) ∙ sym (not-small _ _ 14 (bad-tape (sized (c .before .before .before .before)) (scanned-broken 0 _ (sym (c .before .before .before .judge .ensures) ∙ c .before .enum-told .given .1))))
+returns-3 c = ap Refused (c .of2 .ensures) ∙ sym (not-small _ _ 14 (bad-tape (sized (c .before .before .before .before)) (scanned-broken _ (sym (c .before .before .before .count-commands .ensures) ∙ c .before .enum-told .given .1))))
 
 returns-4 : tie.Need-returns-4
 returns-4 c =
-    let found = scanned-commands 0 _ _ _ (sym (c .before .before .before .before .judge .ensures) ∙ c .before .before .count .given .1) in
+    let found = scanned-commands _ _ (sym (c .before .before .before .before .count-commands .ensures) ∙ c .before .before .count .given .1) in
     ap Number (found .1) ∙ sym (is-small _ _ (record { size = sized (c .before .before .before .before .before); formed = found .0; few = omega (arith, found .1) }))
 
 pub small-tape-spec : {M : Type 1} → statement M
@@ -62,7 +62,7 @@ small-tape-spec =
     is-image-size-requires
     of-requires
     returns
-    judge-requires
+    count-commands-requires
     enum-told
     of-requires-2
     enum-known-count

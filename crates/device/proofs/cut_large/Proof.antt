@@ -26,7 +26,9 @@ slice-aggregate-cut-tape-2 c = search needs
 cut-tape-requires : tie.Need-cut-tape-requires
 cut-tape-requires c κs =
     let s = c .before .before .before .before .before .before .before .before .before .before in
-    let n = length-replicate {A = ℕ} 1024 0 in ((omega (arith, s .pre), s .pre .1, omega (arith, s .pre, c .before .before .before .before .copy .kept .0), omega (arith, s .pre)), zeros 1024)
+    let left = length-replicate {A = ℕ} 1024 0 in
+    let flushes = length-replicate {A = ℕ} 2048 0 in
+    ((omega (arith, s .pre), s .pre .1, omega (arith, s .pre, c .before .before .before .before .copy .kept .0), omega (arith, s .pre)), zeros 2048)
 
 same-length : tie.Need-same-length
 same-length c = search needs

@@ -4,22 +4,20 @@ use Prim.Native.Nat.{_-_}
 use mathlib.Core.Path.{_≡_, sym, ap, _∙_}
 use native.Mathlib.Omega.{arith}
 use lib.ListN.{getD, set}
-use borrow.Author.Tests.{lt-ltb, le-ltb}
 use lib.Seq.{set-getD}
+use borrow.Author.Tests.{lt-ltb, le-ltb}
+use Rattle.device.specs.Counts.{flushDone}
 use borrow.Author.Needs.{needs}
 use Rattle.device.proofs.is_kept.Statement.{statement}
 use Rattle.device.proofs.is_kept.Tie as tie
 
-mul-if1 : tie.Need-mul-if1
-mul-if1 c = search needs
-
-shared-slice-read-if1 : tie.Need-shared-slice-read-if1
-shared-slice-read-if1 c = search needs
+flush-done-requires : tie.Need-flush-done-requires
+flush-done-requires c κs = search needs
 
 returns : tie.Need-returns
 returns c =
-    let s = c .before .before in
-    let e = lt-ltb (s .args .at) (getD (s .args .last .now) (s .args .line) 0) (c .if1 .taken) in
+    let a = c .before .before .before .before .args in
+    let e = lt-ltb (a .at) (flushDone (a .flushes .now) (a .fence) (a .line)) (omega (arith, c .if1 .taken, c .before .flush-done .ensures)) in
     (sym (rw e), sym (rw e))
 
 slice-read-more : tie.Need-slice-read-more
@@ -27,8 +25,8 @@ slice-read-more c = search needs
 
 returns-2 : tie.Need-returns-2
 returns-2 c =
-    let a = c .before .before .before .before .args in
-    let e = le-ltb (a .at) (getD (a .last .now) (a .line) 0) (c .before .before .if1 .left) in
+    let a = c .before .before .before .before .before .before .args in
+    let e = le-ltb (a .at) (flushDone (a .flushes .now) (a .fence) (a .line)) (omega (arith, c .before .before .if1 .left, c .before .before .before .flush-done .ensures)) in
     let f = le-ltb 0 (getD (a .left .now) (a .line) 0) (omega arith) in
     let none : getD (a .left .now) (a .line) 0 - 1 ≡ getD (a .left .now) (a .line) 0 = omega arith in
     (sym (rw (e, f)), sym (rw e (ap (set (a .left .now) (a .line)) none ∙ set-getD (a .left .now) (a .line) 0)))
@@ -44,8 +42,8 @@ same-length c = search needs
 
 returns-3 : tie.Need-returns-3
 returns-3 c =
-    let a = c .before .before .before .before .args in
-    let e = le-ltb (a .at) (getD (a .last .now) (a .line) 0) (c .before .before .if1 .left) in
+    let a = c .before .before .before .before .before .before .args in
+    let e = le-ltb (a .at) (flushDone (a .flushes .now) (a .fence) (a .line)) (omega (arith, c .before .before .if1 .left, c .before .before .before .flush-done .ensures)) in
     let f = lt-ltb 0 (getD (a .left .now) (a .line) 0) (omega arith) in
     (sym (rw (e, f)), sym (rw e))
 
@@ -53,8 +51,7 @@ pub is-kept-spec : {M : Type 1} → statement M
 is-kept-spec =
     tie.close
     (tie.spec
-    mul-if1
-    shared-slice-read-if1
+    flush-done-requires
     returns
     slice-read-more
     returns-2

@@ -1,29 +1,29 @@
 -- `replay`: what is kept of the commands left, made over what is there, is what is kept of all.
 -- Assumes nothing.
-use Prim.Native.Nat.{ℕ, _*_, _≤_, _<_}
+use Prim.Native.Nat.{ℕ, _*_, _/_, _≤_, _<_}
 use mathlib.Core.Path.{_≡_, refl, sym, ap, _∙_}
 use mathlib.Core.Bool.{true}
 use native.Mathlib.Omega.{arith}
 use lib.ListN.{length, getD, take, drop}
 use Rattle.device.specs.Tape.{isCommand, decode, wellFormed}
 use Rattle.device.specs.Cut.{after, kept, cutImage}
-use Rattle.device.specs.Counts.{flushEnd}
+use Rattle.device.specs.Counts.{finished, flushDone}
 use Rattle.device.proofs.Decode.{StoreAt, QuietAt, more-at, good-command, word-at, line-at, quiet-at, head-at, store-good, quiet-good}
-use Rattle.device.proofs.Counts.{finished, finished-first, Noted, noted-start}
+use Rattle.device.proofs.Counts.{Noted, noted-start}
 use Rattle.device.proofs.Turns.{replay-store, replay-quiet, noted-past-store, noted-past-quiet}
 use Rattle.device.proofs.replay.Statement.{statement}
 use Rattle.device.proofs.replay.Tie as tie
 
 abbrev Inv-loop : tie.InvT-loop
-Inv-loop work₀ left₀ last tape c at₀ todo₀ work left at todo =
+Inv-loop work₀ left₀ flushes fence tape c at₀ todo₀ work left at todo =
     (at ≤ length tape) × (length work ≡ length work₀) × (length left ≡ length left₀)
     × (wellFormed (decode (length work₀) (drop at tape)) ≡ true)
     × (todo ≤ length (decode (length work₀) (drop at tape)))
-    × ((l : ℕ) → Noted last at (finished (take todo (decode (length work₀) (drop at tape)))) l)
+    × ((l : ℕ) → l < length flushes / 2 → Noted (flushDone flushes fence l) at (finished (take todo (decode (length work₀) (drop at tape)))) l)
     × (after work (kept (λ l. getD left l 0) (take todo (decode (length work₀) (drop at tape)))) ≡ cutImage work₀ (λ l. getD left₀ l 0) c (decode (length work₀) tape))
 
 abbrev μ-loop : tie.MeasureT-loop
-μ-loop work₀ left₀ last tape c at₀ todo₀ work left at todo = todo
+μ-loop work₀ left₀ flushes fence tape c at₀ todo₀ work left at todo = todo
 
 loop-holds : tie.Need-loop-holds Inv-loop μ-loop
 unfolding cutImage
@@ -31,7 +31,7 @@ loop-holds c =
     let s = c .before .before .before .before in
     let a = s .args in
     let cs = decode (length (a .work .now)) (a .tape .now) in
-    (omega arith, refl, refl, s .pre .1 .0 .0, s .pre .1 .0 .1, λ l. noted-start (a .last .now) (finished (take (a .c) cs)) l (s .pre .1 .1 l ∙ ap (flushEnd l 0) (sym (finished-first (a .c) cs))), refl)
+    (omega arith, refl, refl, s .pre .1 .0 .0, s .pre .1 .0 .1, λ l h. noted-start (flushDone (a .flushes .now) (a .fence) l) (finished (take (a .c) cs)) l (s .pre .1 .1 l h), refl)
 
 -- bytes are left where commands are
 more : (c : tie.In-loop Inv-loop μ-loop) → c .before .loop .at < length (c .before .before .before .before .before .before .args .tape .now)
@@ -86,8 +86,8 @@ loop-again c =
       omega (arith, keep-word .kept .1),
       store-good _ _ _ _ _ k (l .inv .3),
       omega (arith, ap length (k .next)),
-      noted-past-store (length (s .args .work .now)) (s .args .tape .now) (l .at) (l .todo) (loop-test .taken) (s .args .last .now) (l .inv .5) _ _ k,
-      replay-store (length (s .args .work .now)) (s .args .tape .now) (l .at) (l .todo) (loop-test .taken) (s .args .last .now) (l .inv .5) _ _ k _ (l .work) (l .left) _ _ (omega arith) (l .inv .1) (omega arith) (keep-word .ensures) ∙ l .inv .6,
+      noted-past-store (length (s .args .work .now)) (s .args .tape .now) (l .at) (l .todo) (loop-test .taken) (length (s .args .flushes .now) / 2) (flushDone (s .args .flushes .now) (s .args .fence)) (l .inv .5) _ _ k,
+      replay-store (length (s .args .work .now)) (s .args .tape .now) (l .at) (l .todo) (loop-test .taken) (length (s .args .flushes .now) / 2) (flushDone (s .args .flushes .now) (s .args .fence)) (l .inv .5) _ _ k _ (l .work) (l .left) _ _ (omega arith) (l .inv .1) (omega arith) (omega arith) (keep-word .ensures) ∙ l .inv .6,
     )
 
 keep-line-requires : tie.Need-keep-line-requires Inv-loop μ-loop
@@ -114,8 +114,8 @@ loop-again-2 c =
       omega (arith, keep-line .kept .1),
       store-good _ _ _ _ _ k (l .inv .3),
       omega (arith, ap length (k .next)),
-      noted-past-store (length (s .args .work .now)) (s .args .tape .now) (l .at) (l .todo) (loop-test .taken) (s .args .last .now) (l .inv .5) _ _ k,
-      replay-store (length (s .args .work .now)) (s .args .tape .now) (l .at) (l .todo) (loop-test .taken) (s .args .last .now) (l .inv .5) _ _ k _ (l .work) (l .left) _ _ (omega arith) (l .inv .1) (omega arith) (keep-line .ensures) ∙ l .inv .6,
+      noted-past-store (length (s .args .work .now)) (s .args .tape .now) (l .at) (l .todo) (loop-test .taken) (length (s .args .flushes .now) / 2) (flushDone (s .args .flushes .now) (s .args .fence)) (l .inv .5) _ _ k,
+      replay-store (length (s .args .work .now)) (s .args .tape .now) (l .at) (l .todo) (loop-test .taken) (length (s .args .flushes .now) / 2) (flushDone (s .args .flushes .now) (s .args .fence)) (l .inv .5) _ _ k _ (l .work) (l .left) _ _ (omega arith) (l .inv .1) (omega arith) (omega arith) (keep-line .ensures) ∙ l .inv .6,
     )
 
 add-at-3 : tie.Need-add-at-3 Inv-loop μ-loop
@@ -138,8 +138,8 @@ loop-again-3 c =
       l .inv .2,
       quiet-good _ _ _ _ k (l .inv .3),
       omega (arith, ap length (k .next)),
-      noted-past-quiet (length (s .args .work .now)) (s .args .tape .now) (l .at) (l .todo) (loop-test .taken) (s .args .last .now) (l .inv .5) _ k,
-      replay-quiet (length (s .args .work .now)) (s .args .tape .now) (l .at) (l .todo) (loop-test .taken) (s .args .last .now) (l .inv .5) _ k (l .work) (l .left) ∙ l .inv .6,
+      noted-past-quiet (length (s .args .work .now)) (s .args .tape .now) (l .at) (l .todo) (loop-test .taken) (length (s .args .flushes .now) / 2) (flushDone (s .args .flushes .now) (s .args .fence)) (l .inv .5) _ k,
+      replay-quiet (length (s .args .work .now)) (s .args .tape .now) (l .at) (l .todo) (loop-test .taken) (length (s .args .flushes .now) / 2) (flushDone (s .args .flushes .now) (s .args .fence)) (l .inv .5) _ k (l .work) (l .left) ∙ l .inv .6,
     )
 
 same-length : tie.Need-same-length Inv-loop μ-loop

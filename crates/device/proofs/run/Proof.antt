@@ -41,8 +41,8 @@ returns-2 c =
     let s = said (runCall (a .image .now) (a .work .now) (a .tape .now)) (refused 2 (a .work .now)) (holds _ _ _ _ (sized (c .before .before)) ∙ fails _ _ _ _ (ne-eqb _ _ (c .before .if2 .taken))) in
     (ap Refused (c .of2 .ensures) ∙ s .0, s .1)
 
-judge-requires : tie.Need-judge-requires
-judge-requires c κs = search needs
+count-commands-requires : tie.Need-count-commands-requires
+count-commands-requires c κs = search needs
 
 enum-told : tie.Need-enum-told
 enum-told c = search needs
@@ -55,7 +55,7 @@ enum-told-2 c = search needs
 
 -- the tape is well formed
 formed : (c : tie.After-enum-told2) → wellFormed (decode (length (c .before .before .before .before .before .before .before .before .before .args .image .now)) (c .before .before .before .before .before .before .before .before .before .args .tape .now)) ≡ true
-formed c = scanned-commands 0 _ _ _ (sym (c .before .before .judge .ensures) ∙ c .enum-told2 .given .1) .0
+formed c = scanned-commands _ _ (sym (c .before .before .count-commands .ensures) ∙ c .enum-told2 .given .1) .0
 
 copy-all-requires : tie.Need-copy-all-requires
 copy-all-requires c κs = (c .before .before .before .before .if2 .left, image-size-le _ (sized (c .before .before .before .before .before)))
@@ -67,7 +67,7 @@ returns-3 : tie.Need-returns-3
 unfolding runCall
 returns-3 c =
     let a = c .before .before .before .before .before .before .before .before .before .before .args in
-    let s = said (runCall (a .image .now) (a .work .now) (a .tape .now)) (refused 14 (a .work .now)) (holds _ _ _ _ (sized (c .before .before .before .before .before)) ∙ holds _ _ _ _ (eq-eqb _ _ (c .before .before .before .before .if2 .left)) ∙ fails _ _ _ _ (scanned-broken 0 _ (sym (c .before .before .before .judge .ensures) ∙ c .before .enum-told .given .1))) in
+    let s = said (runCall (a .image .now) (a .work .now) (a .tape .now)) (refused 14 (a .work .now)) (holds _ _ _ _ (sized (c .before .before .before .before .before)) ∙ holds _ _ _ _ (eq-eqb _ _ (c .before .before .before .before .if2 .left)) ∙ fails _ _ _ _ (scanned-broken _ (sym (c .before .before .before .count-commands .ensures) ∙ c .before .enum-told .given .1))) in
     (ap Refused (c .of3 .ensures) ∙ s .0, s .1)
 
 same-length : tie.Need-same-length
@@ -90,7 +90,7 @@ run-spec =
     returns
     of-requires-2
     returns-2
-    judge-requires
+    count-commands-requires
     enum-told
     of-requires-3
     enum-told-2

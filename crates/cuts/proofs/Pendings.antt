@@ -67,23 +67,22 @@ unflusheds lines cs = eachLine (λ m. unflushed m cs) 0 lines
 pub pendings-none : (lines : ℕ) (zs : List ℕ) → length zs ≡ lines → ((l : ℕ) → getD zs l 0 ≡ 0) → (zs ≡ pendings 0 lines []) × (zs ≡ unflusheds lines [])
 pendings-none lines zs n h = (each-is (λ m. pending m []) lines zs n (λ l k. h l ∙ sym (pending-nil l)), each-is (λ m. unflushed m []) lines zs n (λ l k. h l ∙ sym (unflushed-nil l)))
 
+-- a line's number is no more than so many, and past the lines it is 0
+each-few : (f : ℕ → ℕ) (lines l most : ℕ) → (l < lines → f l ≤ most) → getD (eachLine f 0 lines) l 0 ≤ most
+each-few f lines l most h = go (ltb l lines) refl
+  where
+    go : (b : Bool) → ltb l lines ≡ b → getD (eachLine f 0 lines) l 0 ≤ most
+    go true e = let k = ltb-true l lines e in omega (arith, getD-each f lines l k, h k)
+    go false e = omega (arith, List·getD-eq-default (eachLine f 0 lines) 0 {n = l} (omega (arith, ltb-false l lines e, length-each f lines 0)))
+
 -- no line has more that are not flushed than are pending
 pub fewer-unflushed : (lines : ℕ) (cs : List Op) (l : ℕ) → getD (unflusheds lines cs) l 0 ≤ getD (pendings 0 lines cs) l 0
-fewer-unflushed lines cs l = go (ltb l lines) refl
-  where
-    go : (b : Bool) → ltb l lines ≡ b → getD (unflusheds lines cs) l 0 ≤ getD (pendings 0 lines cs) l 0
-    go true e =
-        let h = ltb-true l lines e in
-        omega (arith, getD-pendings lines l cs h, getD-each (λ m. unflushed m cs) lines l h, unflushed-pending l cs)
-    go false e = omega (arith, List·getD-eq-default (unflusheds lines cs) 0 {n = l} (omega (arith, ltb-false l lines e, length-each (λ m. unflushed m cs) lines 0)))
+fewer-unflushed lines cs l =
+    each-few (λ m. unflushed m cs) lines l (getD (pendings 0 lines cs) l 0) (λ h. omega (arith, getD-pendings lines l cs h, unflushed-pending l cs))
 
 -- and none more that are pending than there are commands
 pub line-few : (lines : ℕ) (cs : List Op) (l : ℕ) → getD (pendings 0 lines cs) l 0 ≤ length cs
-line-few lines cs l = go (ltb l lines) refl
-  where
-    go : (b : Bool) → ltb l lines ≡ b → getD (pendings 0 lines cs) l 0 ≤ length cs
-    go true e = omega (arith, getD-pendings lines l cs (ltb-true l lines e), pending-le l cs)
-    go false e = omega (arith, List·getD-eq-default (pendings 0 lines cs) 0 {n = l} (omega (arith, ltb-false l lines e, length-pendings lines 0 cs)))
+line-few lines cs l = each-few (λ m. pending m cs) lines l (length cs) (λ h. pending-le l cs)
 
 -- ---- after one more command
 

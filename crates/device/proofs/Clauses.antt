@@ -2,11 +2,12 @@
 -- Assumes nothing.
 use Prim.Native.Nat.{ℕ, suc}
 use mathlib.Core.Path.{_≡_, refl}
-use mathlib.Core.Bool.{true, false, _||_}
+use mathlib.Core.Bool.{true, false, _&&_, _||_}
 use mathlib.Core.List.{List, [], _∷_}
 use lib.Seq.{sets}
+use lib.Dec.{eqb}
 use borrow.Author.Tests.{eq-eqb}
-use Rattle.device.specs.Tape.{Op, store, flush, barrier, wellFormed, howMany, flushCount, barrierCount}
+use Rattle.device.specs.Tape.{Op, store, flush, barrier, wellFormed, isBarrier, howMany, flushCount, barrierCount}
 use Rattle.device.specs.Cut.{after, lineOf, flushesLine, some, durable, hits, touches, stores, Closed}
 
 pub after-nil : (image : List ℕ) → after image [] ≡ image
@@ -79,6 +80,15 @@ module _ (m : ℕ) (cs : List Op) where
   unfolding howMany
   flushCount-flush = refl
 
+  pub durable-flush : (l : ℕ) → durable l (flush m ∷ cs) ≡ ((eqb m l && some isBarrier cs) || durable l cs)
+  unfolding durable
+  durable-flush l = refl
+
+  -- "a barrier waits for it"
+  pub durable-here : durable m (flush m ∷ barrier ∷ cs) ≡ true
+  unfolding durable some
+  durable-here = rw (eq-eqb m m refl)
+
   pub flushed-here : some (flushesLine m) (flush m ∷ cs) ≡ true
   unfolding some
   flushed-here = rw (eq-eqb m m refl)
@@ -112,6 +122,10 @@ module _ (cs : List Op) where
   pub barrierCount-barrier : barrierCount (barrier ∷ cs) ≡ suc (barrierCount cs)
   unfolding howMany
   barrierCount-barrier = refl
+
+  pub durable-past : (l : ℕ) → durable l (barrier ∷ cs) ≡ durable l cs
+  unfolding durable
+  durable-past l = refl
 
   pub touches-barrier : (i : ℕ) → touches (barrier ∷ cs) i ≡ touches cs i
   unfolding touches

@@ -32,11 +32,6 @@ pub barrier-early : (l m : ℕ) → durable l (barrier ∷ flush m ∷ []) ≡ f
 unfolding durable
 barrier-early l m = flush-alone l m
 
--- "a barrier waits for it"
-pub flush-barrier : (l : ℕ) → durable l (flush l ∷ barrier ∷ []) ≡ true
-unfolding durable some
-flush-barrier l = rw (eq-eqb l l refl)
-
 -- so there are two commands at least
 pub durable-long : (l : ℕ) (cs : List Op) → durable l cs ≡ true → 2 ≤ length cs
 unfolding durable some

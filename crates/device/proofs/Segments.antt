@@ -10,14 +10,14 @@ use lib.ListN.{length, getD, take, drop, length-take, length-drop}
 use lib.Seq.{sets, length-sets, take-append-le, take-append-add, take-nil, ext-getD}
 use lib.Dec.{ltb, leb}
 use borrow.Author.Tests.{leb-true, leb-false, ltb-true, ltb-false, le-leb, lt-leb, le-ltb}
-use Rattle.codec.specs.Lists.{pick}
-use Rattle.codec.proofs.Tests.{first, second}
+use Rattle.codec.specs.Lists.{pick, All}
+use Rattle.codec.proofs.Tests.{first, second, All-map}
 use Rattle.codec.proofs.Lists.{sets-apart, sets-both}
 use Rattle.codec.proofs.Agree.{or-left, or-right}
 use Rattle.device.specs.Tape.{Op, store, flush, barrier, malformed}
-use Rattle.device.specs.Cut.{apply, after, lineOf, durable, less, consIf, kept, cutImage, hits, touches, Closed}
+use Rattle.device.specs.Cut.{apply, after, lineOf, durable, less, consIf, kept, cutImage, hits, touches, Closed, IfStore, Sealed}
 use Rattle.device.proofs.Cuts.{length-after, kept-durable}
-use Rattle.device.proofs.Durable.{durable-long, durable-first}
+use Rattle.device.proofs.Durable.{durable-long, durable-first, durable-second}
 
 -- ---- bytes that no store touches
 
@@ -131,6 +131,29 @@ closed-append (store p vs ∷ a) b c d = (durable-first (lineOf p) a b (c .0), c
 closed-append (flush l ∷ a) b c d = closed-append a b c d
 closed-append (barrier ∷ a) b c d = closed-append a b c d
 closed-append (malformed ∷ a) b c d = closed-append a b c d
+
+-- what is so of every stored line, wherever something else is
+pub if-store : (t u : ℕ → Bool) → ((l : ℕ) → t l ≡ true → u l ≡ true) → (cs : List Op) → All (IfStore t) cs → All (IfStore u) cs
+if-store t u h cs = All-map (IfStore t) (IfStore u) go cs
+  where
+    go : (o : Op) → IfStore t o → IfStore u o
+    go (store p vs) e = h (lineOf p) e
+    go (flush l) e = tt
+    go barrier e = tt
+    go malformed e = tt
+
+-- stores, and then a list that makes them durable
+pub sealed-closed : (a b : List Op) → Sealed a b → Closed b → Closed (a ++ b)
+unfolding Closed
+sealed-closed [] b s c = c
+sealed-closed (store p vs ∷ a) b s c = (durable-second (lineOf p) a b (s .0), sealed-closed a b (s .1) c)
+sealed-closed (flush l ∷ a) b s c = sealed-closed a b (s .1) c
+sealed-closed (barrier ∷ a) b s c = sealed-closed a b (s .1) c
+sealed-closed (malformed ∷ a) b s c = sealed-closed a b (s .1) c
+
+-- more commands before it do no harm
+pub sealed-more : (a b d : List Op) → Sealed a d → Sealed a (b ++ d)
+sealed-more a b d s = if-store (λ l. durable l d) (λ l. durable l (b ++ d)) (λ l. durable-second l b d) a s
 
 -- stores that are durable are all kept, and what follows is kept as if it stood alone
 kept-closed : (image : List ℕ) (f : ℕ → ℕ) (a b : List Op) → Closed a → after image (kept f (a ++ b)) ≡ after (after image a) (kept f b)

@@ -15,11 +15,11 @@ use Rattle.codec.proofs.Tests.{both}
 use Rattle.codec.proofs.Lists.{sets-apart, getD-part}
 use Rattle.codec.proofs.Agree.{or-left, or-right, neither, part-agree, part-sets}
 use Rattle.device.specs.Tape.{Op, store, flush, barrier, malformed, howMany, flushCount, barrierCount}
-use Rattle.device.specs.Cut.{after, lineOf, flushesLine, some, durable, hits, touches, Closed, stores, To, IsFlush, Quiet, FlushedBy, Flushing, withBarrier, Writes}
+use Rattle.device.specs.Cut.{after, lineOf, flushesLine, some, durable, hits, touches, Closed, stores, To, IsFlush, Quiet, FlushedBy, Sealed, Flushing, withBarrier, Writes}
 use Rattle.device.proofs.Clauses.{flushed-here}
-use Rattle.device.proofs.Durable.{durable-second, durable-barrier}
+use Rattle.device.proofs.Durable.{some-append, durable-barrier}
 use Rattle.device.proofs.Cuts.{length-after, after-stores, flushCount-append, barrierCount-append}
-use Rattle.device.proofs.Segments.{out-hits, touches-append, in-hits, hits-out}
+use Rattle.device.proofs.Segments.{out-hits, touches-append, if-store, sealed-closed, in-hits, hits-out}
 use Rattle.device.proofs.Stores.{stores-append, touches-stores, storeless-closed}
 
 -- ---- which bytes a store writes
@@ -88,21 +88,22 @@ group-flushes (o ∷ ys) = flushCount-append (o ∷ ys) (barrier ∷ []) ∙ add
 pub flushing-none : Flushing [] []
 flushing-none = record { flushes = tt; covers = tt }
 
-flushed-more : (o : Op) (xs ys : List Op) → All (FlushedBy ys) xs → All (FlushedBy (o ∷ ys)) xs
-unfolding some
-flushed-more o [] ys h = tt
-flushed-more o (store p vs ∷ xs) ys h = (rw (h .0) (or-true (flushesLine (lineOf p) o)), flushed-more o xs ys (h .1))
-flushed-more o (flush l ∷ xs) ys h = (tt, flushed-more o xs ys (h .1))
-flushed-more o (barrier ∷ xs) ys h = (tt, flushed-more o xs ys (h .1))
-flushed-more o (malformed ∷ xs) ys h = (tt, flushed-more o xs ys (h .1))
-
 -- one flush more
 pub flushing-flush : (m : ℕ) (xs ys : List Op) → Flushing xs ys → Flushing xs (flush m ∷ ys)
-flushing-flush m xs ys f = record { flushes = (tt, f .flushes); covers = flushed-more (flush m) xs ys (f .covers) }
+flushing-flush m xs ys f =
+    record { flushes = (tt, f .flushes); covers = if-store (λ l. some (flushesLine l) ys) (λ l. some (flushesLine l) (flush m ∷ ys)) more xs (f .covers) }
+  where
+    more : (l : ℕ) → some (flushesLine l) ys ≡ true → some (flushesLine l) (flush m ∷ ys) ≡ true
+    more l e = some-append (flushesLine l) (flush m ∷ []) ys ∙ rw e (or-true (some (flushesLine l) (flush m ∷ [])))
 
 -- one command more before them, that they flush
 pub flushing-past : (o : Op) (xs ys : List Op) → FlushedBy ys o → Flushing xs ys → Flushing (o ∷ xs) ys
 flushing-past o xs ys h f = record { flushes = f .flushes; covers = (h, f .covers) }
+
+-- one store more, and its flush
+pub flushing-next : (p : ℕ) (vs : List ℕ) (l : ℕ) (xs ys : List Op) → lineOf p ≡ l → Flushing xs ys → Flushing (store p vs ∷ xs) (flush l ∷ ys)
+flushing-next p vs l xs ys e f =
+    flushing-past (store p vs) xs (flush l ∷ ys) (ap (λ (m : ℕ). some (flushesLine m) (flush l ∷ ys)) e ∙ flushed-here l ys) (flushing-flush l xs ys f)
 
 quiet-storeless : (ys : List Op) → All Quiet ys → stores ys ≡ []
 unfolding stores
@@ -130,20 +131,16 @@ unfolding some
 group-durable l [] e = absurd (false≢true e)
 group-durable l (o ∷ ys) e = durable-barrier l (o ∷ ys) ∙ e
 
-group-closed : (xs ys : List Op) → All (FlushedBy ys) xs → All IsFlush ys → Closed (xs ++ withBarrier ys)
-unfolding Closed
-group-closed [] ys h k = storeless-closed (withBarrier ys) (quiet-storeless (withBarrier ys) (group-quiet ys k))
-group-closed (store p vs ∷ xs) ys h k = (durable-second (lineOf p) xs (withBarrier ys) (group-durable (lineOf p) ys (h .0)), group-closed xs ys (h .1) k)
-group-closed (flush l ∷ xs) ys h k = group-closed xs ys (h .1) k
-group-closed (barrier ∷ xs) ys h k = group-closed xs ys (h .1) k
-group-closed (malformed ∷ xs) ys h k = group-closed xs ys (h .1) k
+group-sealed : (xs ys : List Op) → All (FlushedBy ys) xs → Sealed xs (withBarrier ys)
+group-sealed xs ys h = if-store (λ l. some (flushesLine l) ys) (λ l. durable l (withBarrier ys)) (λ l. group-durable l ys) xs h
 
 module _ (xs ys : List Op) (f : Flushing xs ys) where
   pub flushing-quiet : All Quiet (withBarrier ys)
   flushing-quiet = group-quiet ys (f .flushes)
 
   pub flushing-closed : Closed (xs ++ withBarrier ys)
-  flushing-closed = group-closed xs ys (f .covers) (f .flushes)
+  flushing-closed =
+      sealed-closed xs (withBarrier ys) (group-sealed xs ys (f .covers)) (storeless-closed (withBarrier ys) (quiet-storeless (withBarrier ys) flushing-quiet))
 
   pub flushing-stores : stores (xs ++ withBarrier ys) ≡ stores xs
   flushing-stores = stores-append xs (withBarrier ys) ∙ ap (λ (r : List Op). stores xs ++ r) (quiet-storeless (withBarrier ys) flushing-quiet) ∙ append-nil (stores xs)

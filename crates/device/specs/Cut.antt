@@ -155,12 +155,24 @@ Quiet (flush l) = Unit {0}
 Quiet barrier = Unit {0}
 Quiet malformed = ⊥
 
+-- if it is a store, its line is so
+abbrev pub IfStore : (ℕ → Bool) → Op → Type 0
+IfStore test (store p vs) = test (lineOf p) ≡ true
+IfStore test (flush l) = Unit {0}
+IfStore test barrier = Unit {0}
+IfStore test malformed = Unit {0}
+
+-- if it is a store, it is durable once ys are done
+abbrev pub DurableBy : List Op → Op → Type 0
+DurableBy ys o = IfStore (λ l. durable l ys) o
+
 -- if it is a store, one of ys flushes its line
 abbrev pub FlushedBy : List Op → Op → Type 0
-FlushedBy ys (store p vs) = some (flushesLine (lineOf p)) ys ≡ true
-FlushedBy ys (flush l) = Unit {0}
-FlushedBy ys barrier = Unit {0}
-FlushedBy ys malformed = Unit {0}
+FlushedBy ys o = IfStore (λ l. some (flushesLine l) ys) o
+
+-- every store of the first list is durable once the second is done
+abbrev pub Sealed : List Op → List Op → Type 0
+Sealed cs ds = All (DurableBy ds) cs
 
 -- ys are flushes, and flush all that xs store
 pub record Flushing (xs ys : List Op) : Type 0 where

@@ -14,8 +14,7 @@ use Rattle.codec.specs.Numbers.{bytesOf}
 use Rattle.codec.proofs.Agree.{or-left, or-right}
 use Rattle.device.specs.Tape.{Op, store, flush, barrier, malformed, Writable}
 use Rattle.device.specs.Cut.{hits, touches, durable, lineOf}
-use Rattle.device.proofs.Clauses.{touches-store, touches-flush, touches-barrier}
-use Rattle.device.proofs.Durable.{flush-barrier, durable-first}
+use Rattle.device.proofs.Clauses.{touches-store, touches-flush, touches-barrier, durable-here}
 use Rattle.device.proofs.Segments.{durable-two}
 use Rattle.image.specs.PageZero.{rootOf, markBytes}
 use Rattle.image.specs.Image.{sound}
@@ -77,7 +76,7 @@ module _ (n : ℕ) (place : CommitPlace) (cs bef : List Op) (vs : List ℕ) (res
       ap₂ (λ (m i : ℕ). durable (lineOf o) (drop (suc m) (take i cs))) found q
       ∙ ap (λ (t : List Op). durable (lineOf o) (drop (suc (length bef)) (take (length bef + suc (suc (suc d))) t))) shape
       ∙ ap (durable (lineOf o)) (past-command bef (store o vs) (flush (lineOf o) ∷ barrier ∷ rest) (suc (suc d)))
-      ∙ durable-first (lineOf o) (flush (lineOf o) ∷ barrier ∷ []) (take d rest) (flush-barrier (lineOf o))
+      ∙ durable-here (lineOf o) (take d rest)
 
   pub stands : CommitStands place cs
   stands =

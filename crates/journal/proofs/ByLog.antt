@@ -16,8 +16,8 @@ use Rattle.codec.proofs.Lists.{sets-apart, length-splice}
 use Rattle.codec.proofs.Numbers.{length-bytesOf}
 use Rattle.codec.proofs.Agree.{part-sets, part-agree}
 use Rattle.device.specs.Tape.{Op, store, flush, barrier}
-use Rattle.device.specs.Cut.{after, some, durable, touches, stores, withBarrier, Writes}
-use Rattle.device.proofs.Clauses.{after-nil, after-store}
+use Rattle.device.specs.Cut.{after, durable, touches, stores, withBarrier, Writes}
+use Rattle.device.proofs.Clauses.{after-nil, after-store, durable-here}
 use Rattle.device.proofs.Cuts.{length-after, after-append, after-stores}
 use Rattle.device.proofs.Segments.{run-other, closed-append}
 use Rattle.device.proofs.Writing.{writes-at, writes-after, writes-move, own-storeless, flushing-quiet, quiet-write, touches-both, touches-left, touches-right, untouched-first, untouched-rest}
@@ -59,8 +59,8 @@ mark-storeless = own-storeless 0
 
 -- the mark is durable before the headers are stored
 mark-durable : durable 0 markFlush ≡ true
-unfolding markFlush durable some
-mark-durable = refl
+unfolding markFlush
+mark-durable = durable-here 0 []
 
 mark-own : markFlush ≡ flush 0 ∷ barrier ∷ []
 unfolding markFlush

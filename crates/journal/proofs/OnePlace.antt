@@ -15,8 +15,7 @@ use Rattle.codec.proofs.Numbers.{length-bytesOf}
 use Rattle.codec.proofs.Agree.{agree-part}
 use Rattle.device.specs.Tape.{Op, store, flush}
 use Rattle.device.specs.Cut.{after, lineOf, durable, touches, withBarrier, Writes}
-use Rattle.device.proofs.Clauses.{touches-nil}
-use Rattle.device.proofs.Durable.{flush-barrier}
+use Rattle.device.proofs.Clauses.{durable-here, touches-nil}
 use Rattle.device.proofs.Writing.{own-storeless, writes-after, touches-left, touches-right, untouched-first, touches-out}
 use Rattle.page.specs.Layout.{pageSize}
 use Rattle.image.specs.PageZero.{rootOf, noMark}
@@ -76,7 +75,7 @@ module _ (a w : List ℕ) (s : sound a ≡ true) (d : Edited a w) where
                 bytes = vs;
                 wait = withBarrier (flush l ∷ []);
                 noStore = own-storeless l;
-                isDurable = ap (λ (m : ℕ). durable m (withBarrier (flush l ∷ []))) (sym isLine) ∙ flush-barrier l;
+                isDurable = ap (λ (m : ℕ). durable m (withBarrier (flush l ∷ []))) (sym isLine) ∙ durable-here l [];
                 rest = [];
                 commits = inl (one, refl);
                 shape = tape;

@@ -11,9 +11,11 @@ use lib.Dec.{eqb}
 use borrow.Author.Tests.{eq-eqb, ne-eqb, eqb-true}
 use Rattle.codec.specs.Lists.{pick, splice}
 use Rattle.codec.proofs.Lists.{splice-sets, sets-append}
-use Rattle.device.specs.Tape.{Op, extent, wordBytes, lineBytes, flushBytes, barrierBytes, commandBytes, tapeBytes, store, flush, barrier}
+use Rattle.device.specs.Tape.{Op, extent, flushCount, wordBytes, lineBytes, flushBytes, barrierBytes, commandBytes, tapeBytes, store, flush, barrier}
 use Rattle.device.specs.Cut.{withBarrier}
 use Rattle.device.proofs.Encode.{length-commandBytes, tapeBytes-append}
+use Rattle.device.proofs.Cuts.{flushCount-append}
+use Rattle.device.proofs.Writing.{group-flushes}
 use Rattle.tape_write.specs.Lines.{closing}
 use Rattle.tape_write.specs.Sizes.{groupBytes}
 
@@ -123,10 +125,25 @@ closing-size n = go (eqb n 0) refl
     go true e = omega (arith, eqb-true n 0 e, length-none)
     go false e = omega (arith, length-next barrier [], length-none)
 
-pub group-is : (ys : List Op) (n : ℕ) → length ys ≡ n → withBarrier ys ≡ ys ++ closing n
+group-is : (ys : List Op) (n : ℕ) → length ys ≡ n → withBarrier ys ≡ ys ++ closing n
 unfolding closing
 group-is [] n e = rw (eq-eqb n 0 (sym e))
 group-is (o ∷ ys) n e = rw (ne-eqb n 0 (λ q. omega arith))
+
+-- stores, their n flushes and the barrier: the bytes, the flushes, and the three writers one behind the other
+module _ (S F : List Op) (n : ℕ) (count : length F ≡ n) (size : length (tapeBytes F) ≡ 4 * n) where
+  pub group-size : length (tapeBytes (S ++ withBarrier F)) ≡ length (tapeBytes S) + groupBytes n
+  group-size =
+      length-tapes S (withBarrier F) ∙ omega (arith, ap (λ (cs : List Op). length (tapeBytes cs)) (group-is F n count), length-tapes F (closing n), size, closing-size n)
+
+  pub group-count : flushCount (S ++ withBarrier F) ≡ flushCount S + flushCount F
+  group-count = flushCount-append S (withBarrier F) ∙ ap (λ (k : ℕ). flushCount S + k) (group-flushes F)
+
+  pub group-chain : (t t₁ t₂ t₃ : List ℕ) (at flushes : ℕ) → flushes ≡ at + length (tapeBytes S) → t₁ ≡ sets t at (tapeBytes S) → t₂ ≡ sets t₁ flushes (tapeBytes F) →
+      t₃ ≡ sets t₂ (flushes + 4 * n) (tapeBytes (closing n)) → t₃ ≡ sets t at (tapeBytes (S ++ withBarrier F))
+  group-chain t t₁ t₂ t₃ at flushes m e f g =
+      tape-then t t₁ t₃ at flushes S (F ++ closing n) e m (tape-then t₁ t₂ t₃ flushes (flushes + 4 * n) F (closing n) f (omega (arith, size)) g)
+      ∙ ap (λ (cs : List Op). sets t at (tapeBytes (S ++ cs))) (sym (group-is F n count))
 
 pub group-few : (n : ℕ) → groupBytes n ≤ 4 * n + 4
 unfolding groupBytes

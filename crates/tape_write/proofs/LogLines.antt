@@ -15,7 +15,6 @@ use Rattle.device.specs.Tape.{Op, howMany, flushCount, flushBytes, tapeBytes, f
 use Rattle.device.specs.Cut.{withBarrier}
 use Rattle.device.proofs.Clauses.{flushCount-nil}
 use Rattle.device.proofs.Cuts.{flushCount-append}
-use Rattle.device.proofs.Writing.{group-flushes}
 use Rattle.page.specs.Layout.{pageSize, lineSize}
 use Rattle.image.proofs.General.{part-part}
 use Rattle.journal.specs.Way.{lineBy}
@@ -25,7 +24,7 @@ use Rattle.journal.specs.declared.Way.{Way}
 use Rattle.journal.proofs.Headers.{Lines, lines-from}
 use Rattle.tape_write.specs.Lines.{lineFor, lineStores, lineFlushes, lineTape, closing}
 use Rattle.tape_write.specs.Sizes.{linesBytes, groupBytes}
-use Rattle.tape_write.proofs.Encoding.{flush-next, tape-append, tape-none, length-none, length-next, length-tapes, tape-then, closing-size, group-is}
+use Rattle.tape_write.proofs.Encoding.{flush-next, tape-append, tape-none, length-none, length-next, length-tapes, group-size, group-count, group-chain}
 use Rattle.tape_write.proofs.LineBytes.{lines-zero, lines-more, line-size, line-count}
 
 -- ---- the lines, one by one
@@ -177,23 +176,21 @@ module _ (way : Way) (own : Bool) (hs : List (List ℕ)) (k : ℕ) (lines : Line
   abbrev F : List Op
   F = lineFlushes own 1 hs
 
-  group-of : withBarrier F ≡ F ++ closing k
-  group-of = group-is F k (flushes-length own 1 hs ∙ count)
+  flush-count : length F ≡ k
+  flush-count = flushes-length own 1 hs ∙ count
+
+  flush-bytes : length (tapeBytes F) ≡ 4 * k
+  flush-bytes = omega (arith, flushes-size own 1 hs)
 
   stores-bytes : length (tapeBytes S) ≡ linesBytes way k
   stores-bytes = stores-size way own 1 hs lines ∙ ap (linesBytes way) count
 
   pub tape-size : length (tapeBytes (lineTape way own hs)) ≡ linesBytes way k + groupBytes k
-  tape-size =
-      length-tapes S (withBarrier F)
-      ∙ omega (arith, stores-bytes, ap (λ (cs : List Op). length (tapeBytes cs)) group-of, length-tapes F (closing k), flushes-size own 1 hs, closing-size k)
+  tape-size = group-size S F k flush-count flush-bytes ∙ omega (arith, stores-bytes)
 
   pub tape-flushes : flushCount (lineTape way own hs) ≡ k
-  tape-flushes = flushCount-append S (withBarrier F) ∙ omega (arith, stores-count way own 1 hs, group-flushes F, flushes-count own 1 hs)
+  tape-flushes = group-count S F k flush-count flush-bytes ∙ omega (arith, stores-count way own 1 hs, flushes-count own 1 hs)
 
-  -- the writers of the stores, of the flushes and of the barrier, one behind the other
   pub lines-chain : (t t₁ t₂ t₃ : List ℕ) (at flushes : ℕ) → flushes ≡ at + linesBytes way k → t₁ ≡ sets t at (tapeBytes S) → t₂ ≡ sets t₁ flushes (tapeBytes F) →
       t₃ ≡ sets t₂ (flushes + 4 * k) (tapeBytes (closing k)) → t₃ ≡ sets t at (tapeBytes (lineTape way own hs))
-  lines-chain t t₁ t₂ t₃ at flushes m e f g =
-      tape-then t t₁ t₃ at flushes S (F ++ closing k) e (omega (arith, stores-bytes)) (tape-then t₁ t₂ t₃ flushes (flushes + 4 * k) F (closing k) f (omega (arith, flushes-size own 1 hs)) g)
-      ∙ ap (λ (cs : List Op). sets t at (tapeBytes (S ++ cs))) (sym group-of)
+  lines-chain t t₁ t₂ t₃ at flushes m e f g = group-chain S F k flush-count flush-bytes t t₁ t₂ t₃ at flushes (omega (arith, stores-bytes)) e f g

@@ -16,15 +16,13 @@ use Rattle.codec.proofs.Tests.{All-map}
 use Rattle.codec.proofs.Lists.{length-part}
 use Rattle.device.specs.Tape.{Op, howMany, flushCount, wordBytes, tapeBytes, flush}
 use Rattle.device.specs.Cut.{withBarrier}
-use Rattle.device.proofs.Cuts.{flushCount-append}
-use Rattle.device.proofs.Writing.{group-flushes}
 use Rattle.page.specs.Layout.{lineSize}
 use Rattle.journal.specs.Changes.{wordSize, pageWords, lineWords, flushesFrom, flushesOf, stageA}
 use Rattle.tape_write.specs.Words.{storedWords, stageWords, WordIn, wordStore, linesPast, stageTape}
 use Rattle.tape_write.specs.Lines.{closing}
 use Rattle.tape_write.specs.Sizes.{groupBytes}
 use Rattle.tape_write.specs.Calls.{reachedIn, Images}
-use Rattle.tape_write.proofs.Encoding.{word-next, tape-none, length-none, length-next, length-tapes, tape-then, closing-size, group-is}
+use Rattle.tape_write.proofs.Encoding.{word-next, tape-none, length-none, length-next, group-size, group-count, group-chain}
 use Rattle.tape_write.proofs.StageWords.{walk-words, InWords, stored-in, stored-length}
 
 -- ---- the lines that words lie in
@@ -137,32 +135,23 @@ module _ (w ks : List ℕ) where
   abbrev F : List Op
   F = map flush (linesPast 0 ks)
 
-  group-of : withBarrier F ≡ F ++ closing (length (linesPast 0 ks))
-  group-of = group-is F (length (linesPast 0 ks)) (length-map (linesPast 0 ks) flush)
+  abbrev S : List Op
+  S = map (wordStore w) ks
+
+  flush-count : length F ≡ length (linesPast 0 ks)
+  flush-count = length-map (linesPast 0 ks) flush
 
   pub stage-size : All (WordIn w) ks → length (tapeBytes (stageTape w ks)) ≡ 12 * length ks + groupBytes (length (linesPast 0 ks))
-  stage-size h =
-      length-tapes (map (wordStore w) ks) (withBarrier F)
-      ∙ omega (
-        arith,
-        words-size w ks h,
-        ap (λ (cs : List Op). length (tapeBytes cs)) group-of,
-        length-tapes F (closing (length (linesPast 0 ks))),
-        lines-size (linesPast 0 ks),
-        closing-size (length (linesPast 0 ks)),
-      )
+  stage-size h = group-size S F (length (linesPast 0 ks)) flush-count (lines-size (linesPast 0 ks)) ∙ omega (arith, words-size w ks h)
 
   pub stage-flushes : flushCount (stageTape w ks) ≡ length (linesPast 0 ks)
-  stage-flushes = flushCount-append (map (wordStore w) ks) (withBarrier F) ∙ omega (arith, words-flushes w ks, group-flushes F, lines-flushes (linesPast 0 ks))
+  stage-flushes =
+      group-count S F (length (linesPast 0 ks)) flush-count (lines-size (linesPast 0 ks)) ∙ omega (arith, words-flushes w ks, lines-flushes (linesPast 0 ks))
 
-  -- the writers of the stores, of the flushes and of the barrier, one behind the other
-  pub stage-chain : (t t₁ t₂ t₃ : List ℕ) (n lines : ℕ) → All (WordIn w) ks → length ks ≡ n → lines ≡ length (linesPast 0 ks) → t₁ ≡ sets t 0 (tapeBytes (map (wordStore w) ks)) →
+  pub stage-chain : (t t₁ t₂ t₃ : List ℕ) (n lines : ℕ) → All (WordIn w) ks → length ks ≡ n → lines ≡ length (linesPast 0 ks) → t₁ ≡ sets t 0 (tapeBytes S) →
       t₂ ≡ sets t₁ (12 * n) (tapeBytes F) → t₃ ≡ sets t₂ (12 * n + 4 * lines) (tapeBytes (closing lines)) → t₃ ≡ sets t 0 (tapeBytes (stageTape w ks))
   stage-chain t t₁ t₂ t₃ n lines h count l e f g =
-      tape-then t t₁ t₃ 0 (12 * n) (map (wordStore w) ks) (F ++ closing lines) e (omega (arith, words-size w ks h))
-      (tape-then t₁ t₂ t₃ (12 * n) (12 * n + 4 * lines) F (closing lines) f (omega (arith, lines-size (linesPast 0 ks))) g)
-      ∙ ap (λ (m : ℕ). sets t 0 (tapeBytes (map (wordStore w) ks ++ (F ++ closing m)))) l
-      ∙ ap (λ (cs : List Op). sets t 0 (tapeBytes (map (wordStore w) ks ++ cs))) (sym group-of)
+      group-chain S F lines (flush-count ∙ sym l) (omega (arith, lines-size (linesPast 0 ks))) t t₁ t₂ t₃ 0 (12 * n) (omega (arith, words-size w ks h)) e f g
 
 -- ---- one store or flush more
 

@@ -15,6 +15,7 @@ use Rattle.codec.proofs.Lists.{part-whole}
 use Rattle.device.specs.Tape.{Op, store, flush, barrier, malformed, extent, isBarrier}
 use Rattle.device.specs.Cut.{flushesLine, some, durable}
 use Rattle.device.specs.Counts.{finished, flushEnd, flushDone, noteFlush, Tells}
+use Rattle.device.proofs.Durable.{one-alone}
 
 -- ---- lists
 
@@ -76,11 +77,7 @@ others o cs e = go (isBarrier o) e
 durable-none : (l : ℕ) (cs : List Op) → some isBarrier cs ≡ false → durable l cs ≡ false
 unfolding durable some
 durable-none l [] e = refl
-durable-none l (o ∷ cs) e = rw (others o cs e, durable-none l cs (others o cs e)) (go (flushesLine l o))
-  where
-    go : (f : Bool) → ((f && false) || false) ≡ false
-    go true = refl
-    go false = refl
+durable-none l (o ∷ cs) e = rw (others o cs e, durable-none l cs (others o cs e)) (one-alone l o)
 
 -- "once its line has been flushed after it and a barrier has come after that flush": a store is durable exactly if its line is flushed before the last barrier
 pub durable-finished : (l : ℕ) (cs : List Op) → durable l cs ≡ some (flushesLine l) (finished cs)

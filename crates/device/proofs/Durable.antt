@@ -8,7 +8,6 @@ use mathlib.Core.List.{List, [], _∷_, _++_}
 use mathlib.Core.Logic.{_⊎_, inl, inr}
 use native.Mathlib.Omega.{arith}
 use lib.ListN.{length}
-use lib.Dec.{eqb}
 use borrow.Author.Tests.{eq-eqb, eqb-true}
 use Rattle.codec.proofs.Tests.{first, second}
 use Rattle.codec.proofs.Agree.{either}
@@ -18,14 +17,18 @@ use Rattle.device.specs.Says.{Waited}
 
 -- ---- the shortest lists
 
--- "a flush [..] only starts the write-back"
-pub flush-alone : (l m : ℕ) → durable l (flush m ∷ []) ≡ false
+-- one command makes nothing durable
+pub one-alone : (l : ℕ) (o : Op) → durable l (o ∷ []) ≡ false
 unfolding durable some
-flush-alone l m = go (eqb m l)
+one-alone l o = go (flushesLine l o)
   where
     go : (b : Bool) → ((b && false) || false) ≡ false
     go true = refl
     go false = refl
+
+-- "a flush [..] only starts the write-back"
+pub flush-alone : (l m : ℕ) → durable l (flush m ∷ []) ≡ false
+flush-alone l m = one-alone l (flush m)
 
 -- "a barrier has come after that flush": not before it
 pub barrier-early : (l m : ℕ) → durable l (barrier ∷ flush m ∷ []) ≡ false
@@ -34,13 +37,9 @@ barrier-early l m = flush-alone l m
 
 -- so there are two commands at least
 pub durable-long : (l : ℕ) (cs : List Op) → durable l cs ≡ true → 2 ≤ length cs
-unfolding durable some
+unfolding durable
 durable-long l [] e = absurd (false≢true e)
-durable-long l (o ∷ []) e = absurd (false≢true (sym (go (flushesLine l o)) ∙ e))
-  where
-    go : (b : Bool) → ((b && false) || false) ≡ false
-    go true = refl
-    go false = refl
+durable-long l (o ∷ []) e = absurd (false≢true (sym (one-alone l o) ∙ e))
 durable-long l (o ∷ x ∷ cs) e = omega arith
 
 -- ---- exactly if: a flush of the line, and a barrier after it

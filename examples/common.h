@@ -19,7 +19,7 @@ static inline const char *words_of(uint8_t number)
         "more than 15 headers change", "the tape is too short", "the tape is malformed",
         "the cut is past the tape's end", "the choices have a wrong length",
         "the tape has more than 12 commands", "there is no cut of this number",
-        "the value is empty"};
+        "the value is empty", "a key is in both books"};
     return number < sizeof words / sizeof *words ? words[number] : "no answer of the store";
 }
 

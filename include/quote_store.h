@@ -35,7 +35,8 @@
  *   the buffers afterwards are what the call's definition says; it reads and
  *   writes nothing else, and ends. Proved of the definitions: an accepted
  *   transaction makes exactly its edits, a preview shows the value that the
- *   table would hold after them, no power failure leaves half of a transaction,
+ *   table would hold after them, an accepted merge holds every quote of both
+ *   books and nothing else, no power failure leaves half of a transaction,
  *   of a small tape quote_nth_cut gives every cut, in order and none twice, a
  *   tape of QUOTE_TAPE_SIZE bytes is never too short, and what one quote costs
  *   (at quote_transaction). docs/STATEMENTS.md has all of it. So each size, limit,
@@ -44,18 +45,20 @@
  *   Not proved: the stack that a call takes, which is tested.
  *
  * How a program goes on
- *   The image is the persistent memory, or a copy of it. No call but
- *   quote_format writes it. A transaction leaves the new image in `work` and,
- *   on `tape`, the commands that make the old image into the new one so that a
- *   power failure between any two of them does no harm. The program has the
- *   device carry them out in order, all of them before the next call's. The
- *   edits are durable once that is done. If the image is the memory itself, it
- *   then holds what `work` does; if it is a copy, `work` is the next one. After
- *   a power failure the program calls quote_recover and does the same. Before a
- *   transaction, quote_preview shows what its edits would make of a quote.
+ *   The image is the persistent memory, or a copy of it. No call writes it, but
+ *   quote_format, and quote_merge, whose third buffer becomes an image; neither
+ *   has a tape. A transaction leaves the new image in `work` and, on `tape`, the
+ *   commands that make the old image into the new one so that a power failure
+ *   between any two of them does no harm. The program has the device carry them
+ *   out in order, all of them before the next call's. The edits are durable once
+ *   that is done. If the image is the memory itself, it then holds what `work`
+ *   does; if it is a copy, `work` is the next one. After a power failure the
+ *   program calls quote_recover and does the same. Before a transaction,
+ *   quote_preview shows what its edits would make of a quote.
  *   examples/quote.c and examples/crash.c are such programs; examples/all_cuts.c
- *   tries every cut of a transaction. docs/USING.md says how long a call takes, and
- *   what to do when a store is full or damaged.
+ *   tries every cut of a transaction; examples/merge.c makes two books into one.
+ *   docs/USING.md says how long a call takes, and what to do when a store is full
+ *   or damaged.
  *
  * Which memory
  *   quote_transaction and quote_recover are for memory that writes a line of 64
@@ -65,12 +68,12 @@
  *   other calls are the same for both.
  *
  * What of an image is judged
- *   quote_check, the transactions and the recoveries judge all of it, every leaf
- *   that the index names. quote_lookup, quote_next_key and quote_preview read
- *   page 0's first line, the index page and the leaves that they need, and judge
- *   these alone: they refuse the keys of a damaged leaf, and answer all others
- *   as if it were sound. A key belongs to the last leaf whose separator in the
- *   index is not above it, else to the first; and so does every 8-byte number.
+ *   quote_check, quote_merge, the transactions and the recoveries judge all of it,
+ *   every leaf that the index names. quote_lookup, quote_next_key and quote_preview
+ *   read page 0's first line, the index page and the leaves that they need, and
+ *   judge these alone: they refuse the keys of a damaged leaf, and answer all
+ *   others as if it were sound. A key belongs to the last leaf whose separator in
+ *   the index is not above it, else to the first; and so does every 8-byte number.
  *   On an image that quote_check accepts, none of the three refuses with
  *   MARK_WAITS or UNSOUND. On one that it refuses, a key may be said to be
  *   missing though a leaf that was not read holds it: if separators are damaged.
@@ -170,7 +173,7 @@ enum quote_command {
 /* Why a call says no. */
 enum quote_answer {
     QUOTE_ACCEPTED = 0,
-    QUOTE_IMAGE_SIZE_WRONG = 1, /* the image's length is not 8 to 64 whole pages */
+    QUOTE_IMAGE_SIZE_WRONG = 1, /* the length of an image, or of a merge's third buffer, is not 8 to 64 whole pages */
     QUOTE_WORK_SIZE_WRONG = 2,  /* the work buffer's length is not the image's */
     QUOTE_MARK_WAITS = 3,       /* a power failure left a commit half done: recover first */
     QUOTE_UNSOUND = 4,          /* the image, or the part that was read, is not that of a store */
@@ -179,8 +182,8 @@ enum quote_answer {
     QUOTE_LONG_VALUE = 7,       /* the value has more than 200 bytes */
     QUOTE_KEY_PRESENT = 8,      /* insert of a key that the store has */
     QUOTE_KEY_MISSING = 9,      /* update or delete of a key that it has not */
-    QUOTE_INDEX_FULL = 10,      /* the edit would need a 29th leaf */
-    QUOTE_PAGES_OUT = 11,       /* an insert or update needs more new pages than are free */
+    QUOTE_INDEX_FULL = 10,      /* the edit, or the merge, would need a 29th leaf */
+    QUOTE_PAGES_OUT = 11,       /* an insert or update needs more new pages than are free, or a merge more than there are */
     QUOTE_LOG_FULL = 12,        /* the edits change more than 15 headers */
     QUOTE_TAPE_SHORT = 13,      /* the tape has too few bytes */
     QUOTE_BAD_TAPE = 14,        /* the tape has a malformed command (a barrier with a place is one), or a place outside the image */
@@ -188,7 +191,8 @@ enum quote_answer {
     QUOTE_BAD_CHOICES = 16,     /* the choices are not one byte a line */
     QUOTE_LONG_TAPE = 17,       /* the tape has more than 12 commands */
     QUOTE_NO_SUCH_CUT = 18,     /* the cut's number is not below the number of cuts */
-    QUOTE_EMPTY_VALUE = 19      /* an insert or update with a value of 0 bytes */
+    QUOTE_EMPTY_VALUE = 19,     /* an insert or update with a value of 0 bytes */
+    QUOTE_KEY_IN_BOTH = 20      /* a key is in both of the books that are merged */
 };
 
 /* Where a transaction commits. */
@@ -322,6 +326,37 @@ uint8_t quote_next_key(const uint8_t *image, size_t image_length, uint64_t key,
 uint8_t quote_preview(const uint8_t *image, size_t image_length,
                       const uint8_t *edits, size_t edits_length, uint64_t key,
                       uint64_t *answer, size_t answer_length);
+
+/*
+ * Merge: writes the quotes of two books as one store into a third buffer (document
+ * 02 (i)). Page 1 is its index, and the leaves are pages 2, 3 and so on: they take
+ * the quotes by rising key, each as many as 28 records and 960 bytes allow. Stored
+ * empty values are taken too.
+ *   first   read: an image.
+ *   second  read: another image, or the same one.
+ *   out     Its length says how many pages the result has, 8 to 64; the three
+ *           lengths may differ. Accepted: the whole image of a store with every
+ *           quote of both and no other, whatever the buffer held; all bytes that
+ *           no header and no record takes are as quote_format leaves them. If
+ *           neither book has a quote, it is what quote_format writes. The result
+ *           depends on the quotes and on the length alone, not on which book has
+ *           which quote or where. Refused: as it was.
+ *   refuses IMAGE_SIZE_WRONG for out; as quote_check for first (IMAGE_SIZE_WRONG;
+ *           UNSOUND if page 0 is wrong; MARK_WAITS; UNSOUND); the same for
+ *           second; KEY_IN_BOTH if some key is in both, whatever its values;
+ *           INDEX_FULL if there would be more than 28 leaves, even if out has too
+ *           few pages as well; PAGES_OUT if page 1 and the leaves are more than
+ *           the pages of out past page 0: n leaves need n + 2 pages, and a book
+ *           without quotes has one leaf.
+ * Only out is written, so it overlaps neither of the others. These may overlap: a
+ * book may be merged with itself, which is KEY_IN_BOTH unless it has no quote.
+ * There is no tape, and nothing makes the writing of out durable or safe from a
+ * power failure: a program merges into memory that holds no store that it needs,
+ * has it made durable as a whole, and only then goes on with it (docs/USING.md).
+ */
+uint8_t quote_merge(const uint8_t *first, size_t first_length,
+                    const uint8_t *second, size_t second_length, uint8_t *out,
+                    size_t out_length);
 
 /*
  * Transaction: makes all edits of a list, or none.

@@ -5,6 +5,7 @@
 mod cuts;
 mod device;
 mod image;
+mod merge;
 mod preview;
 mod transaction;
 
@@ -15,6 +16,7 @@ fn main() {
     cuts::check();
     image::check();
     preview::check();
+    merge::check();
     transaction::check();
     println!("Processor: {}.", measure::processor());
     println!(
@@ -26,5 +28,6 @@ fn main() {
     cuts::measure();
     image::measure();
     preview::measure();
+    merge::measure();
     transaction::measure();
 }

@@ -8,6 +8,7 @@ pub mod device;
 pub mod edits;
 pub mod image;
 pub mod ledger;
+pub mod merge;
 pub mod numbers;
 pub mod page;
 pub mod preview;

@@ -3,11 +3,13 @@
 //! curve', and each barrier of document 02 (h) left out, which the same test must
 //! catch. All of it on a device with line stores, and on one without (document 02
 //! (d)). The last tenth starts from stores in which transactions left empty values
-//! (document 02 (g)).
+//! (document 02 (g)), and the second half of it from two books merged into one
+//! (document 02 (i)).
 
 mod crashes;
 mod earlier;
 
+use cases::merges::{any_third, pair};
 use cases::random::Random;
 use cases::stores::any_store;
 use crashes::{
@@ -65,10 +67,31 @@ const WORDS: Plan = Plan {
 const BUILT: Stores = (any_store, 16, BUILT_EMPTY);
 const EARLIER: Stores = (earlier::any_store, 16, EARLIER_EMPTY);
 const EARLIER_EMPTY: &str = "empty value, by the earlier rule";
+const MERGED: Stores = (merged, 16, MERGED_EMPTY);
+const MERGED_EMPTY: &str = "empty value, merged";
 
 /// "An accepted call .. completes when its whole tape is done."
 const TAPE_PENDING: &str = "a whole tape leaves stores pending";
 const RECOVERY_PENDING: &str = "a whole recovery leaves stores pending";
+
+/// Two books that the proved library merged, mostly of a few leaves, at times of as
+/// many as there can be.
+fn merged(random: &mut Random) -> Vec<u8> {
+    loop {
+        let leaves = match random.below(16) {
+            0 => random.between(15, 28),
+            _ => random.between(0, 8),
+        };
+        let pair = pair(random, leaves);
+        let [mut first, mut second] = pair.images();
+        let mut third = any_third(random, pair.leaves);
+        // One large image takes as long as many small ones.
+        let size = third.len() / 1024 <= pair.leaves + 12;
+        if size && proved::merge(&mut first, &mut second, &mut third) == 0 {
+            return third;
+        }
+    }
+}
 
 /// In how many ways a cut can keep "for each line on its own, some first part of
 /// its pending stores".
@@ -110,7 +133,8 @@ impl Test {
     fn survive(&mut self) -> Result<(), String> {
         let cuts = self.plan().cuts;
         self.go_on(cuts - cuts / 10, BUILT, Test::one_transaction)?;
-        self.go_on(cuts, EARLIER, Test::one_transaction)
+        self.go_on(cuts - cuts / 20, EARLIER, Test::one_transaction)?;
+        self.go_on(cuts, MERGED, Test::one_transaction)
     }
 
     /// One transaction, with all its cuts. The store goes on after its whole
@@ -265,6 +289,7 @@ fn every_cut_recovers(device: Device, places: &[&str]) {
         "recovery with a log",
         "recovery without a log",
         EARLIER_EMPTY,
+        MERGED_EMPTY,
     ]);
     test.tally.came(places);
     test.tally.came(&OUTCOMES);

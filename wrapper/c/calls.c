@@ -601,6 +601,128 @@ static void full_stores_refuse(void)
     give_back(shorter);
 }
 
+/* What a merge says; the result is given back. */
+static uint8_t merge_says(struct bytes first, struct bytes second, size_t length)
+{
+    struct bytes out;
+    uint8_t number = merge(first, second, length, &out);
+    if (number == QUOTE_ACCEPTED)
+        EXPECT(quote_check(out.at, out.length) == QUOTE_ACCEPTED);
+    give_back(out);
+    return number;
+}
+
+/* A store with quotes of this length, every other key from this one on. */
+static struct bytes every_other(size_t pages, uint64_t key, int quotes, uint8_t length)
+{
+    struct bytes image = fresh(pages);
+    for (int i = 0; i < quotes; i += 1, key += 2)
+        EXPECT(apply_one(&image, one_edit(QUOTE_INSERT, key, length, 'm')) == QUOTE_ACCEPTED);
+    return image;
+}
+
+/* Quotes 1 to 29 of 24 bytes each: 28 in page 2 from its end down, and one in page 3;
+ * the index names both, with separators 0 and 29. */
+static void merge_fills_leaves(void)
+{
+    uint64_t found[QUOTE_LOOKUP_NUMBERS];
+    struct bytes odd = every_other(8, 1, 15, 8), even = every_other(12, 2, 14, 8), out, turned;
+    EXPECT(merge(odd, even, QUOTE_IMAGE_SIZE(10), &out) == QUOTE_ACCEPTED);
+    EXPECT(merge(even, odd, QUOTE_IMAGE_SIZE(10), &turned) == QUOTE_ACCEPTED);
+    EXPECT(same(out, turned) && quote_check(out.at, out.length) == QUOTE_ACCEPTED);
+    for (uint64_t key = 1; key <= 29; key += 1) {
+        uint64_t at = key == 29 ? 3 * 1024 + 1016 : 2 * 1024 + 1016 - 24 * (key - 1);
+        EXPECT(quote_lookup(out.at, out.length, key, found, 3) == QUOTE_ACCEPTED);
+        EXPECT(found[QUOTE_LOOKUP_FOUND] == 1 && found[QUOTE_LOOKUP_OFFSET] == at);
+        EXPECT(found[QUOTE_LOOKUP_LENGTH] == 8 && memcmp(out.at + at, "mmmmmmmm", 8) == 0);
+    }
+    EXPECT(memcmp(out.at + 1024, "\2\0\320\3\2\0\1\0\350\3\320\3", 12) == 0);
+    EXPECT(memcmp(out.at + 1024 + 1000, "\0\0\0\0\0\0\0\0\2\0\0\0\0\0\0\0\2", 17) == 0);
+    EXPECT(memcmp(out.at + 1024 + 976, "\35\0\0\0\0\0\0\0\2\0\0\0\0\0\0\0\3", 17) == 0);
+    struct bytes rest = {out.at + 4 * 1024, 6 * 1024};
+    EXPECT(all_are(rest, 0));
+    /* It is a store like any other. */
+    EXPECT(apply_one(&out, one_edit(QUOTE_INSERT, 30, 200, 'q')) == QUOTE_ACCEPTED);
+    EXPECT(apply_one(&out, one_edit(QUOTE_INSERT, 29, 8, 'q')) == QUOTE_KEY_PRESENT);
+    give_back(odd);
+    give_back(even);
+    give_back(out);
+    give_back(turned);
+}
+
+/* Without quotes it is a fresh store of the third buffer's pages; an empty value goes
+ * with the others. */
+static void merge_of_little(void)
+{
+    uint64_t page;
+    struct bytes small = fresh(8), large = fresh(64), two = two_quotes(), wanted = fresh(9), out;
+    EXPECT(merge(small, large, wanted.length, &out) == QUOTE_ACCEPTED && same(out, wanted));
+    give_back(out);
+    EXPECT(merge(large, large, wanted.length, &out) == QUOTE_ACCEPTED && same(out, wanted));
+    give_back(out);
+    EXPECT(merge(two, large, QUOTE_IMAGE_SIZE(8), &out) == QUOTE_ACCEPTED);
+    EXPECT(length_of(out, 101, &page) == 8 && page == 2);
+    EXPECT(length_of(out, 105, &page) == 0 && page == 2);
+    give_back(out);
+    give_back(small);
+    give_back(large);
+    give_back(two);
+    give_back(wanted);
+}
+
+/* The third buffer first, then the first book, then the second, then both together. */
+static void merge_refuses(void)
+{
+    static const size_t wrong[] = {0, 1, 1024, 7168, 8191, 8193, 65535, 65537, 66560};
+    struct bytes good = two_quotes(), short_one = {good.at, good.length - 1}, bad[3];
+    static const uint8_t says[] = {QUOTE_UNSOUND, QUOTE_MARK_WAITS, QUOTE_UNSOUND};
+    for (int i = 0; i < 3; i += 1)
+        bad[i] = lend_copy(good.at, good.length);
+    bad[0].at[40] = 1;
+    memcpy(bad[0].at, "\1\1\1", 3); /* page 0 is judged before the mark waits */
+    memcpy(bad[1].at, "\1\1\1", 3);
+    bad[2].at[2048] = 7; /* a leaf that counts too many */
+    for (int i = 0; i < 3; i += 1) {
+        EXPECT(merge_says(bad[i], good, 8192) == says[i]);
+        EXPECT(merge_says(good, bad[i], 8192) == says[i]);
+        EXPECT(merge_says(bad[i], short_one, 8192) == says[i]);
+        EXPECT(merge_says(short_one, bad[i], 8192) == QUOTE_IMAGE_SIZE_WRONG);
+        for (int j = 0; j < 3; j += 1)
+            EXPECT(merge_says(bad[i], bad[j], 8192) == says[i]);
+        for (size_t j = 0; j < sizeof wrong / sizeof *wrong; j += 1)
+            EXPECT(merge_says(bad[i], bad[i], wrong[j]) == QUOTE_IMAGE_SIZE_WRONG);
+    }
+    EXPECT(merge_says(good, good, 8192) == QUOTE_KEY_IN_BOTH);
+    give_back(good);
+    for (int i = 0; i < 3; i += 1)
+        give_back(bad[i]);
+}
+
+/* Four quotes of 200 bytes fill a leaf: 7 leaves need 9 pages, 28 leaves 30, and a 29th
+ * is one too many whatever the pages; a key in both comes before that. */
+static void merge_needs_room(void)
+{
+    struct bytes few = every_other(64, 1, 14, 200), more = every_other(64, 2, 14, 200);
+    struct bytes half = every_other(64, 1, 56, 200), other = every_other(64, 2, 56, 200);
+    struct bytes one = every_other(8, 999, 1, 1), all;
+    EXPECT(merge_says(few, more, QUOTE_IMAGE_SIZE(8)) == QUOTE_PAGES_OUT);
+    EXPECT(merge_says(few, more, QUOTE_IMAGE_SIZE(9)) == QUOTE_ACCEPTED);
+    EXPECT(merge_says(half, other, QUOTE_IMAGE_SIZE(29)) == QUOTE_PAGES_OUT);
+    EXPECT(merge(half, other, QUOTE_IMAGE_SIZE(30), &all) == QUOTE_ACCEPTED);
+    EXPECT(merge_says(all, one, QUOTE_IMAGE_SIZE(64)) == QUOTE_ACCEPTED); /* 96 bytes are left */
+    EXPECT(apply_one(&one, one_edit(QUOTE_UPDATE, 999, 200, 'm')) == QUOTE_ACCEPTED);
+    EXPECT(merge_says(all, one, QUOTE_IMAGE_SIZE(64)) == QUOTE_INDEX_FULL);
+    EXPECT(merge_says(all, one, QUOTE_IMAGE_SIZE(8)) == QUOTE_INDEX_FULL);
+    EXPECT(merge_says(all, half, QUOTE_IMAGE_SIZE(64)) == QUOTE_KEY_IN_BOTH);
+    EXPECT(merge_says(all, few, QUOTE_IMAGE_SIZE(8)) == QUOTE_KEY_IN_BOTH);
+    give_back(few);
+    give_back(more);
+    give_back(half);
+    give_back(other);
+    give_back(one);
+    give_back(all);
+}
+
 static uint8_t recover(const struct device *device, struct bytes image, struct bytes work,
                        struct bytes tape, uint64_t *answer)
 {
@@ -889,6 +1011,10 @@ int main(void)
     seventeenth_edit_is_refused();
     stored_empty_value_goes_on();
     full_stores_refuse();
+    merge_fills_leaves();
+    merge_of_little();
+    merge_refuses();
+    merge_needs_room();
     one_quote_costs();
     for (size_t i = 0; i < sizeof devices / sizeof *devices; i += 1) {
         transaction_answers(&devices[i]);

@@ -63,6 +63,8 @@ static struct bytes any_image(struct bytes store)
 #define LIST_SAYS \
     (BIT(QUOTE_BAD_LIST) | BIT(QUOTE_LONG_VALUE) | BIT(QUOTE_EMPTY_VALUE) | BIT(QUOTE_KEY_RANGE))
 #define PREVIEW_SAYS (CHECK_SAYS | LIST_SAYS | BIT(QUOTE_KEY_PRESENT) | BIT(QUOTE_KEY_MISSING))
+#define MERGE_SAYS \
+    (CHECK_SAYS | BIT(QUOTE_KEY_IN_BOTH) | BIT(QUOTE_INDEX_FULL) | BIT(QUOTE_PAGES_OUT))
 #define TRANSACTION_SAYS (LIST_SAYS | (BIT(QUOTE_TAPE_SHORT + 1) - 1))
 #define SIZES_SAY (FORMAT_SAYS | BIT(QUOTE_WORK_SIZE_WRONG))
 #define RECOVER_SAYS (SIZES_SAY | BIT(QUOTE_UNSOUND) | BIT(QUOTE_TAPE_SHORT))
@@ -71,15 +73,15 @@ static struct bytes any_image(struct bytes store)
 #define COUNT_CUTS_SAYS (FORMAT_SAYS | BIT(QUOTE_BAD_TAPE) | BIT(QUOTE_LONG_TAPE))
 #define NTH_CUT_SAYS (COUNT_CUTS_SAYS | BIT(QUOTE_BAD_CHOICES) | BIT(QUOTE_NO_SUCH_CUT))
 
-#define ALL_ANSWERS (BIT(QUOTE_EMPTY_VALUE + 1) - 1)
+#define ALL_ANSWERS (BIT(QUOTE_KEY_IN_BOTH + 1) - 1)
 
-/* The answers that came, of all calls together, of previews and of nth cuts; and
- * where the values were that previews showed, and those of them that were empty. */
-static unsigned came = 0, previews = 0, nth_cuts = 0, places = 0, empty_places = 0;
+/* The answers that came, of all calls together, of previews, of merges and of nth cuts;
+ * and where the values were that previews showed, and those of them that were empty. */
+static unsigned came = 0, previews = 0, merges = 0, nth_cuts = 0, places = 0, empty_places = 0;
 
 static void expect_known(uint8_t number, unsigned known)
 {
-    EXPECT(number <= QUOTE_EMPTY_VALUE && (known & BIT(number)) != 0);
+    EXPECT(number <= QUOTE_KEY_IN_BOTH && (known & BIT(number)) != 0);
     came |= BIT(number);
 }
 
@@ -210,33 +212,81 @@ static void looking(struct bytes image)
     give_back(list);
 }
 
+/* A book beside the store that the rounds go on with: its keys are mostly others. */
+static struct bytes any_book(void)
+{
+    struct bytes image = fresh(8 + below(5)), list = lend(0);
+    uint64_t key = below(3) == 0 ? 1 + below(500) : 1000 + below(500), edit;
+    for (size_t edits = below(QUOTE_MOST_EDITS); edits > 0; edits -= 1)
+        add_edit(&list, QUOTE_INSERT, key += 1 + below(3), (uint8_t)(1 + below(40)), 'b');
+    if (list.length > 0)
+        EXPECT(apply(&image, list, &edit) == QUOTE_ACCEPTED);
+    give_back(list);
+    return image;
+}
+
+/* Two books into one, in any order; the third buffer lies between bytes that stay, which
+ * the merge of support.h looks at. */
+static void merging(struct bytes image, struct bytes whole)
+{
+    struct bytes book = any_book(), out;
+    struct bytes other = below(12) == 0 ? whole : below(9) == 0 ? image : book;
+    size_t length = below(8) == 0 ? below(70000) : 1024 * (8 + below(below(2) == 0 ? 3 : 57));
+    uint8_t number = below(2) == 0 ? merge(image, other, length, &out)
+                                   : merge(other, image, length, &out);
+    expect_known(number, MERGE_SAYS);
+    merges |= BIT(number);
+    if (number == QUOTE_ACCEPTED)
+        EXPECT(quote_check(out.at, out.length) == QUOTE_ACCEPTED);
+    give_back(out);
+    give_back(book);
+}
+
+/* A store with as many leaves as there can be, of keys that no other has. */
+static struct bytes all_leaves(void)
+{
+    struct bytes image = fresh(64);
+    for (uint64_t key = 5000; key < 5112; key += 1) {
+        struct bytes one = fresh(8), out;
+        EXPECT(apply_one(&one, one_edit(QUOTE_INSERT, key, QUOTE_LONGEST_VALUE, 'w')) ==
+               QUOTE_ACCEPTED);
+        EXPECT(merge(image, one, image.length, &out) == QUOTE_ACCEPTED);
+        give_back(one);
+        give_back(image);
+        image = out;
+    }
+    return image;
+}
+
 static void every_answer_came(void)
 {
     printf("fuzz: %d rounds, seed %d; answers that came:", ROUNDS, SEED);
-    for (int number = 0; number <= QUOTE_EMPTY_VALUE; number += 1)
+    for (int number = 0; number <= QUOTE_KEY_IN_BOTH; number += 1)
         if (came & BIT(number))
             printf(" %d", number);
     puts("");
-    /* Stores of 12 pages have neither 28 leaves nor 16 headers to change. */
-    EXPECT((came | BIT(QUOTE_INDEX_FULL) | BIT(QUOTE_LOG_FULL)) == ALL_ANSWERS);
-    EXPECT(previews == PREVIEW_SAYS && nth_cuts == NTH_CUT_SAYS);
+    /* Stores of 12 pages have no 16 headers to change. */
+    EXPECT((came | BIT(QUOTE_LOG_FULL)) == ALL_ANSWERS);
+    EXPECT(previews == PREVIEW_SAYS && merges == MERGE_SAYS && nth_cuts == NTH_CUT_SAYS);
     EXPECT(places == (BIT(QUOTE_NOWHERE) | BIT(QUOTE_IN_LIST) | BIT(QUOTE_IN_IMAGE)));
     EXPECT(empty_places == (BIT(QUOTE_NOWHERE) | BIT(QUOTE_IN_IMAGE)));
 }
 
 int main(void)
 {
-    struct bytes store = fresh(12);
+    struct bytes store = fresh(12), whole = all_leaves();
     for (int i = 0; i < ROUNDS; i += 1) {
         struct bytes image = any_image(store);
         transaction_and_recovery(quote_transaction, quote_recover, image, &store);
         transaction_and_recovery(quote_transaction_words, quote_recover_words, image, &store);
         device(image);
         looking(image);
+        merging(image, whole);
         reading(image);
         give_back(image);
     }
     give_back(store);
+    give_back(whole);
     every_answer_came();
     return 0;
 }

@@ -112,6 +112,49 @@ static inline void add_edit(struct bytes *list, uint8_t kind, uint64_t key, uint
     memset(list->at + at + QUOTE_EDIT_HEAD, byte, length);
 }
 
+/* A buffer in the middle of bytes that are to stay as they are: room for a result,
+ * with as many before it as after it. */
+struct guarded {
+    struct bytes all, inside;
+};
+
+#define GUARD 64
+#define GUARD_BYTE 0xa5
+
+static inline struct guarded lend_guarded(size_t length, int byte)
+{
+    struct bytes all = lend_filled(GUARD + length + GUARD, GUARD_BYTE);
+    struct guarded guarded = {all, {all.at + GUARD, length}};
+    memset(guarded.inside.at, byte, length);
+    return guarded;
+}
+
+static inline int guards_stay(struct guarded guarded)
+{
+    struct bytes before = {guarded.all.at, GUARD};
+    struct bytes after = {guarded.inside.at + guarded.inside.length, GUARD};
+    return all_are(before, GUARD_BYTE) && all_are(after, GUARD_BYTE);
+}
+
+/* A merge of two books into a buffer of so many bytes, which held 77s and lies between
+ * bytes that stay: gives the buffer. The books stay; refused, so does the buffer. */
+static inline uint8_t merge(struct bytes first, struct bytes second, size_t length,
+                            struct bytes *out)
+{
+    struct bytes one = lend_copy(first.at, first.length);
+    struct bytes other = lend_copy(second.at, second.length);
+    struct guarded room = lend_guarded(length, 77);
+    uint8_t number = quote_merge(one.at, one.length, other.at, other.length, room.inside.at,
+                                 room.inside.length);
+    EXPECT(same(one, first) && same(other, second) && guards_stay(room));
+    EXPECT(number == QUOTE_ACCEPTED || all_are(room.inside, 77));
+    *out = lend_copy(room.inside.at, length);
+    give_back(one);
+    give_back(other);
+    give_back(room.all);
+    return number;
+}
+
 /* A transaction and a recovery, with line stores or without. */
 typedef uint8_t transaction_call(const uint8_t *image, size_t image_length, uint8_t *work,
                                  size_t work_length, uint8_t *tape, size_t tape_length,

@@ -2,7 +2,7 @@
 //! allocates nothing and keeps nothing. `include/quote_store.h` says of each
 //! what its buffers hold afterwards, and its refusals in their order.
 //!
-//! [`check`], the transactions and the recoveries judge the whole image.
+//! [`check`], [`merge`], the transactions and the recoveries judge the whole image.
 //! [`lookup`], [`next_key`] and [`preview`] judge page 0, the index and the leaves
 //! that they read: quotes of other leaves are answered where one is damaged.
 //!
@@ -23,7 +23,7 @@ use std::ops::Range;
 fn judged(number: u8, edit: u64) -> Result<(), Refusal> {
     match number {
         0 => Ok(()),
-        _ => Err(Refusal::of(number, edit as usize).expect("refusals are 1 to 19")),
+        _ => Err(Refusal::of(number, edit as usize).expect("refusals are 1 to 20")),
     }
 }
 
@@ -221,6 +221,58 @@ pub fn preview_value<'a>(
         Preview::InImage(part) => Some(&image[part]),
         Preview::Missing => None,
     })
+}
+
+/// Writes the quotes of two books as one store into a third buffer, whatever it held.
+/// Its length says how many pages the result has; the three may differ.
+///
+/// The leaves, from page 2 on, take the quotes by rising key, each as many as 28
+/// records and 960 bytes allow; n leaves need n + 2 pages. Stored empty values are
+/// taken too. A refusal leaves the buffer as it was: [`Refusal::ImageSize`] for the
+/// buffer, what [`check`] says of the first book, what it says of the second,
+/// [`Refusal::KeyInBoth`], [`Refusal::IndexFull`] for more than 28 leaves, and
+/// [`Refusal::PagesOut`] if the buffer has too few pages for them; the last two with
+/// edit 0.
+///
+/// There is no tape: while the buffer is written, and until it is made durable as a
+/// whole, a power failure may leave anything in it.
+///
+/// ```
+/// use quote_store::{calls, Edit, Refusal, Store, PAGE};
+///
+/// let (mut first, mut second) = (Store::fresh(8)?, Store::fresh(8)?);
+/// first.apply(&[Edit::Insert { key: 101, value: b"101.25" }])?;
+/// second.apply(&[Edit::Insert { key: 105, value: b"99.50" }])?;
+///
+/// let mut out = vec![255; 16 * PAGE];
+/// calls::merge(first.image(), second.image(), &mut out)?;
+/// assert_eq!(calls::check(&out), Ok(()));
+/// for (key, value) in first.iter().chain(&second) {
+///     let place = calls::lookup(&out, key)?.unwrap();
+///     assert_eq!(&out[place], value);
+/// }
+///
+/// // The same book twice has every key in both.
+/// let before = out.clone();
+/// let refused = calls::merge(first.image(), first.image(), &mut out);
+/// assert_eq!(refused, Err(Refusal::KeyInBoth));
+/// assert!(out == before);
+/// # Ok::<(), Refusal>(())
+/// ```
+pub fn merge(first: &[u8], second: &[u8], out: &mut [u8]) -> Result<(), Refusal> {
+    // Sound: each pointer is lent with its own length; only out is written, and it
+    // overlaps no other buffer.
+    let number = unsafe {
+        sys::quote_merge(
+            first.as_ptr(),
+            first.len(),
+            second.as_ptr(),
+            second.len(),
+            out.as_mut_ptr(),
+            out.len(),
+        )
+    };
+    judged(number, 0)
 }
 
 /// Makes all edits of a list, or none. Accepted, work is the image after them,

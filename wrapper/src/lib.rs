@@ -30,18 +30,17 @@
 //! # Ok::<(), quote_store::Refusal>(())
 //! ```
 //!
+//! # Two books into one
+//!
+//! [`Store::merge`] makes a store with the quotes of two. Its leaves are as full as
+//! they can be, so it also moves the quotes of one store to another size: merged with
+//! a store that has none.
+//!
 //! # When a store is full
 //!
 //! A store with too few free pages refuses inserts, and in time updates too,
-//! with [`Refusal::PagesOut`]. Its quotes then move to a larger one. In one
-//! pass by rising keys leaves stay half full; two passes fill them, where the
-//! first takes 15 of each 28 quotes. (28 is how many quotes fit a leaf, 15 is
-//! 28 / 2 + 1; with longer values they are fewer.)
-//!
-//! An empty value, which a store may hold from before, can't be inserted anew: that
-//! is [`Refusal::EmptyValue`]. It was used for "known but unquoted", for which
-//! screens now have a status. So the program leaves such a quote out, as here, or
-//! gives it a value.
+//! with [`Refusal::PagesOut`]. Its quotes then move to a larger one, empty values
+//! of before [`Refusal::EmptyValue`] too.
 //!
 //! ```
 //! use quote_store::{Edit, Refusal, Store};
@@ -51,16 +50,9 @@
 //! let full = (1..).find_map(|key| small.apply(&[Edit::Insert { key, value }]).err());
 //! assert_eq!(full, Some(Refusal::PagesOut { edit: 0 }));
 //!
-//! let mut large = Store::fresh(64)?;
-//! let quoted = || small.iter().filter(|(_, value)| !value.is_empty());
-//! for first in [true, false] {
-//!     let quotes = quoted().enumerate().filter(|(i, _)| (i % 28 < 15) == first);
-//!     let edits: Vec<Edit> = quotes.map(|(_, (key, value))| Edit::Insert { key, value }).collect();
-//!     for edits in edits.chunks(15) {
-//!         large.apply(edits)?;
-//!     }
-//! }
-//! assert!(large.iter().eq(quoted()));
+//! let mut large = Store::merge(&small, &Store::fresh(8)?, 64)?;
+//! assert!(large.iter().eq(&small));
+//! large.apply(&[Edit::Insert { key: 1000, value }])?;
 //! # Ok::<(), Refusal>(())
 //! ```
 

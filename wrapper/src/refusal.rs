@@ -2,7 +2,7 @@
 //! and edit number from 0 (0 unless 5 to 11 in a transaction)." Document 02, of
 //! the preview: "Edit numbers are as in a transaction, 0 for the key asked." A
 //! leaf's 4 has 0 there too, though it comes up at an edit. Document 02 (g): "19,
-//! with its edit's number".
+//! with its edit's number". A merge has no edits: its 10 and 11 have 0.
 
 use std::fmt;
 
@@ -27,7 +27,7 @@ use std::fmt;
 /// ```
 #[derive(Clone, Copy, Debug, PartialEq, Eq, Hash)]
 pub enum Refusal {
-    /// 1: the image is not 8 to 64 whole pages.
+    /// 1: the image, or the buffer that a merge writes, is not 8 to 64 whole pages.
     ImageSize,
     /// 2: the work buffer is not as long as the image.
     WorkSize,
@@ -49,10 +49,12 @@ pub enum Refusal {
     /// 9: an update or delete of a key that it has not.
     KeyMissing { edit: usize },
     /// 10: an insert, or an update with a longer value, needs a 29th leaf.
-    /// Delete quotes, or keep two stores.
+    /// Delete quotes, or keep two stores. Of a merge, which has edit 0: the quotes
+    /// of both fill more than 28 leaves.
     IndexFull { edit: usize },
     /// 11: an insert or update needs more free pages than there are. Delete
-    /// quotes, or move to a larger store, as [the package](crate) shows.
+    /// quotes, or move to a larger store, as [the package](crate) shows. Of a merge,
+    /// which has edit 0: the quotes of both need more pages than it is given.
     PagesOut { edit: usize },
     /// 12: the edits change more than 15 slot headers. Make them in two
     /// transactions.
@@ -75,6 +77,8 @@ pub enum Refusal {
     /// 19: an insert or update with a value of no bytes. It comes with the list's
     /// refusals, just after 7.
     EmptyValue { edit: usize },
+    /// 20: a key is in both of the books that are merged. Delete it from one.
+    KeyInBoth,
 }
 
 impl Refusal {
@@ -85,7 +89,7 @@ impl Refusal {
     ///
     /// assert_eq!(Refusal::of(8, 3), Some(Refusal::KeyPresent { edit: 3 }));
     /// assert_eq!(Refusal::of(13, 0), Some(Refusal::TapeShort));
-    /// assert_eq!(Refusal::of(20, 0), None);
+    /// assert_eq!(Refusal::of(21, 0), None);
     /// ```
     pub fn of(number: u8, edit: usize) -> Option<Refusal> {
         Some(match number {
@@ -108,11 +112,12 @@ impl Refusal {
             17 => Refusal::LongTape,
             18 => Refusal::NoSuchCut,
             19 => Refusal::EmptyValue { edit },
+            20 => Refusal::KeyInBoth,
             _ => return None,
         })
     }
 
-    /// Its number in documents 01 and 02, 1 to 19.
+    /// Its number in documents 01 and 02, 1 to 20.
     ///
     /// ```
     /// assert_eq!(quote_store::Refusal::Unsound.number(), 4);
@@ -138,6 +143,7 @@ impl Refusal {
             Refusal::LongTape => 17,
             Refusal::NoSuchCut => 18,
             Refusal::EmptyValue { .. } => 19,
+            Refusal::KeyInBoth => 20,
         }
     }
 
@@ -183,9 +189,9 @@ impl Refusal {
             Refusal::KeyPresent { .. } => "the store has a quote with this key already",
             Refusal::KeyMissing { .. } => "the store has no quote with this key",
             Refusal::IndexFull { .. } => {
-                "the store is full: it has 28 leaves, the most there can be"
+                "the store is full: it would need a 29th leaf, and 28 are the most there can be"
             }
-            Refusal::PagesOut { .. } => "the store is full: too few free pages for this edit",
+            Refusal::PagesOut { .. } => "the store is full: too few pages are free",
             Refusal::LogFull => "the edits touch more than 15 pages: make them in two transactions",
             Refusal::TapeShort => "the tape has too few bytes for the commands",
             Refusal::BadTape => "the tape has a malformed command or a place outside the image",
@@ -194,6 +200,7 @@ impl Refusal {
             Refusal::LongTape => "the tape has more than 12 commands",
             Refusal::NoSuchCut => "the cut's number is not below the number of cuts",
             Refusal::EmptyValue { .. } => "the value has no bytes",
+            Refusal::KeyInBoth => "a key is in both of the books that are merged",
         }
     }
 }

@@ -6,6 +6,12 @@ use crate::{calls, encode, tape_length, Commit, Device, Edit, Preview, Refusal, 
 /// An image has 64 pages at most.
 const MOST_PAGES: usize = 64;
 
+/// The length of an image of so many pages. One page too many is refused as any larger
+/// number is.
+fn length_of(pages: usize) -> usize {
+    pages.min(MOST_PAGES + 1) * PAGE
+}
+
 /// A store in memory of its own. Its image is always sound: [`open`](Store::open)
 /// refuses a damaged one, of which [`calls`] may still read the quotes of good
 /// leaves.
@@ -35,7 +41,7 @@ const MOST_PAGES: usize = 64;
 /// the [`Device`].
 ///
 /// A device has one store at a time. A new device first takes the image of a
-/// fresh store, whole, before any edit. Where a device fails while it carries out
+/// fresh store, or of a [merged](Store::merge) one, whole, before any edit. Where a device fails while it carries out
 /// commands, the program drops the store and opens what the device holds, as
 /// after a power failure; edits whose commands were not taken are lost then. A
 /// store can't be cloned, since its commands are to be carried out once.
@@ -82,8 +88,7 @@ impl Store {
     /// # Ok::<(), quote_store::Refusal>(())
     /// ```
     pub fn fresh_on(device: Device, pages: usize) -> Result<Store, Refusal> {
-        // One page too many is refused as any larger number is.
-        let mut image = vec![0; pages.min(MOST_PAGES + 1) * PAGE];
+        let mut image = vec![0; length_of(pages)];
         calls::format(&mut image)?;
         Ok(Store::around(device, image))
     }
@@ -174,6 +179,52 @@ impl Store {
             Err(Refusal::MarkWaits) => store().recovered(),
             Err(refusal) => Err(refusal),
         }
+    }
+
+    /// Two books made into one, of so many pages, 8 to 64: a store with every quote of
+    /// both. The books stay, and may be of any sizes. Commands that wait in them play
+    /// no part.
+    ///
+    /// The leaves are as full as 28 records and 960 bytes allow, by rising key; n leaves
+    /// need n + 2 pages. Further pages are free, and a program gives some, since an
+    /// insert into a full leaf splits it. The store is for a device of the first
+    /// book's kind; [`open_on`](Store::open_on) with its [`image`](Store::image) makes
+    /// one for another kind. No commands wait: the image is for the device to take
+    /// whole, somewhere else than the two books, which the program keeps until it is
+    /// durable.
+    ///
+    /// Refused, with [`Refusal::KeyInBoth`] if a key is in both, with
+    /// [`Refusal::IndexFull`] if there would be more than 28 leaves, with
+    /// [`Refusal::PagesOut`] if there are too few pages for them, in this order; and
+    /// first with [`Refusal::ImageSize`] if there can be no store of so many pages.
+    ///
+    /// ```
+    /// use quote_store::{Edit, Refusal, Store};
+    ///
+    /// let (mut euro, mut dollar) = (Store::fresh(8)?, Store::fresh(8)?);
+    /// euro.apply(&[Edit::Insert { key: 101, value: b"101.25" }])?;
+    /// dollar.apply(&[Edit::Insert { key: 105, value: b"99.50" }])?;
+    ///
+    /// let mut both = Store::merge(&euro, &dollar, 16)?;
+    /// assert!(both.iter().eq([(101, &b"101.25"[..]), (105, b"99.50")]));
+    /// let device = both.image().to_vec(); // it takes the whole image first
+    /// both.apply(&[Edit::Update { key: 105, value: b"99.75" }])?;
+    /// let tape = both.take_tape();
+    /// # let mut after = device.clone();
+    /// # quote_store::calls::run(&device, &mut after, &tape)?;
+    /// # assert!(after == both.image());
+    ///
+    /// // A quote that both books have is deleted from one of them first.
+    /// dollar.apply(&[Edit::Insert { key: 101, value: b"101.00" }])?;
+    /// assert_eq!(Store::merge(&euro, &dollar, 16).err(), Some(Refusal::KeyInBoth));
+    /// dollar.apply(&[Edit::Delete { key: 101 }])?;
+    /// assert!(Store::merge(&euro, &dollar, 16).is_ok());
+    /// # Ok::<(), Refusal>(())
+    /// ```
+    pub fn merge(first: &Store, second: &Store, pages: usize) -> Result<Store, Refusal> {
+        let mut image = vec![0; length_of(pages)];
+        calls::merge(&first.image, &second.image, &mut image)?;
+        Ok(Store::around(first.device, image))
     }
 
     /// The store with this image, and buffers that suffice for every call.

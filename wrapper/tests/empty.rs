@@ -170,7 +170,7 @@ fn copies_and_splits_keep_stored_ones() {
     }
 }
 
-/// "To move to a larger image": an empty quote is not inserted there anew.
+/// "To move quote by quote": an empty one is not inserted there anew.
 #[test]
 fn moving_leaves_empty_quotes_out() {
     let from = Store::open(&book()).unwrap();

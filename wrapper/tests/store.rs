@@ -285,7 +285,7 @@ fn unsound_images_are_refused() {
 #[test]
 fn every_refusal_says_why() {
     let mut words = std::collections::BTreeSet::new();
-    for number in 1..=19 {
+    for number in 1..=20 {
         let refusal = Refusal::of(number, 3).unwrap();
         let names_edit = matches!(number, 5..=11 | 19);
         assert_eq!(refusal.number(), number);
@@ -293,5 +293,5 @@ fn every_refusal_says_why() {
         assert_eq!(refusal.to_string().starts_with("edit 3: "), names_edit);
         assert!(words.insert(refusal.to_string()));
     }
-    assert_eq!((Refusal::of(0, 0), Refusal::of(20, 0)), (None, None));
+    assert_eq!((Refusal::of(0, 0), Refusal::of(21, 0)), (None, None));
 }

@@ -6,6 +6,7 @@ pub mod cuts;
 pub mod device;
 mod edits;
 pub mod image;
+pub mod merge;
 mod page;
 pub mod preview;
 pub mod read;

@@ -8,8 +8,8 @@ use super::PAGE;
 use std::mem::MaybeUninit;
 use std::ptr::{copy, copy_nonoverlapping};
 
-const ROOM: usize = PAGE - 64;
-const INDEX_RECORD: usize = 24;
+pub const ROOM: usize = PAGE - 64;
+pub const INDEX_RECORD: usize = 24;
 
 /// Work while the edits are made; sets of pages have one bit a page.
 pub struct Tree {
@@ -32,7 +32,7 @@ enum Slot {
 }
 
 /// A record somewhere: its first byte and its size.
-type Listed = (*const u8, usize);
+pub type Listed = (*const u8, usize);
 
 impl Tree {
     #[inline(always)]
@@ -182,16 +182,7 @@ impl Tree {
         let number = 63 - self.free.leading_zeros() as usize;
         self.free ^= 1 << number;
         self.touched |= 1 << number;
-        let page = self.page(number);
-        page.write_bytes(0, 64);
-        let mut start = PAGE;
-        for (i, &(from, size)) in records.iter().enumerate() {
-            start -= size;
-            copy_words(from, page.add(start), size);
-            put_half(page.add(8 + 2 * i), start);
-        }
-        let head = records.len() as u64 | (start as u64) << 16 | kind << 32;
-        put_word(page, head | (number as u64) << 48);
+        fill_page(self.page(number), number, kind, records);
         number
     }
 
@@ -204,6 +195,27 @@ impl Tree {
     }
 }
 
+/// Header and records of a page, these from the end down; gives the content start.
+#[inline(always)]
+pub unsafe fn fill_page(page: *mut u8, number: usize, kind: u64, records: &[Listed]) -> usize {
+    page.write_bytes(0, 64);
+    let mut start = PAGE;
+    for (i, &(from, size)) in records.iter().enumerate() {
+        start -= size;
+        copy_words(from, page.add(start), size);
+        put_half(page.add(8 + 2 * i), start);
+    }
+    let head = records.len() as u64 | (start as u64) << 16 | kind << 32;
+    put_word(page, head | (number as u64) << 48);
+    start
+}
+
+/// A record as it is listed.
+#[inline(always)]
+pub unsafe fn listed(record: *const u8) -> Listed {
+    (record, 16 + half(record.add(8)).next_multiple_of(8))
+}
+
 /// The page's records with one more, or with one replaced, in key order.
 #[inline(always)]
 unsafe fn list<'a>(page: *const u8, slot: Slot, new: Listed, to: *mut Listed) -> &'a [Listed] {
@@ -211,8 +223,7 @@ unsafe fn list<'a>(page: *const u8, slot: Slot, new: Listed, to: *mut Listed) ->
     for i in 0..count {
         let from = record(page, i);
         let shift = matches!(slot, Slot::New(at) if i >= at) as usize;
-        to.add(i + shift)
-            .write((from, 16 + half(from.add(8)).next_multiple_of(8)));
+        to.add(i + shift).write(listed(from));
     }
     match slot {
         Slot::New(at) => {

@@ -7,6 +7,7 @@ use mathlib.Core.List.{List, [], _∷_}
 use native.Mathlib.Omega.{arith}
 use Rattle.device.specs.Tape.{Op, barrierCount}
 use Rattle.page.specs.Layout.{lineSize, Rec, recOf, size, readHead}
+use Rattle.page.proofs.Totals.{size-most}
 use Rattle.image.specs.Image.{sound}
 use Rattle.edit.specs.EditList.{Edit, insert, update, delete, listed}
 use Rattle.edit.specs.Reads.{Proper}
@@ -20,7 +21,6 @@ use Rattle.journal.proofs.Cost.{leaf-costs}
 use Rattle.tree.specs.State.{State}
 use Rattle.tree.specs.Whole.{finished, editsOn}
 use Rattle.tree.specs.Reasons.{NotFull}
-use Rattle.tree.proofs.Sizes.{size-most}
 use Rattle.tree.proofs.OneLeaf.{Puts, inserts, updates, puts-ok, put-one-leaf, delete-one-leaf}
 use Rattle.transaction.specs.Calls.{commandsOn, transactionCall}
 use Rattle.transaction.proofs.Demand2.{acceptance, was-sound, target, target-edited, answer-is, commands-are}

@@ -14,7 +14,8 @@ use Rattle.device.specs.Tape.{Op, decode, wellFormed}
 use Rattle.device.specs.Cut.{after, cutImage}
 use Rattle.device.specs.Counts.{scanned, Tells, Found}
 use Rattle.device.specs.Calls.{isImageSize, Ran, accepted, refused, unless, runCall, cutTape, cutCall}
-use Rattle.device.specs.declared.Answer.the-variants.{Accepted}
+use Rattle.device.specs.declared.Refusal.{Refusal}
+use Rattle.device.specs.declared.Answer.the-variants.{Accepted, Refused}
 use Rattle.device.specs.declared.Scan.the-variants.{Commands, Broken}
 use Rattle.device.specs.declared.Judged.{Judged}
 use Rattle.device.specs.declared.Judged.the-variants.{Good, Bad}
@@ -74,6 +75,10 @@ cut-accepted image work tape choices c e =
 -- what a call is said to do, in two parts
 pub said : (call done : Ran) → call ≡ done → (done .answer ≡ call .answer) × (done .work ≡ call .work)
 said call done e = (sym (ap (λ (r : Ran). r .answer) e), sym (ap (λ (r : Ran). r .work) e))
+
+-- a refusal is no acceptance
+pub not-accepted : (r : Refusal) → Refused r ≡ Accepted → ⊥
+not-accepted r e = let z : _≡_ {A = ℕ} 0 1 = cc in omega arith
 
 pub image-size-le : (n : ℕ) → isImageSize n ≡ true → n ≤ 65536
 image-size-le n e = leb-true n 65536 (first (leb n 65536) (eqb (n % 1024) 0) (second (leb 8192 n) (leb n 65536 && eqb (n % 1024) 0) e))

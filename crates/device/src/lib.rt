@@ -56,6 +56,8 @@ impl Refusal {
 
     pub const EMPTY_VALUE: u8 = 19;
 
+    pub const KEY_IN_BOTH: u8 = 20;
+
     // A refusal that names no edit.
     pub fn of(number: u8) -> Refusal
         ensures { λ r. ⌜ r ≡ refusal number ⌝ }

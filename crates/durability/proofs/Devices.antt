@@ -15,6 +15,7 @@ use Rattle.device.specs.Tape.{tapeBytes, flushCount}
 use Rattle.device.specs.Calls.{isImageSize, imageSize, workSize, unsound, tapeShort, refusal}
 use Rattle.device.specs.declared.Refusal.{Refusal}
 use Rattle.device.specs.declared.Answer.the-variants as answers
+use Rattle.device.proofs.Calls.{not-accepted}
 use Rattle.image.specs.PageZero.{logMost, pageZero}
 use Rattle.image.specs.Image.{sound}
 use Rattle.image.specs.Table.{table}
@@ -78,10 +79,6 @@ module _ (a work tape bytes : List ℕ) (c : Commit) (e : transactionCall ByWord
 
 pub transaction-words : TransactionWords
 transaction-words = transaction-word
-
--- a refusal is no acceptance
-not-accepted : (r : Refusal) → answers.Refused r ≡ answers.Accepted → ⊥
-not-accepted r e = let z : _≡_ {A = ℕ} 0 1 = cc in omega arith
 
 -- ---- both transactions
 

@@ -11,10 +11,10 @@ use lib.ListN.{length, getD, drop}
 use lib.Seq.{drop-cons}
 use Rattle.codec.specs.Lists.{part, All}
 use Rattle.codec.specs.Numbers.{number}
-use Rattle.page.specs.Layout.{pageSize, indexKind, Rec, recordAt, readHead}
-use Rattle.page.specs.Page.{entryAt, records, laidOut, pageOk, formOk, Held}
+use Rattle.page.specs.Layout.{pageSize, indexKind, valueMost, Rec, recOf, up8, size, recordAt, readHead}
+use Rattle.page.specs.Page.{entryAt, records, laidOut, pageOk, formOk, RecOk, Held}
 use Rattle.page.proofs.Records.{key-at, record-is, length-at}
-use Rattle.page.proofs.Facts.{ok-is, pageOk-true, index-form}
+use Rattle.page.proofs.Facts.{ok-is, records-ok, pageOk-true, index-form}
 use Rattle.page.proofs.Listed.{slot-at, slot-held, few-listed}
 use Rattle.image.specs.Image.{childOf}
 use Rattle.image.proofs.Search.{record-slot}
@@ -67,6 +67,23 @@ module _ (p : List ℕ) (ok : laidOut p ≡ true) (i : ℕ) (less : i < length (
   pub child-here : (d : Rec) → length (getD (records p) i d .value) ≡ 2 → number (part p (slot p i + 16) 2) ≡ childOf (getD (records p) i d)
   unfolding childOf
   child-here d two = ap number (sym (value-here d ∙ ap (part p (slot p i + 16)) two))
+
+-- the length that stands in it
+module _ (p : List ℕ) (ok : laidOut p ≡ true) (i : ℕ) (less : i < length (records p)) (o : ℕ) (e : o ≡ slot p i) where
+  pub length-in : o + 8 + 2 ≤ length p
+  length-in = omega (arith, value-in p ok i less (recOf 0 []))
+
+  pub length-small : (n : ℕ) → n ≡ number (part p (o + 8) 2) → n ≤ valueMost
+  length-small n f =
+      omega (
+        arith,
+        f ∙ ap (λ (k : ℕ). number (part p (k + 8) 2)) e ∙ length-here p ok i less (recOf 0 []),
+        All-at RecOk (records p) i (recOf 0 []) (records-ok p ok) less .few,
+      )
+
+  pub size-here : (n : ℕ) → n ≡ number (part p (o + 8) 2) → 16 + up8 n ≡ size (getD (records p) i (recOf 0 []))
+  unfolding size
+  size-here n f = ap (λ (m : ℕ). 16 + up8 m) (f ∙ ap (λ (k : ℕ). number (part p (k + 8) 2)) e ∙ length-here p ok i less (recOf 0 []))
 
 -- an index record's value is "a 2-byte page number"
 pub child-two : (own : ℕ) (p : List ℕ) (i : ℕ) (d : Rec) → pageOk indexKind own p ≡ true → i < length (records p) → length (getD (records p) i d .value) ≡ 2

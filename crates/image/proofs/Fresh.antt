@@ -1,69 +1,35 @@
--- A fresh store: its length, that it is sound, and that its table is empty.
+-- A fresh store, as the store with one empty leaf: its pages, its length, that it is sound, and that its table is empty.
 -- Assumes nothing.
-use Prim.Native.Nat.{ℕ, _+_, _-_, _*_, _≤_, _<_}
-use mathlib.Core.Path.{_≡_, refl, sym, ap, _∙_, subst}
+use Prim.Native.Nat.{ℕ, _-_, _*_, _≤_}
+use mathlib.Core.Path.{_≡_, refl, ap, _∙_}
 use mathlib.Core.Logic.{inl}
 use mathlib.Core.Bool.{true, false}
-use mathlib.Core.List.{List, [], _∷_, _++_}
+use mathlib.Core.List.{List, [], _∷_, _++_, append-assoc}
 use native.Mathlib.Omega.{arith}
-use lib.ListN.{length, replicate, length-append, length-replicate}
-use lib.Dec.{eqb}
-use Rattle.codec.specs.Lists.{part, All}
-use Rattle.codec.specs.Numbers.{number, bytesOf}
-use Rattle.codec.proofs.Lists.{part-append-left}
-use Rattle.codec.proofs.Numbers.{length-bytesOf}
+use lib.ListN.{length, replicate}
+use Rattle.codec.specs.Numbers.{bytesOf}
 use Rattle.device.specs.Calls.{isImageSize, refusal}
 use Rattle.device.specs.declared.Answer.the-variants.{Accepted, Refused}
-use Rattle.page.specs.Layout.{pageSize, lineSize, slotCount, leafKind, indexKind, Rec, recOf, up8, size, Head, unusedHead}
-use Rattle.page.specs.Page.{entries, records, formOk, startsAt, keysRise, pageOk, RecOk}
-use Rattle.page.specs.Operations.{insertHead, fillHead, fill, placed, sizes, pageOf}
-use Rattle.page.proofs.Facts.{is-entries, page-is, true-pageOk, form-index}
-use Rattle.page.proofs.Operations.{fill-is, fill-page}
-use Rattle.image.specs.PageZero.{pageCount, rootOf, noMark, wordsPast}
-use Rattle.image.specs.Image.{childOf, children, reached, among, distinct, nextSep, sound}
-use Rattle.image.specs.Facts.{Index, Leaves}
-use Rattle.image.specs.Table.{leafRecords, table}
-use Rattle.image.specs.Fresh.{zeroPage, freshZero, fresh}
+use Rattle.page.specs.Layout.{pageSize, leafKind, indexKind, Rec, recOf, up8, size}
+use Rattle.page.specs.Page.{entries}
+use Rattle.page.specs.Operations.{fill, placed, sizes, pageOf, putPage}
+use Rattle.image.specs.PageZero.{pageCount, rootOf}
+use Rattle.image.specs.Image.{indexRec, children, sound}
+use Rattle.image.specs.Table.{table}
+use Rattle.image.specs.Fresh.{zeroPage, freshZero, separators, named, indexOver, leafPages, stored, allRecords, Storable, blank, putLeaves, fresh}
 use Rattle.image.specs.Calls.{formatCall}
-use Rattle.image.proofs.General.{part-front, part-past}
-use Rattle.image.proofs.Zero.{size-true, true-isPage, Line, facts-ready, past-root}
-use Rattle.image.proofs.Soundness.{tree-sound}
+use Rattle.image.proofs.Zero.{size-true}
+use Rattle.image.proofs.Stored.{index-filled, stored-length, stored-root, stored-index, stored-leaf, stored-children, stored-table, stored-sound, stored-made}
 
--- ---- a filled page is sound: what page's laws of `fill` lack
+-- ---- one empty leaf
 
-pub fill-head : (h : Head) (rs : List Rec) → (fillHead h rs .kind ≡ h .kind) × (fillHead h rs .own ≡ h .own)
-unfolding fillHead insertHead
-fill-head h [] = (refl, refl)
-fill-head h (r ∷ rs) = fill-head (insertHead h (length (h .slots)) (size r)) rs
+abbrev noRecords : List (List Rec)
+noRecords = [] ∷ []
 
--- q is a sound page of the records rs
-pub record Filled (kind own : ℕ) (rs : List Rec) (q : List ℕ) : Type 0 where
-  pub whole : length q ≡ pageSize
-  pub listed : entries q ≡ placed pageSize rs
-  pub recs : records q ≡ rs
-  pub ok : pageOk kind own q ≡ true
-
-pub fill-filled : (p : List ℕ) (kind own : ℕ) (rs : List Rec) → length p ≡ pageSize → kind < 256 → own < 65536 → All RecOk rs → lineSize + sizes rs ≤ pageSize →
-    length rs ≤ slotCount → All (λ (r : Rec). formOk kind r ≡ true) rs → keysRise rs ≡ true → Filled kind own rs (fill p kind own rs)
-unfolding unusedHead
-fill-filled p kind own rs whole k o good room few forms rise =
-    let q = fill-page p kind own rs whole k o good room few in
-    record {
-      whole = page-is _ _ _ q .body .whole;
-      listed = is-entries _ _ _ (fill-is p kind own rs whole k o good room few);
-      recs = q .recs;
-      ok =
-          true-pageOk kind own (fill p kind own rs)
-          (record {
-            laid = q .ok;
-            kind = ap (λ (h : Head). h .kind) (q .head) ∙ fill-head (unusedHead kind own) rs .0;
-            own = ap (λ (h : Head). h .own) (q .head) ∙ fill-head (unusedHead kind own) rs .1;
-            forms = rw (q .recs) forms;
-            rise = rw (q .recs) rise;
-          });
-    }
-
--- ---- the pages of a fresh store
+pub empty-storable : Storable noRecords
+unfolding allRecords sizes
+empty-storable =
+    record { some = omega arith; few = omega arith; good = (tt, tt); fit = (record { few = omega arith; small = omega arith }, tt); filled = inl refl; rising = omega arith }
 
 -- the index record, and the pages 1 and 2
 abbrev onlyLeaf : Rec
@@ -75,134 +41,61 @@ indexPage = fill zeroPage indexKind 1 (onlyLeaf ∷ [])
 abbrev leafPage : List ℕ
 leafPage = fill zeroPage leafKind 2 []
 
-length-zeroPage : length zeroPage ≡ pageSize
-unfolding zeroPage
-length-zeroPage = length-replicate {A = ℕ} pageSize 0
-
-index-filled : Filled indexKind 1 (onlyLeaf ∷ []) indexPage
-unfolding sizes size up8 keysRise startsAt
-index-filled =
-    let two = length-bytesOf 2 2 in
-    fill-filled zeroPage indexKind 1 (onlyLeaf ∷ []) length-zeroPage (omega arith) (omega arith) (record { low = omega arith; few = omega arith }, tt) (omega arith) (omega arith)
-    (form-index onlyLeaf two, tt) refl
-
-leaf-filled : Filled leafKind 2 [] leafPage
-unfolding sizes keysRise
-leaf-filled = fill-filled zeroPage leafKind 2 [] length-zeroPage (omega arith) (omega arith) tt (omega arith) (omega arith) tt refl
-
--- the pages 1 and 2 of an image whose first pages are known
-module _ (z p q t : List ℕ) (lz : length z ≡ pageSize) (lp : length p ≡ pageSize) where
-  page-one : pageOf (z ++ (p ++ (q ++ t))) 1 ≡ p
-  unfolding pageOf
-  page-one = part-past z (p ++ (q ++ t)) pageSize 0 pageSize lz ∙ part-front p (q ++ t) pageSize lp
-
-  page-two : length q ≡ pageSize → pageOf (z ++ (p ++ (q ++ t))) 2 ≡ q
-  unfolding pageOf
-  page-two lq = part-past z (p ++ (q ++ t)) pageSize pageSize pageSize lz ∙ part-past p (q ++ t) pageSize 0 pageSize lp ∙ part-front q t pageSize lq
+only-index : indexOver noRecords ≡ onlyLeaf ∷ []
+unfolding indexOver separators named indexRec
+only-index = refl
 
 module _ (n : ℕ) where
-  length-past : length (wordsPast n 1) ≡ 56
-  unfolding wordsPast
-  length-past = simp (length-append, length-bytesOf, length-replicate)
-
-  length-freshZero : length (freshZero n) ≡ pageSize
-  unfolding freshZero noMark
-  length-freshZero = simp (length-append, length-past, length-replicate)
-
-  abbrev unused : List ℕ
-  unused = replicate (pageSize * (n - 3)) 0
-
-  fresh-pages : fresh n ≡ freshZero n ++ (indexPage ++ (leafPage ++ unused))
+  is-stored : fresh n ≡ stored n noRecords
   unfolding fresh
-  fresh-pages = refl
+  is-stored = refl
+
+  -- "root 1 with one record (separator 0, page 2) .., an empty leaf 2 .., and zeros elsewhere"
+  pub fresh-pages : fresh n ≡ freshZero n ++ (indexPage ++ (leafPage ++ replicate (pageSize * (n - 3)) 0))
+  unfolding fresh stored leafPages
+  fresh-pages =
+      let zeros : List ℕ = replicate (pageSize * (n - 3)) 0 in
+      ap (λ (cs : List Rec). freshZero n ++ (fill zeroPage indexKind 1 cs ++ ((leafPage ++ []) ++ zeros))) only-index
+      ∙ ap (λ (l : List ℕ). freshZero n ++ (indexPage ++ l)) (append-assoc leafPage [] zeros)
 
   pub fresh-length : 3 ≤ n → length (fresh n) ≡ pageSize * n
-  fresh-length h = ap length fresh-pages ∙ simp (length-append, length-freshZero, index-filled .whole, leaf-filled .whole, length-replicate) (omega arith)
+  fresh-length h = ap length is-stored ∙ stored-length n noRecords empty-storable h
 
   -- ---- read back
 
-  zero-part : (o m : ℕ) → o + m ≤ pageSize → part (fresh n) o m ≡ part (freshZero n) o m
-  zero-part o m h =
-      ap (λ (l : List ℕ). part l o m) fresh-pages
-      ∙ part-append-left (freshZero n) (indexPage ++ (leafPage ++ unused)) o m (omega (arith, length-freshZero))
-
-  mark-bytes : part (fresh n) 0 8 ≡ noMark
-  unfolding freshZero noMark
-  mark-bytes = zero-part 0 8 (omega arith) ∙ part-front noMark (wordsPast n 1 ++ replicate (pageSize - lineSize) 0) 8 refl
-
-  past-bytes : part (fresh n) 8 56 ≡ wordsPast n 1
-  unfolding freshZero noMark
-  past-bytes =
-      zero-part 8 56 (omega arith)
-      ∙ part-past noMark (wordsPast n 1 ++ replicate (pageSize - lineSize) 0) 8 0 56 refl
-      ∙ part-front (wordsPast n 1) (replicate (pageSize - lineSize) 0) 56 length-past
-
   pub fresh-index : pageOf (fresh n) 1 ≡ indexPage
-  fresh-index = ap (λ (l : List ℕ). pageOf l 1) fresh-pages ∙ page-one (freshZero n) indexPage leafPage unused length-freshZero (index-filled .whole)
+  fresh-index = ap (λ (l : List ℕ). pageOf l 1) is-stored ∙ stored-index n noRecords empty-storable ∙ ap (fill zeroPage indexKind 1) only-index
 
   pub fresh-leaf : pageOf (fresh n) 2 ≡ leafPage
-  fresh-leaf = ap (λ (l : List ℕ). pageOf l 2) fresh-pages ∙ page-two (freshZero n) indexPage leafPage unused length-freshZero (index-filled .whole) (leaf-filled .whole)
+  fresh-leaf = ap (λ (l : List ℕ). pageOf l 2) is-stored ∙ stored-leaf n noRecords empty-storable .0
 
   -- "one record (separator 0, page 2) at offset 1,000"
   pub fresh-listed : entries (pageOf (fresh n) 1) ≡ record { at = 1000; rec = recOf 0 (bytesOf 2 2) } ∷ []
   unfolding placed size up8 bytesOf
-  fresh-listed = ap entries fresh-index ∙ index-filled .listed
+  fresh-listed =
+      ap (λ (l : List ℕ). entries (pageOf l 1)) is-stored
+      ∙ ap entries (stored-index n noRecords empty-storable)
+      ∙ index-filled noRecords empty-storable .listed
+      ∙ ap (placed pageSize) only-index
 
   pub fresh-children : children (fresh n) 1 ≡ onlyLeaf ∷ []
-  unfolding children
-  fresh-children = ap records fresh-index ∙ index-filled .recs
+  fresh-children = ap (λ (l : List ℕ). children l 1) is-stored ∙ stored-children n noRecords empty-storable ∙ only-index
 
   pub fresh-root : rootOf (fresh n) ≡ 1
-  fresh-root = past-root (fresh n) n 1 (omega arith) past-bytes
-
--- the index record names page 2
-only-child : childOf onlyLeaf ≡ 2
-unfolding childOf number bytesOf
-only-child = refl
+  fresh-root = ap rootOf is-stored ∙ stored-root n noRecords
 
 pub fresh-table : (n : ℕ) → table (fresh n) ≡ []
-unfolding table leafRecords
-fresh-table n = rw (fresh-root n, fresh-children n, only-child, fresh-leaf n, leaf-filled .recs)
+unfolding allRecords
+fresh-table n = ap table (is-stored n) ∙ stored-table n noRecords empty-storable
 
--- ---- it is sound
+pub fresh-sound : (n : ℕ) → isImageSize (pageSize * n) ≡ true → sound (fresh n) ≡ true
+fresh-sound n s = ap sound (is-stored n) ∙ stored-sound n noRecords s (omega (arith, size-true (pageSize * n) s .low)) empty-storable
 
-module _ (n : ℕ) (s : isImageSize (pageSize * n) ≡ true) where
-  many : 8 ≤ n
-  many = omega (arith, size-true (pageSize * n) s .low)
-
-  count : pageCount (fresh n) ≡ n
-  count = omega (arith, fresh-length n (omega (arith, many)))
-
-  line : Line (fresh n) noMark 1
-  line =
-      record {
-        reads = fresh-root n;
-        page = rw count (true-isPage n 1 (omega arith) (omega (arith, many)));
-        mark = mark-bytes n;
-        past = rw count (past-bytes n);
-      }
-
-  index : Index (fresh n) 1
-  unfolding reached distinct among
-  index =
-      record {
-        page = rw (fresh-index n) (index-filled .ok);
-        some = rw (fresh-children n) (omega arith);
-        inside = rw (fresh-children n, only-child, count) (true-isPage n 2 (omega arith) (omega (arith, many)), tt);
-        apart = rw (fresh-children n, only-child);
-      }
-
-  leaves : Leaves (fresh n) true 0 (onlyLeaf ∷ [])
-  unfolding nextSep
-  leaves =
-      let ok : pageOk leafKind (childOf onlyLeaf) (pageOf (fresh n) (childOf onlyLeaf)) ≡ true = rw (only-child, fresh-leaf n) (leaf-filled .ok) in
-      let none : records (pageOf (fresh n) (childOf onlyLeaf)) ≡ [] = rw (only-child, fresh-leaf n) (leaf-filled .recs) in
-      (record { page = ok; filled = inl refl; rising = rw none (omega arith) }, tt)
-
-  pub fresh-sound : sound (fresh n) ≡ true
-  fresh-sound =
-      tree-sound (fresh n) 1 (rw (fresh-length n (omega (arith, many))) s) (facts-ready (fresh n) 1 line)
-      (record { index = index; leaves = subst (λ (cs : List Rec). Leaves (fresh n) (eqb (length cs) 1) 0 cs) (sym (fresh-children n)) leaves })
+-- page 0 and zeros first, then the leaf, then the index
+pub fresh-made : (n : ℕ) → 3 ≤ n → (b c d : List ℕ) → b ≡ blank n → c ≡ putPage b 2 (fill (pageOf b 2) leafKind 2 []) →
+    d ≡ putPage c 1 (fill (pageOf c 1) indexKind 1 (onlyLeaf ∷ [])) → d ≡ fresh n
+unfolding fresh putLeaves indexOver separators named indexRec
+fresh-made n h b c d eb ec ed = ed ∙ stored-made n noRecords empty-storable h c (ec ∙ ap (λ (i : List ℕ). putPage i 2 (fill (pageOf i 2) leafKind 2 [])) eb)
 
 -- ---- format
 

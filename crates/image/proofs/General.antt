@@ -5,7 +5,7 @@ use mathlib.Core.Path.{_≡_, refl, sym, ap, _∙_}
 use mathlib.Core.List.{List, [], _∷_, _++_, map}
 use native.Mathlib.Omega.{arith}
 use native.Mathlib.Nat.{not-suc-le-zero}
-use lib.ListN.{length, getD, take, drop}
+use lib.ListN.{length, getD, take, drop, replicate}
 use lib.Seq.{take-take, take-nil, drop-drop, take-at, drop-append-add}
 use Rattle.codec.specs.Lists.{part, All}
 
@@ -30,6 +30,11 @@ unfolding part
 part-past a b k o n e = ap (λ (m : ℕ). take n (drop (m + o) (a ++ b))) (sym e) ∙ ap (take n) (drop-append-add a b o)
 
 -- ---- any element
+
+pub zeros-at : (n i : ℕ) → _≡_ {A = ℕ} (getD (replicate n 0) i 0) 0
+zeros-at zero i = refl
+zeros-at (suc n) zero = refl
+zeros-at (suc n) (suc i) = zeros-at n i
 
 -- an element that is there, whatever the default
 pub getD-inside : {A : Type 0} (l : List A) (i : ℕ) (a b : A) → i < length l → getD l i a ≡ getD l i b

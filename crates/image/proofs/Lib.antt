@@ -1,5 +1,6 @@
 pub mod General
 pub mod Rising
+pub mod IndexRecords
 pub mod Zero
 pub mod Apart
 pub mod Soundness
@@ -14,6 +15,8 @@ pub mod Read
 pub mod Answers
 pub mod Says
 pub mod Whole
+pub mod Stored
+pub mod Zeros
 pub mod Fresh
 pub mod Frame
 pub mod WhatIsRead

@@ -7,11 +7,12 @@ use mathlib.Core.List.{List, [], _∷_, _++_, map, append-assoc}
 use native.Mathlib.Omega.{arith}
 use lib.ListN.{length}
 use lib.Dec.{eqb}
+use Rattle.codec.specs.Lists.{All}
 use Rattle.codec.proofs.Tests.{All-map}
 use Rattle.page.specs.Layout.{leafKind, topKey, Rec}
-use Rattle.page.specs.Page.{Entry, recs, entries, records, formOk}
+use Rattle.page.specs.Page.{Entry, recs, entries, records, formOk, RecOk}
 use Rattle.page.specs.Operations.{pageOf}
-use Rattle.page.proofs.Facts.{pageOk-true, leaf-form, recs-entries}
+use Rattle.page.proofs.Facts.{pageOk-true, records-ok, leaf-form, recs-entries}
 use Rattle.image.specs.PageZero.{rootOf}
 use Rattle.image.specs.Image.{childOf, children, startOf, nextSep, sound}
 use Rattle.image.specs.Facts.{Rising, Leaves}
@@ -110,3 +111,15 @@ table-rising img h =
     let only : Bool = eqb (length cs) 1 in
     rising-start 0 1 (leafRecords img cs) (suc topKey) (omega arith) (leaves-keys img only 0 cs (s .leaves))
     (leaves-rising img only 0 cs (index-rising img (rootOf img) (s .index)) (s .leaves))
+
+-- its records have the form of records
+leaves-ok : (img : List ℕ) (only : Bool) (lo : ℕ) (cs : List Rec) → Leaves img only lo cs → All RecOk (leafRecords img cs)
+unfolding leafRecords
+leaves-ok img only lo [] k = tt
+leaves-ok img only lo (c ∷ cs) k =
+    let p = pageOf img (childOf c) in
+    All-append RecOk (records p) (leafRecords img cs) (records-ok p (pageOk-true leafKind (childOf c) p (k .0 .page) .laid)) (leaves-ok img only (nextSep cs) cs (k .1))
+
+pub table-ok : (img : List ℕ) → sound img ≡ true → All RecOk (table img)
+unfolding table
+table-ok img h = leaves-ok img _ 0 (children img (rootOf img)) (sound-facts img h .leaves)

@@ -2,14 +2,15 @@
 -- Each part is a test that stands alone, with a record of the facts that it stands for.
 -- Assumes nothing.
 use Prim.Native.Nat.{ℕ, suc}
+use mathlib.Core.Path.{_≡_}
 use mathlib.Core.Bool.{Bool, true, false, _&&_, _||_, not}
 use mathlib.Core.List.{List, [], _∷_, map}
 use lib.ListN.{length}
 use lib.Dec.{leb, ltb, eqb}
-use Rattle.codec.specs.Lists.{every, allB}
-use Rattle.codec.specs.Numbers.{number}
+use Rattle.codec.specs.Lists.{every, allB, All}
+use Rattle.codec.specs.Numbers.{number, bytesOf}
 use Rattle.device.specs.Calls.{isImageSize}
-use Rattle.page.specs.Layout.{leafKind, indexKind, topKey, Rec}
+use Rattle.page.specs.Layout.{leafKind, indexKind, topKey, Rec, recOf}
 use Rattle.page.specs.Page.{records, pageOk}
 use Rattle.page.specs.Operations.{pageOf}
 use Rattle.image.specs.PageZero.{pageCount, isPage, pageZero}
@@ -22,6 +23,20 @@ use Rattle.image.specs.declared.Place.{Place}
 -- the page that an index record names: "its value a 2-byte page number"
 unfoldable pub childOf : Rec → ℕ
 childOf c = number (c .value)
+
+-- the index record of the page p, and its size
+unfoldable pub indexRec : ℕ → ℕ → Rec
+indexRec sep p = recOf sep (bytesOf 2 p)
+
+abbrev pub entrySize : ℕ
+entrySize = 24
+
+-- records of that form
+abbrev pub IsEntry : Rec → Type 0
+IsEntry c = length (c .value) ≡ 2
+
+abbrev pub Entries : List Rec → Type 0
+Entries cs = All IsEntry cs
 
 -- the records of the root page, each a separator and a leaf
 unfoldable pub children : List ℕ → ℕ → List Rec

@@ -10,7 +10,7 @@ ghost use Rattle.device.specs.Calls.{isImageSize};
 ghost use Rattle.page.specs.Layout.{pageSize, leafKind, indexKind, recOf};
 ghost use Rattle.page.specs.Operations.{fill};
 ghost use Rattle.image.specs.PageZero.{pageCount};
-ghost use Rattle.image.specs.Fresh.{fresh};
+ghost use Rattle.image.specs.Fresh.{blank, fresh};
 
 // Fills page 1: the index with one record, separator 0 and page 2, at offset 1,000. Its key, its length and its value are a word each.
 pub fn put_index(page: &mut [u8])
@@ -31,15 +31,23 @@ pub fn put_leaf(page: &mut [u8])
     Header::unused(pages::LEAF, 2).write(page);
 }
 
-// Writes a fresh store: zeros, then words 1 and 2 of page 0, the index and the leaf.
-pub fn put_fresh(image: &mut [u8])
+// Writes page 0 of a fresh store, and zeros elsewhere.
+pub fn put_blank(image: &mut [u8])
     requires { ⌜ isImageSize (length (now image)) ≡ true ⌝ }
-    ensures { λ _. ⌜ now (image .exit) ≡ fresh (pageCount (now (image .entry))) ⌝ }
+    ensures { λ _. ⌜ now (image .exit) ≡ blank (pageCount (now (image .entry))) ⌝ }
 {
     let n = image.len();
     codec::fill(image, 0, n, 0);
     codec::put_long(image, 8, 1);
     codec::put_long(image, 16, (n / pages::PAGE_SIZE + 65536) as u64);
-    put_index(&mut image[1024..2048]);
+}
+
+// Writes a fresh store: page 0 and zeros, then the leaf and the index.
+pub fn put_fresh(image: &mut [u8])
+    requires { ⌜ isImageSize (length (now image)) ≡ true ⌝ }
+    ensures { λ _. ⌜ now (image .exit) ≡ fresh (pageCount (now (image .entry))) ⌝ }
+{
+    put_blank(image);
     put_leaf(&mut image[2048..3072]);
+    put_index(&mut image[1024..2048]);
 }

@@ -4,7 +4,7 @@ ghost use mathlib.Core.Bool.{true};
 ghost use mathlib.Core.List.{[]};
 ghost use Prim.Native.Nat.{_+_, _*_, _≤_, _<_};
 ghost use lib.ListN.{length, getD};
-ghost use Rattle.page.specs.Layout.{pageSize, readHead, recOf};
+ghost use Rattle.page.specs.Layout.{pageSize, valueMost, up8, size, readHead, recOf};
 ghost use Rattle.page.specs.Page.{records, laidOut};
 ghost use Rattle.page.specs.Operations.{pageOf};
 ghost use Rattle.image.specs.Image.{childOf};
@@ -61,4 +61,20 @@ pub fn child_at(page: &[u8], i: usize) -> usize
     ensures { λ r. ⌜ r ≡ childOf (getD (records (now (page .entry))) i (recOf 0 [])) ⌝ }
 {
     codec::number_at(page, slot_at(page, i) + 16)
+}
+
+// The size of a record with a value of n bytes.
+pub fn size_of(n: usize) -> usize
+    requires { ⌜ n ≤ valueMost ⌝ }
+    ensures { λ r. ⌜ r ≡ 16 + up8 n ⌝ }
+{
+    16 + (n + 7) / 8 * 8
+}
+
+// The size of the i-th record of a page.
+pub fn size_at(page: &[u8], i: usize) -> usize
+    requires { ⌜ (laidOut (now page) ≡ true) × (i < length (records (now page))) ⌝ }
+    ensures { λ r. ⌜ r ≡ size (getD (records (now (page .entry))) i (recOf 0 [])) ⌝ }
+{
+    size_of(codec::number_at(page, slot_at(page, i) + 8))
 }

@@ -10,6 +10,7 @@ pub mod Operations
 pub mod Made
 pub mod Frame
 pub mod Sizes
+pub mod Totals
 pub mod Images
 pub mod CheckBytes
 pub mod CheckBits

@@ -174,11 +174,24 @@ unfolding fillHead insertHead
 fill-own h [] = refl
 fill-own h (r ∷ rs) = fill-own (insertHead h (length (h .slots)) (size r)) rs
 
-fill-slots : (h : Head) (rs : List Rec) → length (fillHead h rs .slots) ≡ length (h .slots) + length rs
+pub fill-slots : (h : Head) (rs : List Rec) → length (fillHead h rs .slots) ≡ length (h .slots) + length rs
 unfolding fillHead insertHead
 fill-slots h [] = omega arith
 fill-slots h (r ∷ rs) =
     omega (arith, fill-slots (insertHead h (length (h .slots)) (size r)) rs, length-insertAt (length (h .slots)) (h .start - size r) (h .slots))
+
+-- some records, then others
+pub fill-head-append : (h : Head) (rs ts : List Rec) → fillHead h (rs ++ ts) ≡ fillHead (fillHead h rs) ts
+unfolding fillHead
+fill-head-append h [] ts = refl
+fill-head-append h (r ∷ rs) ts = fill-head-append (insertHead h (length (h .slots)) (size r)) rs ts
+
+pub fill-bytes-append : (start : ℕ) (p : List ℕ) (rs ts : List Rec) → fillBytes start p (rs ++ ts) ≡ fillBytes (start - sizes rs) (fillBytes start p rs) ts
+unfolding fillBytes sizes
+fill-bytes-append start p [] ts = let e : start ≡ start - 0 = omega arith in ap (λ (n : ℕ). fillBytes n p ts) e
+fill-bytes-append start p (r ∷ rs) ts =
+    let e : start - size r - sizes rs ≡ start - (size r + sizes rs) = omega arith in
+    fill-bytes-append (start - size r) (written start p r) rs ts ∙ ap (λ (n : ℕ). fillBytes n (fillBytes (start - size r) (written start p r) rs) ts) e
 
 recs-placed : (start : ℕ) (rs : List Rec) → recs (placed start rs) ≡ rs
 unfolding placed

@@ -3,9 +3,11 @@
 -- Assumes nothing.
 use Prim.Native.Nat.{ℕ, zero, suc, _+_, _-_, _*_, _≤_, _<_}
 use mathlib.Core.Path.{_≡_}
-use mathlib.Core.Bool.{Bool, true, false}
+use mathlib.Core.Bool.{Bool, true, false, _&&_}
 use mathlib.Core.List.{List, [], _∷_, _++_}
+use mathlib.Core.Logic.{_⊎_}
 use lib.ListN.{length, take, drop, set}
+use lib.Dec.{leb}
 use Rattle.codec.specs.Lists.{part, splice, insertAt, removeAt}
 use Rattle.page.specs.Layout.{pageSize, lineSize, slotCount, Rec, size, recordBytes, Head, headerBytes, readHead, unusedHead}
 use Rattle.page.specs.Page.{laidOut, records, RecOk, Entry}
@@ -61,6 +63,18 @@ placed start (r ∷ rs) = record { at = start - size r; rec = r } ∷ placed (st
 unfoldable pub sizes : List Rec → ℕ
 sizes [] = 0
 sizes (r ∷ rs) = size r + sizes rs
+
+-- "at most 28 and at most 960 bytes": whether the records rs fit one page
+abbrev pub fitsPage : List Rec → Bool
+fitsPage rs = leb (length rs) slotCount && leb (sizes rs) (pageSize - lineSize)
+
+-- what it stands for, and what stands against it
+pub record OnePage (rs : List Rec) : Type 0 where
+  pub few : length rs ≤ slotCount
+  pub small : sizes rs ≤ pageSize - lineSize
+
+abbrev pub TwoPages : List Rec → Type 0
+TwoPages rs = (slotCount < length rs) ⊎ (pageSize - lineSize < sizes rs)
 
 -- the records with an edit made: r put in as the i-th, or in place of the i-th
 unfoldable pub made : Bool → ℕ → Rec → List Rec → List Rec

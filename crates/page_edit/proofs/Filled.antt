@@ -8,7 +8,6 @@ use native.Mathlib.Omega.{arith}
 use lib.ListN.{length, getD, drop}
 use Rattle.codec.specs.Lists.{part, splice}
 use Rattle.codec.specs.Numbers.{number}
-use Rattle.codec.proofs.Lists.{length-insertAt}
 use Rattle.page.specs.Layout.{pageSize, lineSize, slotCount, Rec, up8, size, recordAt, Head, unusedHead, headerOf, headOf, rawBytes}
 use Rattle.page.specs.Page.{entryAt, records, Held}
 use Rattle.page.specs.Operations.{seal, written, insertHead, fillHead, fillBytes, fill, sizes, made, between}
@@ -16,6 +15,7 @@ use Rattle.page.specs.declared.header.Header.{Header}
 use Rattle.page.proofs.Records.{length-at}
 use Rattle.page.proofs.Headers.{head-of, count-of, seal-raw}
 use Rattle.page.proofs.Facts.{ok-is}
+use Rattle.page.proofs.Operations.{fill-start, fill-slots, fill-head-append, fill-bytes-append}
 use Rattle.page.proofs.Listed.{record-listed, slot-held}
 use Rattle.page.proofs.Made.{oldSlot, made-less, made-new-next, made-old-next, between-next}
 use Rattle.page_edit.specs.Filling.{Room, Stands, Filled, CanFill}
@@ -46,27 +46,37 @@ module _ (h g : Header) (p q : List ℕ) (r : Rec) where
         bytes = eq;
       }
 
-  module _ (f : Filled h p (r ∷ []) g q) where
-    next-head : headOf g ≡ insertHead (headOf h) (length (headOf h .slots)) (size r)
-    unfolding fillHead
-    next-head = ap headOf (f .head) ∙ head-of _
+-- ---- what is there once the records rs are filled in
 
-    next-clean : g ≡ headerOf (headOf g)
-    unfolding fillHead
-    next-clean = f .head ∙ ap headerOf (sym next-head)
+module _ {h : Header} {p : List ℕ} {rs : List Rec} {g : Header} {q : List ℕ} (f : Filled h p rs g q) where
+  filled-head : headOf g ≡ fillHead (headOf h) rs
+  filled-head = ap headOf (f .head) ∙ head-of _
 
-    next-start : g .start ≡ h .start - size r
-    unfolding fillHead insertHead headOf headerOf
-    next-start = ap (λ (x : Header). x .start) (f .head)
+  pub filled-clean : g ≡ headerOf (headOf g)
+  filled-clean = f .head ∙ ap headerOf (sym filled-head)
 
-    next-count : h ≡ headerOf (headOf h) → g .count ≡ suc (h .count)
-    unfolding insertHead
-    next-count clean =
-        ap (λ (x : Header). x .count) next-clean
-        ∙ count-of (headOf g)
-        ∙ ap (λ (x : Head). length (x .slots)) next-head
-        ∙ length-insertAt _ _ _
-        ∙ ap suc (sym (ap (λ (x : Header). x .count) clean ∙ count-of (headOf h)))
+  pub filled-start : g .start ≡ h .start - sizes rs
+  unfolding headOf headerOf
+  filled-start = ap (λ (x : Header). x .start) (f .head) ∙ fill-start (headOf h) rs
+
+  pub filled-count : h ≡ headerOf (headOf h) → g .count ≡ h .count + length rs
+  filled-count clean =
+      ap (λ (x : Header). x .count) (f .head)
+      ∙ count-of (fillHead (headOf h) rs)
+      ∙ fill-slots (headOf h) rs
+      ∙ ap (λ (n : ℕ). n + length rs) (sym (ap (λ (x : Header). x .count) clean ∙ count-of (headOf h)))
+
+  -- and the records ts after them
+  pub filled-more : (ts : List Rec) (g′ : Header) (q′ : List ℕ) → Filled g q ts g′ q′ → Filled h p (rs ++ ts) g′ q′
+  filled-more ts g′ q′ k =
+      record {
+        head = k .head ∙ ap (λ (x : Head). headerOf (fillHead x ts)) filled-head ∙ ap headerOf (sym (fill-head-append (headOf h) rs ts));
+        bytes =
+            k .bytes
+            ∙ ap (λ (n : ℕ). fillBytes n q ts) filled-start
+            ∙ ap (λ (b : List ℕ). fillBytes (h .start - sizes rs) b ts) (f .bytes)
+            ∙ sym (fill-bytes-append (h .start) p rs ts);
+      }
 
 -- ---- the records ts are left to be filled in, of all rs: g and q are what is there now
 pub record Left (h : Header) (p : List ℕ) (rs : List Rec) (g : Header) (q : List ℕ) (ts : List Rec) : Type 0 where
@@ -90,17 +100,17 @@ module _ {h : Header} {p : List ℕ} {rs : List Rec} {g : Header} {q : List ℕ}
   left-next us r g′ q′ e k f =
       let s : sizes ts ≡ size r + sizes us = ap sizes e in
       let n : length ts ≡ suc (length us) = ap length e in
-      let start = next-start g g′ q q′ r f in
-      let count = next-count g g′ q q′ r f (k .room .clean) in
+      let start : g′ .start ≡ g .start - size r = omega (arith, filled-start f) in
+      let count = filled-count f (k .room .clean) in
       record {
         room =
             record {
-              clean = next-clean g g′ q q′ r f;
+              clean = filled-clean f;
               few = omega (arith, k .room .few);
               high = omega (arith, k .room .high);
               room = omega (arith, k .room .room);
             };
-        head = ap (λ (x : Head). fillHead x us) (next-head g g′ q q′ r f) ∙ ap (fillHead (headOf g)) (sym e) ∙ k .head;
+        head = ap (λ (x : Head). fillHead x us) (filled-head f) ∙ ap (fillHead (headOf g)) (sym e) ∙ k .head;
         bytes = ap (λ (m : ℕ). fillBytes m q′ us) start ∙ ap (λ (b : List ℕ). fillBytes (g .start - size r) b us) (f .bytes) ∙ ap (fillBytes (g .start) q) (sym e) ∙ k .bytes;
       }
 

@@ -76,7 +76,7 @@ pub fn delete_record(page: &mut [u8], i: usize)
 // ---- a new page
 
 // Copies the record at `at` of another page to a page that is being filled.
-pub(crate) fn append_copy(page: &mut [u8], h: Header, old: &[u8], at: usize) -> Header
+pub fn append_copy(page: &mut [u8], h: Header, old: &[u8], at: usize) -> Header
     requires { ⌜ (length (now page) ≡ pageSize) × (length (now old) ≡ pageSize) × Stands (now old) at × Room h (recordAt (now old) at ∷ []) ⌝ }
     ensures { λ r. ⌜ Filled h (now (page .entry)) (recordAt (now (old .entry)) at ∷ []) r (now (page .exit)) ⌝ }
 {
@@ -87,7 +87,7 @@ pub(crate) fn append_copy(page: &mut [u8], h: Header, old: &[u8], at: usize) -> 
 }
 
 // Writes a new record to a page that is being filled.
-pub(crate) fn append_new(page: &mut [u8], h: Header, key: u64, value: &[u8]) -> Header
+pub fn append_new(page: &mut [u8], h: Header, key: u64, value: &[u8]) -> Header
     requires { ⌜ (length (now page) ≡ pageSize) × RecOk (recOf key (now value)) × Room h (recOf key (now value) ∷ []) ⌝ }
     ensures { λ r. ⌜ Filled h (now (page .entry)) (recOf key (now (value .entry)) ∷ []) r (now (page .exit)) ⌝ }
 {

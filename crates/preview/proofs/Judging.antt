@@ -22,6 +22,7 @@ use Rattle.page.specs.Search.{searched}
 use Rattle.page.specs.declared.Search.the-variants.{At, Missing}
 use Rattle.image.specs.Facts.{Index}
 use Rattle.image.specs.Descent.{leafFor, leafSound, recordsFor}
+use Rattle.image.proofs.General.{zeros-at}
 use Rattle.image.proofs.Search.{search-find, search-none}
 use Rattle.image.proofs.Belonging.{page-tells}
 use Rattle.image.proofs.CodeDescent.{laid-rising}
@@ -71,14 +72,9 @@ marks-set img root index marks M k sound =
     go j true e h = ap (leafSound img root) (page-tells img root index j k (eqb-true (leafFor img root j .page) (leafFor img root k .page) e)) ∙ sound
     go j false e h = M .only-sound j (λ z. h (getD-set-other marks (leafFor img root k .page) (leafFor img root j .page) 1 0 (eqb-false (leafFor img root j .page) (leafFor img root k .page) e) ∙ z))
 
-zeros : (n i : ℕ) → _≡_ {A = ℕ} (getD (replicate n 0) i 0) 0
-zeros zero i = refl
-zeros (suc n) zero = refl
-zeros (suc n) (suc i) = zeros n i
-
 -- nothing is marked
 pub marks-none : (img : List ℕ) (root : ℕ) → Marks img root (replicate 64 0)
-marks-none img root = record { enough = refl; only-sound = λ k h. absurd (h (zeros 64 (leafFor img root k .page))) }
+marks-none img root = record { enough = refl; only-sound = λ k h. absurd (h (zeros-at 64 (leafFor img root k .page))) }
 
 -- ---- one edit of this kind
 

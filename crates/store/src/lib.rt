@@ -25,6 +25,7 @@ ghost use Rattle.cuts.specs.Calls.{countCall, nthCall};
 ghost use Rattle.image.specs.Calls.{formatCall, checkCall, lookupCall, nextCall};
 ghost use Rattle.journal.specs.declared.Way.the-variants.{ByLine, ByWords};
 ghost use Rattle.preview.specs.Calls.{previewCall};
+ghost use Rattle.merge.specs.Calls.{mergeCall};
 ghost use Rattle.transaction.specs.Calls.{transactionCall};
 ghost use Rattle.recovery.specs.Calls.{recoverCall};
 ghost use Rattle.store.specs.Numbers.{lent, countedNumber, countedNumbers, lookupNumber, lookupNumbers, nextNumber, nextNumbers, previewNumber, previewNumbers, commitNumbers, transactedNumber, transactedNumbers, recoveredNumber, recoveredNumbers};
@@ -188,6 +189,14 @@ pub extern "C" fn quote_preview(image: &[u8], edits: &[u8], key: u64, answer: &m
             refusal.number
         }
     }
+}
+
+#[no_mangle]
+pub extern "C" fn quote_merge(first: &[u8], second: &[u8], out: &mut [u8]) -> u8
+    ensures { λ r. ⌜ r ≡ numberOf ((mergeCall (now (first .entry)) (now (second .entry)) (now (out .entry))) .answer) ⌝ }
+    ensures { λ _. ⌜ now (out .exit) ≡ (mergeCall (now (first .entry)) (now (second .entry)) (now (out .entry))) .work ⌝ }
+{
+    number_of(merge::merge(first, second, out))
 }
 
 // Writes the numbers of an accepted transaction.

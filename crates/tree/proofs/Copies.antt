@@ -11,21 +11,20 @@ use lib.Dec.{ltb}
 use Rattle.codec.specs.Lists.{pick, All}
 use Rattle.page.specs.Layout.{pageSize, lineSize, slotCount, leafKind, indexKind, topKey, Rec, readHead}
 use Rattle.page.specs.Page.{records, RecOk}
-use Rattle.page.specs.Operations.{sizes, pageOf}
+use Rattle.page.specs.Operations.{sizes, pageOf, OnePage}
 use Rattle.page.proofs.Facts.{length-records}
 use Rattle.page.proofs.Listed.{few-listed}
-use Rattle.image.specs.Image.{childOf, children, reached, nextSep, startOf}
+use Rattle.image.specs.Image.{childOf, children, reached, nextSep, startOf, indexRec, entrySize, Entries}
 use Rattle.image.specs.Facts.{Rising, Leaf, Leaves}
 use Rattle.image.specs.Table.{leafRecords}
 use Rattle.image.proofs.Rising.{From, rising-le}
+use Rattle.image.proofs.IndexRecords.{index-entry, index-child, index-ok}
 use Rattle.tree.specs.State.{State, done, filled}
-use Rattle.tree.specs.Edits.{indexRec, indexed, copied}
-use Rattle.tree.specs.Grounds.{entrySize, pagesFor, tooFew}
-use Rattle.tree.specs.Reasons.{OnePage}
+use Rattle.tree.specs.Edits.{indexed, copied}
+use Rattle.tree.specs.Grounds.{pagesFor, tooFew}
 use Rattle.tree.specs.Moved.{indexStart, indexSlots, Kept, NewLeaf, CopiedTo, MovedTo}
-use Rattle.tree.specs.Good.{hit, count, named, inside, Entries, Fits, Shows}
+use Rattle.tree.specs.Good.{hit, count, named, inside, Fits, Shows}
 use Rattle.tree.proofs.Counts.{hit-self, inside-most, inside-range}
-use Rattle.tree.proofs.Sizes.{index-entry, index-child, index-ok}
 use Rattle.tree.proofs.Separators.{kept-is, kept-low, kept-most, low-sep, rising-some, made-seam}
 use Rattle.tree.proofs.Pages.{Lower}
 use Rattle.tree.proofs.States.{Leads, leads-trans, leads-take}

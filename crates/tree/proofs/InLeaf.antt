@@ -18,6 +18,7 @@ use Rattle.page.proofs.Facts.{pageOk-true, leaf-form, records-ok}
 use Rattle.page.proofs.Listed.{few-listed}
 use Rattle.page.proofs.Sizes.{page-sizes}
 use Rattle.page.proofs.Made.{All-made}
+use Rattle.page.proofs.Totals.{size-most, sizes-made, made-most}
 use Rattle.image.specs.Image.{childOf, children, reached, nextSep, startOf}
 use Rattle.image.specs.Facts.{Rising, Leaf}
 use Rattle.image.specs.Table.{leafRecords}
@@ -31,7 +32,6 @@ use Rattle.tree.specs.Reasons.{NotFull}
 use Rattle.tree.specs.Moved.{MovedTo, Stays, PutIn}
 use Rattle.tree.proofs.General.{removeAt-seam}
 use Rattle.tree.proofs.Counts.{hit-self, hit-apart, inside-most}
-use Rattle.tree.proofs.Sizes.{size-most, sizes-made, made-most}
 use Rattle.tree.proofs.Pages.{laid-length, laid-start, Lower, fullTest, full-exact, test-full, test-room, place-shows, place-lower, place-old, delete-shows, delete-lower, delete-old}
 use Rattle.tree.proofs.States.{write-length, write-here, write-other, leads-trans, leads-write}
 use Rattle.tree.proofs.Tree.{Here, leaf-here, Loss, loss-pages, loss-good, loss-table}

@@ -15,12 +15,11 @@ use Rattle.page.specs.Layout.{pageSize, lineSize, slotCount, indexKind, Rec, re
 use Rattle.page.specs.Page.{RecOk}
 use Rattle.page.specs.Operations.{made, pageOf}
 use Rattle.page.proofs.Made.{All-made, length-made}
-use Rattle.image.specs.Image.{children}
+use Rattle.image.specs.Image.{children, entrySize, IsEntry, Entries}
 use Rattle.tree.specs.State.{State, done}
 use Rattle.tree.specs.Edits.{indexed}
-use Rattle.tree.specs.Grounds.{entrySize}
 use Rattle.tree.specs.Moved.{indexStart, indexSlots, downFrom, last-copies, left-copies, Takes, index-stays, index-copied}
-use Rattle.tree.specs.Good.{hit, count, inside, IsEntry, Entries, Shows}
+use Rattle.tree.specs.Good.{hit, count, inside, Shows}
 use Rattle.tree.proofs.Separators.{made-seam, inserted-seam, two-entries}
 use Rattle.tree.proofs.Pages.{laid-start, slotMade}
 use Rattle.tree.proofs.States.{leads-free}

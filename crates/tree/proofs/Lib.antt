@@ -1,7 +1,6 @@
 pub mod General
 pub mod Counts
 pub mod Free
-pub mod Sizes
 pub mod Split
 pub mod Pages
 pub mod States

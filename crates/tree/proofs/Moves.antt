@@ -15,14 +15,14 @@ use Rattle.page.specs.Layout.{leafKind, indexKind, Rec, readHead}
 use Rattle.page.specs.Page.{records, formOk}
 use Rattle.page.specs.Operations.{pageOf}
 use Rattle.page.proofs.Facts.{true-pageOk, form-leaf}
-use Rattle.image.specs.Image.{childOf, children, reached, nextSep, startOf}
+use Rattle.image.specs.Image.{childOf, children, reached, nextSep, startOf, IsEntry, Entries}
 use Rattle.image.specs.Facts.{Rising, Leaf}
 use Rattle.image.specs.Table.{leafRecords}
 use Rattle.image.proofs.Rising.{From, rising-rise}
 use Rattle.edit.proofs.General.{all-right}
 use Rattle.tree.specs.State.{State, withPage}
 use Rattle.tree.specs.Grounds.{tableOf}
-use Rattle.tree.specs.Good.{hit, count, named, inside, IsEntry, Entries, Shows, Good}
+use Rattle.tree.specs.Good.{hit, count, named, inside, Shows, Good}
 use Rattle.tree.proofs.Counts.{hit-self, hit-apart, inside-most, named-append}
 use Rattle.tree.proofs.Pages.{laid-length, Lower, Old}
 use Rattle.tree.proofs.States.{write-here, write-other, Leads, leads-write}

@@ -1,15 +1,15 @@
 -- The numbers that edits are refused with: 8 to 11, and no other (document 01, 'Each call and when it says no').
 -- Assumes nothing.
-use Prim.Native.Nat.{ℕ, suc, _-_, _≤_}
+use Prim.Native.Nat.{ℕ, suc, _≤_}
 use mathlib.Core.Path.{_≡_, subst}
 use mathlib.Core.Bool.{Bool, true, false, _&&_}
 use mathlib.Core.List.{List, [], _∷_}
 use native.Mathlib.Omega.{arith}
 use lib.ListN.{length, getD}
 use lib.Dec.{eqb, ltb, leb}
-use Rattle.page.specs.Layout.{pageSize, lineSize, slotCount, Rec, recOf, size}
+use Rattle.page.specs.Layout.{slotCount, Rec, recOf, size}
 use Rattle.page.specs.Page.{records}
-use Rattle.page.specs.Operations.{delete, sizes, pageOf}
+use Rattle.page.specs.Operations.{delete, pageOf, fitsPage}
 use Rattle.page.specs.Search.{searched}
 use Rattle.page.specs.declared.Search.{Search}
 use Rattle.page.specs.declared.Search.the-variants.{At, Missing}
@@ -42,7 +42,7 @@ indexed-numbered ins i r st k h =
 moved-numbered : (st : State) (i sep : ℕ) (rs : List Rec) → Numbered (moved st i sep rs)
 unfolding moved copied split
 moved-numbered st i sep rs =
-    by-test Numbered (leb (length rs) slotCount && leb (sizes rs) (pageSize - lineSize))
+    by-test Numbered (fitsPage rs)
     (λ e. taken-numbered st _ (λ p s. indexed-numbered false i _ _ done (λ t. tt)))
     (λ e. by-test Numbered (leb slotCount (length (children (st .image) (st .root)))) (λ c. (omega arith, omega arith))
     (λ c. taken-numbered st _ (λ p s. taken-numbered s _ (λ q u. indexed-numbered false i _ _ _ (λ x. indexed-numbered true (suc i) _ x done (λ t. tt))))))

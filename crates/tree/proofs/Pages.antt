@@ -22,14 +22,14 @@ use Rattle.page.proofs.Records.{length-recordBytes, size-least}
 use Rattle.page.proofs.Facts.{ok-is, pageOk-true}
 use Rattle.page.proofs.Writes.{drop-seal, part-seal}
 use Rattle.page.proofs.Operations.{insert-page, update-page, delete-page, fill-is, fill-page, fill-kind, fill-own, fill-start}
+use Rattle.image.specs.Image.{entrySize, Entries}
+use Rattle.image.proofs.IndexRecords.{size-entry}
 use Rattle.edit.proofs.General.{neither, not-both}
 use Rattle.tree.specs.Edits.{isFull, inPlace}
-use Rattle.tree.specs.Grounds.{entrySize}
-use Rattle.tree.specs.Good.{Entries, Shows}
+use Rattle.tree.specs.Good.{Shows}
 use Rattle.tree.specs.Reasons.{Full, NotFull}
 use Rattle.tree.specs.Moved.{downFrom}
 use Rattle.tree.proofs.General.{byte-past}
-use Rattle.tree.proofs.Sizes.{size-entry}
 
 -- ---- what a page shows
 

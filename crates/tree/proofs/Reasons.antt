@@ -2,7 +2,7 @@
 -- Assumes nothing.
 use Prim.Native.Nat.{ℕ, _-_}
 use mathlib.Core.Path.{_≡_, _∙_}
-use mathlib.Core.Bool.{Bool, true, false, _&&_}
+use mathlib.Core.Bool.{Bool, true, false}
 use mathlib.Core.List.{List}
 use lib.ListN.{length}
 use lib.Dec.{eqb, ltb, leb}
@@ -10,7 +10,8 @@ use borrow.Author.Tests.{ne-eqb, ltb-true, ltb-false, lt-ltb, le-ltb, leb-true, 
 use Rattle.codec.specs.Lists.{pick}
 use Rattle.page.specs.Layout.{pageSize, lineSize, slotCount, Rec, recOf, size}
 use Rattle.page.specs.Page.{records}
-use Rattle.page.specs.Operations.{sizes}
+use Rattle.page.specs.Operations.{sizes, fitsPage}
+use Rattle.page.proofs.Totals.{one-page, two-pages, not-one}
 use Rattle.image.specs.Image.{children}
 use Rattle.edit.specs.EditList.{Edit, insert, update, delete}
 use Rattle.edit.specs.Ledger.{add, replace}
@@ -21,7 +22,6 @@ use Rattle.edit.proofs.Keys as rules
 use Rattle.tree.specs.State.{State}
 use Rattle.tree.specs.Grounds.{tableOf, leafOf, pagesFor, tooFew, room, placing, ground}
 use Rattle.tree.specs.Reasons.{Room, in-place, copied, no-copy, no-index, split, no-split, Reason, broken, inserted, updated, deleted}
-use Rattle.tree.proofs.Split.{one-page, two-pages, not-one}
 use Rattle.tree.proofs.Pages.{fullTest, test-full, test-room, full-test, room-test}
 
 module _ (st : State) (ins : Bool) (s : ℕ) (p : List ℕ) (rs : List Rec) where
@@ -29,7 +29,7 @@ module _ (st : State) (ins : Bool) (s : ℕ) (p : List ℕ) (rs : List Rec) wher
   unfolding room tooFew
   room-reason =
       by-test (Room st ins s p rs) (fullTest ins s p)
-      (λ e. let full = test-full ins s p e in by-test (Room st ins s p rs) (leb (length rs) slotCount && leb (sizes rs) (pageSize - lineSize))
+      (λ e. let full = test-full ins s p e in by-test (Room st ins s p rs) (fitsPage rs)
       (λ one. by-test (Room st ins s p rs) (ltb (length (st .free)) (pagesFor st 1)) (λ less. no-copy full (one-page rs one) (ltb-true (length (st .free)) (pagesFor st 1) less))
       (λ more. copied full (one-page rs one) (ltb-false (length (st .free)) (pagesFor st 1) more)))
       (λ over. let two = two-pages rs over in

@@ -16,10 +16,9 @@ use Rattle.page.specs.Page.{RecOk}
 use Rattle.page.specs.Operations.{made}
 use Rattle.image.specs.Facts.{Rising}
 use Rattle.image.specs.Image as ranges
-use Rattle.image.specs.Image.{startOf}
+use Rattle.image.specs.Image.{startOf, entrySize}
 use Rattle.image.proofs.Rising.{rising-le}
 use Rattle.tree.specs.Edits.{keptSep, firstKey}
-use Rattle.tree.specs.Grounds.{entrySize}
 use Rattle.tree.specs.Moved.{Kept}
 use Rattle.tree.proofs.General.{insertAt-seam}
 

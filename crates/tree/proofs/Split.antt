@@ -3,44 +3,20 @@
 -- Assumes nothing.
 use Prim.Native.Nat.{ℕ, zero, suc, _+_, _*_, _-_, _≤_, _<_}
 use mathlib.Core.Path.{_≡_, refl, sym, ap, _∙_}
-use mathlib.Core.Logic.{inl, inr}
-use mathlib.Core.Bool.{Bool, true, false, _&&_, and-false}
+use mathlib.Core.Bool.{Bool, true, false, _&&_}
 use mathlib.Core.List.{List, [], _∷_}
 use native.Mathlib.Omega.{arith}
 use lib.ListN.{length, take, drop, take-append-drop, length-append}
 use lib.Dec.{leb}
-use borrow.Author.Tests.{leb-true, leb-false, lt-leb}
+use borrow.Author.Tests.{leb-true, leb-false}
 use Rattle.codec.specs.Lists.{pick, All}
-use Rattle.codec.proofs.Tests.{first, second}
 use Rattle.page.specs.Layout.{pageSize, lineSize, slotCount, Rec, size}
 use Rattle.page.specs.Page.{RecOk}
-use Rattle.page.specs.Operations.{sizes}
+use Rattle.page.specs.Operations.{sizes, fitsPage}
+use Rattle.page.proofs.Totals.{sizeMost, size-most, sizes-append, sizes-least}
 use Rattle.edit.proofs.General.{by-test}
 use Rattle.tree.specs.Edits.{splitFrom, splitPoint}
 use Rattle.tree.specs.Good.{Fits}
-use Rattle.tree.specs.Reasons.{OnePage, TwoPages}
-use Rattle.tree.proofs.Sizes.{sizeMost, size-most, sizes-append, sizes-least}
-
--- ---- "If they are at most 28 and at most 960 bytes"
-
-module _ (rs : List Rec) where
-  pub one-page : (leb (length rs) slotCount && leb (sizes rs) (pageSize - lineSize)) ≡ true → OnePage rs
-  one-page e =
-      record {
-        few = leb-true (length rs) slotCount (first (leb (length rs) slotCount) (leb (sizes rs) (pageSize - lineSize)) e);
-        small = leb-true (sizes rs) (pageSize - lineSize) (second (leb (length rs) slotCount) (leb (sizes rs) (pageSize - lineSize)) e);
-      }
-
-  pub two-pages : (leb (length rs) slotCount && leb (sizes rs) (pageSize - lineSize)) ≡ false → TwoPages rs
-  two-pages h = go (leb (length rs) slotCount) refl h
-    where
-      go : (a : Bool) → leb (length rs) slotCount ≡ a → (a && leb (sizes rs) (pageSize - lineSize)) ≡ false → TwoPages rs
-      go false e h = inl (leb-false (length rs) slotCount e)
-      go true e h = inr (leb-false (sizes rs) (pageSize - lineSize) h)
-
-  pub not-one : TwoPages rs → (leb (length rs) slotCount && leb (sizes rs) (pageSize - lineSize)) ≡ false
-  not-one (inl h) = rw (lt-leb (length rs) slotCount h)
-  not-one (inr h) = rw (lt-leb (sizes rs) (pageSize - lineSize) h) (and-false (leb (length rs) slotCount))
 
 -- ---- "m smallest with twice their bytes at least the total", where `seen` bytes stand before the list
 
@@ -103,7 +79,7 @@ nonempty (r ∷ l) h = omega arith
 
 -- what has no room in one page has room in two
 pub halves : (l : List Rec) → All RecOk l → length l ≤ suc slotCount → sizes l ≤ pageSize - lineSize + sizeMost →
-    (leb (length l) slotCount && leb (sizes l) (pageSize - lineSize)) ≡ false → Fits (take (splitPoint l) l) × Fits (drop (splitPoint l) l)
+    fitsPage l ≡ false → Fits (take (splitPoint l) l) × Fits (drop (splitPoint l) l)
 halves l g few small over =
     let m = splitPoint l in
     let e : sizes (take m l) + sizes (drop m l) ≡ sizes l = sym (sizes-append (take m l) (drop m l)) ∙ ap sizes (take-append-drop m l) in

@@ -3,7 +3,7 @@
 use Prim.Native.Nat.{ℕ, suc, _+_, _-_, _*_, _≤_, _<_}
 use mathlib.Core.Path.{_≡_, refl, sym, ap, ap₂, _∙_, subst}
 use mathlib.Core.Logic.{inr}
-use mathlib.Core.Bool.{Bool, _&&_}
+use mathlib.Core.Bool.{Bool}
 use mathlib.Core.List.{List, [], _∷_, _++_, append-nil}
 use native.Mathlib.Omega.{arith}
 use lib.ListN.{length, take, drop, take-append-drop, length-append, length-take}
@@ -13,23 +13,23 @@ use Rattle.codec.specs.Lists.{pick, All}
 use Rattle.codec.specs.Numbers.{bytesOf}
 use Rattle.page.specs.Layout.{pageSize, lineSize, slotCount, leafKind, Rec, recOf}
 use Rattle.page.specs.Page.{records, RecOk}
-use Rattle.page.specs.Operations.{sizes, pageOf}
-use Rattle.image.specs.Image.{childOf, children, nextSep, startOf}
+use Rattle.page.specs.Operations.{sizes, pageOf, TwoPages, fitsPage}
+use Rattle.page.proofs.Totals.{sizeMost, one-page, two-pages}
+use Rattle.image.specs.Image.{childOf, children, nextSep, startOf, indexRec, entrySize, Entries}
 use Rattle.image.specs.Facts.{Rising}
 use Rattle.image.specs.Table.{leafRecords}
 use Rattle.image.proofs.Rising.{From, rising-split}
 use Rattle.image.proofs.General.{All-left}
+use Rattle.image.proofs.IndexRecords.{index-entry, index-child, index-ok}
 use Rattle.edit.proofs.General.{by-tests, all-right}
 use Rattle.tree.specs.State.{State, done, filled}
-use Rattle.tree.specs.Edits.{indexRec, indexed, keptSep, splitPoint, firstKey, split, moved}
-use Rattle.tree.specs.Grounds.{entrySize, pagesFor, tooFew}
-use Rattle.tree.specs.Reasons.{TwoPages}
+use Rattle.tree.specs.Edits.{indexed, keptSep, splitPoint, firstKey, split, moved}
+use Rattle.tree.specs.Grounds.{pagesFor, tooFew}
 use Rattle.tree.specs.Moved.{indexStart, Takes, Kept, NewLeaf, SplitOver, MovedTo}
-use Rattle.tree.specs.Good.{hit, count, inside, Entries, Fits, Shows}
+use Rattle.tree.specs.Good.{hit, count, inside, Fits, Shows}
 use Rattle.tree.proofs.Counts.{hit-self, inside-range}
-use Rattle.tree.proofs.Sizes.{index-entry, index-child, index-ok, sizeMost}
 use Rattle.tree.proofs.Separators.{kept-is, kept-low, rising-some, first-key, first-of, first-ok}
-use Rattle.tree.proofs.Split.{one-page, two-pages, point-reaches, point-smallest, halves}
+use Rattle.tree.proofs.Split.{point-reaches, point-smallest, halves}
 use Rattle.tree.proofs.States.{leads-trans, leads-take}
 use Rattle.tree.proofs.Tree.{Here, good-entries}
 use Rattle.tree.proofs.Steps.{Ends, short, taken-ends, Filled, Reindexed}
@@ -41,7 +41,7 @@ use Rattle.tree.proofs.Copies.{Fresh, root-page, fresh-index, fresh-apa
 -- the ground of a full leaf, whose records with the edit made are rs
 abbrev pub fullGround : State → List Rec → ℕ
 fullGround st rs =
-    pick (leb (length rs) slotCount && leb (sizes rs) (pageSize - lineSize)) (tooFew st 1) (pick (leb slotCount (length (children (st .image) (st .root)))) 10 (tooFew st 2))
+    pick (fitsPage rs) (tooFew st 1) (pick (leb slotCount (length (children (st .image) (st .root)))) 10 (tooFew st 2))
 
 -- ---- one leaf, with the index records before and after its own; its records with the edit made are rs
 
@@ -206,6 +206,6 @@ module _ (n : ℕ) (F : List ℕ) (H : Here n F) (rs : List Rec) (up : Rising (s
       Ends (λ (t : State). After n F H rs t × MovedTo st t pre c post rs) (fullGround st rs) (moved st (length pre) (c .key) rs)
   unfolding moved
   moved-ends some few small =
-      by-tests (Ends (To n F H rs)) (leb (length rs) slotCount && leb (sizes rs) (pageSize - lineSize))
+      by-tests (Ends (To n F H rs)) (fitsPage rs)
       (λ e. let one = one-page rs e in copied-ends n F H rs up keys good one (record { some = some; few = one .few; room = omega (arith, one .small) }))
       (λ e. let h = halves rs good few small e in split-ends (two-pages rs e) (h .0) (h .1))

@@ -16,14 +16,14 @@ use Rattle.page.specs.Operations.{made, sizes, fill, placed, pageOf}
 use Rattle.page.proofs.Made.{All-made}
 use Rattle.page.proofs.Facts.{records-ok}
 use Rattle.page.proofs.Operations.{fill-stays}
+use Rattle.image.specs.Image.{entrySize, IsEntry, Entries}
+use Rattle.image.proofs.IndexRecords.{size-entry, sizes-entries}
 use Rattle.edit.proofs.General.{by-tests}
 use Rattle.tree.specs.State.{State, Step, done, refused, withPage, withRoot, takePage, taken, filled}
 use Rattle.tree.specs.Edits.{isFull, inPlace, indexed}
-use Rattle.tree.specs.Grounds.{entrySize}
 use Rattle.tree.specs.Moved.{indexSlots, downFrom}
-use Rattle.tree.specs.Good.{hit, count, inside, IsEntry, Entries, Shows}
+use Rattle.tree.specs.Good.{hit, count, inside, Shows}
 use Rattle.tree.proofs.Counts.{hit-self, hit-apart, inside-most, inside-range}
-use Rattle.tree.proofs.Sizes.{size-entry, sizes-entries}
 use Rattle.tree.proofs.Pages.{full-exact, shows-as, laid-length, laid-start, Lower, lower-trans, slotMade, place-shows, place-slots, place-lower, place-old, fill-shows, fill-slots, placed-down}
 use Rattle.tree.proofs.States.{page-length, write-length, write-here, write-other, Leads, leads-trans, leads-take, leads-root, leads-write}
 

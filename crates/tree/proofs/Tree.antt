@@ -15,7 +15,7 @@ use Rattle.page.specs.Page.{records, laidOut, formOk, pageOk}
 use Rattle.page.specs.Operations.{pageOf}
 use Rattle.page.proofs.Facts.{pageOk-true, true-pageOk, index-form, form-index}
 use Rattle.image.specs.PageZero.{pageCount, isPage}
-use Rattle.image.specs.Image.{childOf, children, reached, nextSep, startOf}
+use Rattle.image.specs.Image.{childOf, children, reached, nextSep, startOf, IsEntry, Entries}
 use Rattle.image.specs.Facts.{Rising, Leaf, Leaves}
 use Rattle.image.specs.Table.{leafRecords}
 use Rattle.image.proofs.Rising.{rising-append, rising-split, rising-rise, rising-lo}
@@ -27,7 +27,7 @@ use Rattle.image.proofs.General.{All-append, All-left}
 use Rattle.edit.proofs.General.{all-right}
 use Rattle.tree.specs.State.{State}
 use Rattle.tree.specs.Grounds.{tableOf}
-use Rattle.tree.specs.Good.{hit, count, named, inside, IsEntry, Entries, Shows, Good}
+use Rattle.tree.specs.Good.{hit, count, named, inside, Shows, Good}
 use Rattle.tree.proofs.Counts.{hit-self, inside-most, inside-page, named-append, count-among, count-distinct, inside-pages}
 use Rattle.tree.proofs.Pages.{shows-sound}
 use Rattle.tree.proofs.Leaves.{Same, same-where, leaves-same, records-same, leaves-front, leaves-drop, leaves-only}

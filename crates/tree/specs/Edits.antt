@@ -6,15 +6,14 @@ use mathlib.Core.List.{List, [], _∷_}
 use lib.ListN.{length, getD, take, drop}
 use lib.Dec.{eqb, leb, ltb}
 use Rattle.codec.specs.Lists.{pick}
-use Rattle.codec.specs.Numbers.{bytesOf}
 use Rattle.device.specs.Calls.{keyPresent, keyMissing, indexFull}
-use Rattle.page.specs.Layout.{pageSize, lineSize, slotCount, leafKind, indexKind, Rec, recOf, size, readHead}
+use Rattle.page.specs.Layout.{lineSize, slotCount, leafKind, indexKind, Rec, recOf, size, readHead}
 use Rattle.page.specs.Page.{records}
-use Rattle.page.specs.Operations.{insert, update, delete, made, sizes, pageOf}
+use Rattle.page.specs.Operations.{insert, update, delete, made, sizes, pageOf, fitsPage}
 use Rattle.page.specs.Search.{searched}
 use Rattle.page.specs.declared.Search.{Search}
 use Rattle.page.specs.declared.Search.the-variants.{At, Missing}
-use Rattle.image.specs.Image.{children, childOf}
+use Rattle.image.specs.Image.{children, childOf, indexRec}
 use Rattle.image.specs.Route.{route}
 use Rattle.edit.specs.EditList.{Edit, keyOf}
 use Rattle.edit.specs.EditList as edits
@@ -31,10 +30,6 @@ inPlace true i r p = insert p i r
 inPlace false i r p = update p i r
 
 -- ---- the index
-
--- an index record: "its value a 2-byte page number"
-unfoldable pub indexRec : ℕ → ℕ → Rec
-indexRec sep p = recOf sep (bytesOf 2 p)
 
 -- "The index gets a new record for each new page .. by the same rule; its own full page is copied likewise, which changes the root number."
 unfoldable pub indexed : Bool → ℕ → Rec → State → (State → Step) → Step
@@ -80,7 +75,7 @@ split st i sep rs =
 
 -- "If they are at most 28 and at most 960 bytes, they are copied to one new page; else split over two."
 unfoldable pub moved : State → ℕ → ℕ → List Rec → Step
-moved st i sep rs = pick (leb (length rs) slotCount && leb (sizes rs) (pageSize - lineSize)) (copied st i sep rs) (split st i sep rs)
+moved st i sep rs = pick (fitsPage rs) (copied st i sep rs) (split st i sep rs)
 
 -- ---- one edit, in the i-th leaf, page q with separator sep
 

@@ -6,7 +6,7 @@ use mathlib.Core.Path.{_≡_}
 use mathlib.Core.Bool.{true}
 use lib.Dec.{eqb}
 use lib.ListN.{length}
-use Rattle.codec.specs.Lists.{pick, All}
+use Rattle.codec.specs.Lists.{pick}
 use Rattle.page.specs.Layout.{Rec, readHead, pageSize, lineSize, slotCount, indexKind}
 use Rattle.image.specs.PageZero.{isPage}
 use Rattle.image.specs.Image.{childOf, children}
@@ -42,13 +42,6 @@ pub record Shows (g : List ℕ) (k n s : ℕ) (rs : List Rec) : Type 0 where
   pub own : readHead g .own ≡ n
   pub start : readHead g .start ≡ s
   pub recs : records g ≡ rs
-
--- index records: "its value a 2-byte page number"
-abbrev pub IsEntry : Rec → Type 0
-IsEntry c = length (c .value) ≡ 2
-
-abbrev pub Entries : List Rec → Type 0
-Entries cs = All IsEntry cs
 
 -- a page has room for the records
 pub record Fits (l : List Rec) : Type 0 where

@@ -10,10 +10,10 @@ use lib.ListN.{length, getD}
 use lib.Dec.{eqb, leb, ltb}
 use Rattle.codec.specs.Lists.{pick}
 use Rattle.device.specs.Calls.{indexFull, pagesOut}
-use Rattle.page.specs.Layout.{pageSize, lineSize, slotCount, Rec, recOf, size, readHead}
+use Rattle.page.specs.Layout.{lineSize, slotCount, Rec, recOf, size, readHead}
 use Rattle.page.specs.Page.{records}
-use Rattle.page.specs.Operations.{sizes, pageOf}
-use Rattle.image.specs.Image.{children, childOf}
+use Rattle.page.specs.Operations.{pageOf, fitsPage}
+use Rattle.image.specs.Image.{entrySize, children, childOf}
 use Rattle.image.specs.Table.{leafRecords, table}
 use Rattle.image.specs.Route.{route}
 use Rattle.edit.specs.EditList.{Edit, insert, update, delete}
@@ -32,10 +32,6 @@ leafOf st k =
     let cs = children (st .image) (st .root) in
     pageOf (st .image) (childOf (getD cs (route k cs) (recOf 0 [])))
 
--- the size of an index record
-abbrev pub entrySize : ℕ
-entrySize = 24
-
 -- the new pages of an edit whose leaf needs n of them: one more where n index records have no room below the index's start
 unfoldable pub pagesFor : State → ℕ → ℕ
 pagesFor st n = n + pick (ltb (readHead (pageOf (st .image) (st .root)) .start - lineSize) (entrySize * n)) 1 0
@@ -48,7 +44,7 @@ tooFew st n = pick (ltb (length (st .free)) (pagesFor st n)) pagesOut 0
 unfoldable pub room : State → Bool → ℕ → List ℕ → List Rec → ℕ
 room st ins s p rs =
     pick (ltb (readHead p .start - lineSize) s || (ins && leb slotCount (length (records p))))
-    (pick (leb (length rs) slotCount && leb (sizes rs) (pageSize - lineSize)) (tooFew st 1)
+    (pick (fitsPage rs) (tooFew st 1)
     (pick (leb slotCount (length (children (st .image) (st .root)))) indexFull (tooFew st 2)))
     0
 

@@ -6,9 +6,9 @@ use mathlib.Core.Logic.{_⊎_}
 use mathlib.Core.Bool.{Bool, true, false}
 use mathlib.Core.List.{List}
 use lib.ListN.{length}
-use Rattle.page.specs.Layout.{pageSize, lineSize, slotCount, Rec, recOf, size, readHead}
+use Rattle.page.specs.Layout.{lineSize, slotCount, Rec, recOf, size, readHead}
 use Rattle.page.specs.Page.{records}
-use Rattle.page.specs.Operations.{sizes}
+use Rattle.page.specs.Operations.{OnePage, TwoPages}
 use Rattle.image.specs.Image.{children}
 use Rattle.edit.specs.EditList.{Edit, insert, update, delete}
 use Rattle.edit.specs.Ledger.{add, replace}
@@ -23,14 +23,6 @@ Full ins s p = (readHead p .start - lineSize < s) ⊎ ((ins ≡ true) × (slotCo
 -- and when it has
 abbrev pub NotFull : Bool → ℕ → List ℕ → Type 0
 NotFull ins s p = (s ≤ readHead p .start - lineSize) × (ins ≡ true → length (records p) < slotCount)
-
--- "If they are at most 28 and at most 960 bytes, they are copied to one new page; else split over two."
-pub record OnePage (rs : List Rec) : Type 0 where
-  pub few : length rs ≤ slotCount
-  pub small : sizes rs ≤ pageSize - lineSize
-
-abbrev pub TwoPages : List Rec → Type 0
-TwoPages rs = (slotCount < length rs) ⊎ (pageSize - lineSize < sizes rs)
 
 -- the ground of a record of size s that goes into the leaf p, whose records are then rs
 pub data Room (st : State) (ins : Bool) (s : ℕ) (p : List ℕ) (rs : List Rec) : ℕ → Type 0 where

@@ -15,8 +15,9 @@ use Rattle.page.proofs.Made.{All-made, length-made, between-all}
 use Rattle.page.proofs.Facts.{records-ok}
 use Rattle.page_edit.specs.Filling.{CanFill}
 use Rattle.image.specs.PageZero.{pageCount}
+use Rattle.image.specs.Image.{indexRec}
 use Rattle.tree.specs.State.{State, done, refused, filled}
-use Rattle.tree.specs.Edits.{indexRec, indexed, keptSep, copied}
+use Rattle.tree.specs.Edits.{indexed, keptSep, copied}
 use Rattle.tree.specs.Good.{count, Fits}
 use Rattle.tree.proofs.Counts.{hit-self}
 use Rattle.tree.proofs.Steps.{Filled, filled-facts}

@@ -16,12 +16,12 @@ use Rattle.page.specs.Page.{records, laidOut, RecOk}
 use Rattle.page.specs.Operations.{made, sizes, between, fill, pageOf, putPage}
 use Rattle.page.proofs.Made.{All-made, length-made, between-all}
 use Rattle.page_edit.specs.Filling.{CanFill}
+use Rattle.image.specs.Image.{indexRec, entrySize, IsEntry}
+use Rattle.image.proofs.IndexRecords.{size-entry, sizes-entries, index-entry, index-ok}
 use Rattle.tree.specs.State.{State, done, refused, filled}
-use Rattle.tree.specs.Edits.{isFull, inPlace, indexRec, indexed, keptSep}
-use Rattle.tree.specs.Grounds.{entrySize}
-use Rattle.tree.specs.Good.{count, IsEntry}
+use Rattle.tree.specs.Edits.{isFull, inPlace, indexed, keptSep}
+use Rattle.tree.specs.Good.{count}
 use Rattle.tree.proofs.Counts.{hit-self, inside-range}
-use Rattle.tree.proofs.Sizes.{size-entry, sizes-entries, index-entry, index-ok}
 use Rattle.tree_edit.specs.Steps.{recBy, madeBy}
 use Rattle.tree_edit.specs.Asked.{CanPut, CanIndex}
 use Rattle.tree_edit.specs.declared.Change.{Change}

@@ -16,10 +16,10 @@ use Rattle.page.specs.Operations.{made, pageOf}
 use Rattle.page.proofs.Made.{All-made, length-made}
 use Rattle.page.proofs.Facts.{records-ok}
 use Rattle.image.specs.PageZero.{pageCount}
+use Rattle.image.specs.Image.{indexRec, IsEntry}
+use Rattle.image.proofs.IndexRecords.{index-entry, index-ok}
 use Rattle.tree.specs.State.{State, Step, done, refused, withPage, withRoot, takePage, taken, filled}
-use Rattle.tree.specs.Edits.{isFull, inPlace, indexRec, indexed, firstKey}
-use Rattle.tree.specs.Good.{IsEntry}
-use Rattle.tree.proofs.Sizes.{index-entry, index-ok}
+use Rattle.tree.specs.Edits.{isFull, inPlace, indexed, firstKey}
 use Rattle.tree.proofs.Separators.{first-ok}
 use Rattle.tree.proofs.Steps.{Reindexed, indexed-ends}
 use Rattle.tree_edit.specs.Steps.{indexTwo}

@@ -16,11 +16,11 @@ use Rattle.page.specs.Layout.{Rec, recOf}
 use Rattle.page.specs.Page.{records}
 use Rattle.page.specs.Operations.{pageOf}
 use Rattle.image.specs.PageZero.{isPage}
-use Rattle.image.specs.Image.{childOf, children, reached, among}
+use Rattle.image.specs.Image.{childOf, children, reached, among, IsEntry}
 use Rattle.image.proofs.Zero.{isPage-true}
 use Rattle.image.proofs.CodePages.{All-at, drop-next}
 use Rattle.tree.specs.State.{State}
-use Rattle.tree.specs.Good.{IsEntry, Good}
+use Rattle.tree.specs.Good.{Good}
 use Rattle.tree.proofs.Counts.{inside-pages}
 use Rattle.tree.proofs.Tree.{good-entries}
 use Rattle.tree_edit.specs.Steps.{isMarked, Marks}

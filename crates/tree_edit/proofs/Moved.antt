@@ -1,16 +1,14 @@
 -- A record put into a leaf: in place, or moved to one new page or two, as `put` and `moved` say; and a record dropped, as `dropped` says.
 -- Assumes nothing.
-use Prim.Native.Nat.{ℕ, _+_, _-_}
+use Prim.Native.Nat.{ℕ, _+_}
 use mathlib.Core.Path.{_≡_, sym, ap, _∙_}
-use mathlib.Core.Bool.{Bool, true, false, _&&_}
+use mathlib.Core.Bool.{Bool, true, false}
 use mathlib.Core.List.{List}
 use native.Mathlib.Omega.{arith}
 use lib.ListN.{length}
-use lib.Dec.{leb}
-use borrow.Author.Tests.{leb-true}
-use Rattle.codec.proofs.Tests.{first, second}
-use Rattle.page.specs.Layout.{pageSize, lineSize, slotCount, Rec, up8, size}
-use Rattle.page.specs.Operations.{sizes, pageOf, putPage}
+use Rattle.page.specs.Layout.{Rec, up8, size}
+use Rattle.page.specs.Operations.{fitsPage, pageOf, putPage}
+use Rattle.page.proofs.Totals.{one-page}
 use Rattle.tree.specs.State.{State, done}
 use Rattle.tree.specs.Edits.{isFull, inPlace, copied, split, moved, put}
 use Rattle.tree.specs.Good.{Fits}
@@ -31,19 +29,12 @@ module _ {n : ℕ} {st : State} {leaf : Leaf} {new : Change} {v : List ℕ} (can
 
   -- ---- moved
 
-  module _ (one : Bool) (x : List ℕ) (e : x ≡ pageOf (st .image) (leaf .page))
-      (test : one ≡ (leb (length (madeBy new v x)) slotCount && leb (sizes (madeBy new v x)) (pageSize - lineSize))) where
-    tested : (leb (length rs) slotCount && leb (sizes rs) (pageSize - lineSize)) ≡ one
-    tested = sym (test ∙ ap (λ (p : List ℕ). leb (length (madeBy new v p)) slotCount && leb (sizes (madeBy new v p)) (pageSize - lineSize)) e)
+  module _ (one : Bool) (x : List ℕ) (e : x ≡ pageOf (st .image) (leaf .page)) (test : one ≡ fitsPage (madeBy new v x)) where
+    tested : fitsPage rs ≡ one
+    tested = sym (test ∙ ap (λ (p : List ℕ). fitsPage (madeBy new v p)) e)
 
     pub one-fits : one ≡ true → Fits (madeBy new v (pageOf (st .image) (leaf .page)))
-    one-fits z =
-        let t : (leb (length rs) slotCount && leb (sizes rs) (pageSize - lineSize)) ≡ true = tested ∙ z in
-        record {
-          some = omega (arith, can .put .place);
-          few = leb-true (length rs) slotCount (first (leb (length rs) slotCount) (leb (sizes rs) (pageSize - lineSize)) t);
-          room = omega (arith, leb-true (sizes rs) (pageSize - lineSize) (second (leb (length rs) slotCount) (leb (sizes rs) (pageSize - lineSize)) t));
-        }
+    one-fits z = let o = one-page rs (tested ∙ z) in record { some = omega (arith, can .put .place); few = o .few; room = omega (arith, o .small) }
 
     pub two-fit : one ≡ false → CanSplit (madeBy new v (pageOf (st .image) (leaf .page)))
     two-fit z = let h = halves rs (made-good can) (made-few (can .put)) (made-small (can .put)) (tested ∙ z) in record { left = h .0; right = h .1 }

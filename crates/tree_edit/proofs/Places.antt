@@ -14,12 +14,12 @@ use Rattle.page.proofs.Facts.{pageOk-true, records-ok}
 use Rattle.page.proofs.Listed.{few-listed}
 use Rattle.page.proofs.Made.{length-made}
 use Rattle.image.specs.PageZero.{pageCount}
-use Rattle.image.specs.Image.{children, childOf}
+use Rattle.image.specs.Image.{children, childOf, indexRec}
 use Rattle.image.specs.Route.{route}
 use Rattle.image.proofs.Routing.{routed}
 use Rattle.image.proofs.CodePages.{All-at, child-two}
 use Rattle.tree.specs.State.{State}
-use Rattle.tree.specs.Edits.{indexRec, keptSep}
+use Rattle.tree.specs.Edits.{keptSep}
 use Rattle.tree.specs.Good.{hit, count, inside, Shows, Good}
 use Rattle.tree.proofs.Counts.{hit-self, hit-apart, inside-most, inside-range}
 use Rattle.tree.proofs.Tree.{good-entries, good-seps, good-shows, Here, leaf-here}

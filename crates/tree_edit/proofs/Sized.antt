@@ -8,42 +8,23 @@ use native.Mathlib.Omega.{arith}
 use native.Mathlib.Nat.{zero-add}
 use lib.ListN.{length, getD, drop, drop-of-length-le}
 use borrow.Author.Tests.{lt-ltb, le-ltb, le-leb, lt-leb}
-use Rattle.codec.specs.Lists.{part, pick}
-use Rattle.codec.specs.Numbers.{number}
+use Rattle.codec.specs.Lists.{pick}
 use Rattle.page.specs.Layout.{pageSize, lineSize, slotCount, valueMost, Rec, recOf, up8, size}
-use Rattle.page.specs.Page.{records, laidOut, RecOk}
+use Rattle.page.specs.Page.{records}
 use Rattle.page.specs.Operations.{sizes}
-use Rattle.page.proofs.Facts.{ok-is, records-ok}
+use Rattle.page.proofs.Facts.{ok-is}
 use Rattle.page.proofs.Sizes.{page-sizes}
 use Rattle.page.proofs.Listed.{few-listed}
 use Rattle.page.proofs.Made.{length-made, oldSlot, made-less, made-new-next, made-old-next}
-use Rattle.image.proofs.CodePages.{All-at, drop-next, slot, value-in, length-here}
+use Rattle.page.proofs.Totals.{sizeMost, size-most, sizes-made, made-most}
+use Rattle.image.proofs.CodePages.{drop-next}
 use Rattle.tree.specs.Edits.{splitFrom, splitPoint}
-use Rattle.tree.proofs.Sizes.{sizeMost, size-most, sizes-made, made-most}
 use Rattle.tree_edit.specs.Steps.{recBy, madeBy}
 use Rattle.tree_edit.specs.Asked.{CanPut}
 use Rattle.tree_edit.specs.declared.Change.{Change}
 
 abbrev none : Rec
 none = recOf 0 []
-
--- ---- a record of the page
-
-module _ (p : List ℕ) (ok : laidOut p ≡ true) (i : ℕ) (less : i < length (records p)) (o : ℕ) (e : o ≡ slot p i) where
-  pub length-in : o + 8 + 2 ≤ length p
-  length-in = omega (arith, value-in p ok i less none)
-
-  pub length-small : (n : ℕ) → n ≡ number (part p (o + 8) 2) → n ≤ valueMost
-  length-small n f =
-      omega (
-        arith,
-        f ∙ ap (λ (k : ℕ). number (part p (k + 8) 2)) e ∙ length-here p ok i less none,
-        All-at RecOk (records p) i none (records-ok p ok) less .few,
-      )
-
-  pub size-here : (n : ℕ) → n ≡ number (part p (o + 8) 2) → 16 + up8 n ≡ size (getD (records p) i (recOf 0 []))
-  unfolding size
-  size-here n f = ap (λ (m : ℕ). 16 + up8 m) (f ∙ ap (λ (k : ℕ). number (part p (k + 8) 2)) e ∙ length-here p ok i less none)
 
 -- ---- with the change made
 

@@ -10,10 +10,10 @@ use Rattle.page.specs.Layout.{pageSize, slotCount, indexKind, topKey, Rec, read
 use Rattle.page.specs.Page.{records, laidOut, RecOk}
 use Rattle.page.specs.Operations.{made, pageOf}
 use Rattle.image.specs.PageZero.{pageCount}
-use Rattle.image.specs.Image.{children, reached}
+use Rattle.image.specs.Image.{children, reached, indexRec, Entries}
 use Rattle.tree.specs.State.{State}
-use Rattle.tree.specs.Edits.{indexRec, splitPoint}
-use Rattle.tree.specs.Good.{hit, count, inside, Entries, Fits, Shows, Good}
+use Rattle.tree.specs.Edits.{splitPoint}
+use Rattle.tree.specs.Good.{hit, count, inside, Fits, Shows, Good}
 use Rattle.tree_edit.specs.Steps.{isMarked, leafAt, recBy, madeBy}
 use Rattle.tree_edit.specs.declared.Leaf.{Leaf}
 use Rattle.tree_edit.specs.declared.Change.{Change}

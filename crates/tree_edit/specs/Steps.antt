@@ -10,9 +10,9 @@ use Rattle.codec.specs.Lists.{pick}
 use Rattle.page.specs.Layout.{leafKind, Rec, recOf}
 use Rattle.page.specs.Page.{records}
 use Rattle.page.specs.Operations.{made}
-use Rattle.image.specs.Image.{children, childOf, among}
+use Rattle.image.specs.Image.{children, childOf, among, indexRec}
 use Rattle.tree.specs.State.{State, Step, done, refused, filled}
-use Rattle.tree.specs.Edits.{indexRec, indexed, keptSep, splitPoint, firstKey}
+use Rattle.tree.specs.Edits.{indexed, keptSep, splitPoint, firstKey}
 use Rattle.tree.specs.Whole as whole
 use Rattle.tree_edit.specs.declared.Tree.{Tree}
 use Rattle.tree_edit.specs.declared.Leaf.{Leaf}

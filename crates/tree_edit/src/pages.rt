@@ -13,7 +13,7 @@ ghost use Prim.Native.Nat.{suc, _+_, _-_, _*_, _≤_, _<_};
 ghost use lib.ListN.{length};
 ghost use lib.Dec.{eqb};
 ghost use Rattle.codec.specs.Lists.{pick};
-ghost use Rattle.page.specs.Layout.{pageSize, valueMost, up8, size};
+ghost use Rattle.page.specs.Layout.{pageSize, size};
 ghost use Rattle.page.specs.Page.{laidOut, records};
 ghost use Rattle.page.specs.Operations.{fill, delete, between, pageOf, putPage};
 ghost use Rattle.page_edit.specs.Filling.{CanFill};
@@ -35,14 +35,6 @@ pub(crate) fn free_below(before: &[u8; 64], top: usize) -> usize
         }
     }
     0
-}
-
-// The size of a record with a value of n bytes.
-pub(crate) fn size_of(n: usize) -> usize
-    requires { ⌜ n ≤ valueMost ⌝ }
-    ensures { λ r. ⌜ r ≡ 16 + up8 n ⌝ }
-{
-    16 + (n + 7) / 8 * 8
 }
 
 // Whether a page has no room for a record of s bytes: "If s exceeds start minus 64, or an insert finds 28 records".

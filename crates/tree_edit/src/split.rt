@@ -1,28 +1,17 @@
 // Where the records of a full leaf are split.
 use crate::Change;
 use crate::pages::made_count;
-use crate::pages::size_of;
-use image::pages::slot_at;
+use image::pages::size_at;
+use image::pages::size_of;
 ghost use mathlib.Core.Path.{_≡_};
-ghost use mathlib.Core.Bool.{true, _&&_};
 ghost use mathlib.Core.List.{[]};
 ghost use Prim.Native.Nat.{_-_, _<_};
 ghost use lib.ListN.{length, getD};
-ghost use lib.Dec.{leb};
-ghost use Rattle.page.specs.Layout.{pageSize, lineSize, slotCount, recOf, size};
-ghost use Rattle.page.specs.Page.{laidOut, records};
-ghost use Rattle.page.specs.Operations.{sizes};
+ghost use Rattle.page.specs.Layout.{recOf, size};
+ghost use Rattle.page.specs.Operations.{sizes, fitsPage};
 ghost use Rattle.tree.specs.Edits.{splitPoint};
 ghost use Rattle.tree_edit.specs.Steps.{madeBy};
 ghost use Rattle.tree_edit.specs.Asked.{CanPut};
-
-// The size of the i-th record of a page.
-pub(crate) fn size_at(page: &[u8], i: usize) -> usize
-    requires { ⌜ (laidOut (now page) ≡ true) × (i < length (records (now page))) ⌝ }
-    ensures { λ r. ⌜ r ≡ size (getD (records (now (page .entry))) i (recOf 0 [])) ⌝ }
-{
-    size_of(codec::number_at(page, slot_at(page, i) + 8))
-}
 
 // The size of the k-th record once the change is made.
 pub(crate) fn size_made(page: &[u8], new: Change, value: &[u8], k: usize) -> usize
@@ -59,7 +48,7 @@ pub(crate) fn total_made(page: &[u8], new: Change, value: &[u8]) -> usize
 // Whether the records fit one page once the change is made: "If they are at most 28 and at most 960 bytes".
 pub(crate) fn fits_one(page: &[u8], new: Change, value: &[u8]) -> bool
     requires { ⌜ CanPut (now page) new (now value) ⌝ }
-    ensures { λ r. ⌜ r ≡ (leb (length (madeBy new (now (value .entry)) (now (page .entry)))) slotCount && leb (sizes (madeBy new (now (value .entry)) (now (page .entry)))) (pageSize - lineSize)) ⌝ }
+    ensures { λ r. ⌜ r ≡ fitsPage (madeBy new (now (value .entry)) (now (page .entry))) ⌝ }
 {
     if 28 < made_count(page, new.ins) {
         return false;

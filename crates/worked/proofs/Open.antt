@@ -9,8 +9,8 @@ use Rattle.page.specs.Operations.{seal, written, insertHead, updateHead, delete
 use Rattle.page.specs.Page.{entries, records, recOk, headOk, heldB, offB, apartB, laidOut, formOk, startsAt, keysRise, pageOk}
 use Rattle.page.specs.Search.{searched}
 use Rattle.image.specs.Calls.{rootFrom, rootCall, checkFrom, checkCall, keyOk}
-use Rattle.image.specs.Fresh.{zeroPage, freshZero, fresh}
-use Rattle.image.specs.Image.{childOf, children, reached, among, distinct, indexOk, nextSep, places, leafOk, leafAt, leavesOk, treeOk}
+use Rattle.image.specs.Fresh.{zeroPage, freshZero, separators, named, indexOver, leafPages, stored, fresh}
+use Rattle.image.specs.Image.{childOf, indexRec, children, reached, among, distinct, indexOk, nextSep, places, leafOk, leafAt, leavesOk, treeOk}
 use Rattle.image.specs.PageZero.{isPage, rootOf, markBytes, noMark, markOk, wordsPast, pageZero}
 use Rattle.image.specs.Route.{lastFrom, route}
 use Rattle.image.specs.Table.{leafRecords, table}
@@ -19,7 +19,7 @@ use Rattle.journal.specs.Changes.{freeWord, wordStores, flushesFrom, flushesOf,
 use Rattle.journal.specs.Way.{lineBy}
 use Rattle.journal.specs.Log.{ownPage, logStores, logFlushes, logTape, headerStores, headerFlushes, headerTape, ending, replayTape}
 use Rattle.journal.specs.Tape.{joinLines, byHeader, byRoot, markFlush, byLog, oneHeader, choose, roomInLog, takenFor, commitOf}
-use Rattle.tree.specs.Edits.{isFull, inPlace, indexRec, indexed, keptSep, splitFrom, splitPoint, firstKey, copied, split, moved, put, dropped, editAt, edited}
+use Rattle.tree.specs.Edits.{isFull, inPlace, indexed, keptSep, splitFrom, splitPoint, firstKey, copied, split, moved, put, dropped, editAt, edited}
 use Rattle.tree.specs.State.{others, begin, takePage, taken, filled}
 use Rattle.tree.specs.Whole.{onward, editsFrom, pagesFrom, putBack, editedImage, editsOn}
 use Rattle.transaction.specs.Calls.{refusedWith, acceptedWith, committed, outcomeOf, listOf, checkedOf, transactionCall}
@@ -27,5 +27,5 @@ use Rattle.worked.specs.Row.{lentTape, transacted, after, refusalIn, edi
 use Rattle.worked.specs.Rows.{value, inserts}
 
 unfoldable pub opened : ℕ
-unfolding part splice insertAt removeAt eqs every allB number bytesOf unit follows placeOk isCommand front scan decode howMany headBytes commandBytes tapeBytes up8 size recordBytes recordIn recordAt padded slotBytes slotsIn headerBytes readHead unusedHead seal written insertHead updateHead deleteHead insert update delete fillHead fillBytes fill sizes made pageOf putPage entries records recOk headOk heldB offB apartB laidOut formOk startsAt keysRise pageOk searched rootFrom rootCall checkFrom checkCall keyOk zeroPage freshZero fresh childOf children reached among distinct indexOk nextSep places leafOk leafAt leavesOk treeOk isPage rootOf markBytes noMark markOk wordsPast pageZero lastFrom route leafRecords table editBytes editOf editIn faultIn joined editsIn editList freeWord wordStores flushesFrom flushesOf stageA headerLine changedFrom changedPages sameRoot lineBy ownPage logStores logFlushes logTape headerStores headerFlushes headerTape ending replayTape joinLines byHeader byRoot markFlush byLog oneHeader choose roomInLog takenFor commitOf isFull inPlace indexRec indexed keptSep splitFrom splitPoint firstKey copied split moved put dropped editAt edited others begin takePage taken filled onward editsFrom pagesFrom putBack editedImage editsOn refusedWith acceptedWith committed outcomeOf listOf checkedOf transactionCall lentTape transacted after refusalIn editNumberIn bytesIn flushesIn kindAndPlace kindsAndPlaces readOff readAll found value inserts
+unfolding part splice insertAt removeAt eqs every allB number bytesOf unit follows placeOk isCommand front scan decode howMany headBytes commandBytes tapeBytes up8 size recordBytes recordIn recordAt padded slotBytes slotsIn headerBytes readHead unusedHead seal written insertHead updateHead deleteHead insert update delete fillHead fillBytes fill sizes made pageOf putPage entries records recOk headOk heldB offB apartB laidOut formOk startsAt keysRise pageOk searched rootFrom rootCall checkFrom checkCall keyOk zeroPage freshZero separators named indexOver leafPages stored fresh childOf indexRec children reached among distinct indexOk nextSep places leafOk leafAt leavesOk treeOk isPage rootOf markBytes noMark markOk wordsPast pageZero lastFrom route leafRecords table editBytes editOf editIn faultIn joined editsIn editList freeWord wordStores flushesFrom flushesOf stageA headerLine changedFrom changedPages sameRoot lineBy ownPage logStores logFlushes logTape headerStores headerFlushes headerTape ending replayTape joinLines byHeader byRoot markFlush byLog oneHeader choose roomInLog takenFor commitOf isFull inPlace indexed keptSep splitFrom splitPoint firstKey copied split moved put dropped editAt edited others begin takePage taken filled onward editsFrom pagesFrom putBack editedImage editsOn refusedWith acceptedWith committed outcomeOf listOf checkedOf transactionCall lentTape transacted after refusalIn editNumberIn bytesIn flushesIn kindAndPlace kindsAndPlaces readOff readAll found value inserts
 opened = 0

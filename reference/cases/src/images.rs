@@ -102,6 +102,24 @@ pub fn even(random: &mut Random, pages: usize, leaves: usize, quotes: usize) -> 
     assemble(random, shape, lists)
 }
 
+/// An image with these quotes in its leaves.
+pub fn from_leaves(
+    random: &mut Random,
+    pages: usize,
+    tidy: bool,
+    lists: Vec<Vec<(u64, Vec<u8>)>>,
+) -> Built {
+    let shape = Shape {
+        pages,
+        leaves: lists.len(),
+        most: 28,
+        longest: 200,
+        tidy,
+        flaw: Flaw::None,
+    };
+    assemble(random, shape, lists)
+}
+
 /// The image with these leaves' records.
 fn assemble(random: &mut Random, shape: Shape, lists: Vec<Vec<(u64, Vec<u8>)>>) -> Built {
     let separators = separators(random, &lists);
@@ -180,7 +198,7 @@ fn values(random: &mut Random, wanted: usize, longest: usize) -> Vec<Vec<u8>> {
 }
 
 /// So many rising keys: close together or far apart, at the limits or not.
-fn keys(random: &mut Random, count: usize) -> Vec<u64> {
+pub(crate) fn keys(random: &mut Random, count: usize) -> Vec<u64> {
     let spread = random.pick(&[1, 2, 3, 1000, LAST_KEY / (count as u64 + 1)]);
     let mut keys: Vec<u64> = Vec::new();
     let mut last = 0;

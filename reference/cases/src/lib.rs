@@ -9,6 +9,7 @@ pub mod harms;
 pub mod images;
 pub mod lists;
 pub mod logs;
+pub mod merges;
 pub mod narrow;
 pub mod previews;
 pub mod random;

@@ -149,6 +149,21 @@ pub fn preview(image: &mut [u8], edits: &mut [u8], key: u64, answer: &mut [u64])
     }
 }
 
+#[inline]
+pub fn merge(first: &mut [u8], second: &mut [u8], out: &mut [u8]) -> u8 {
+    // Sound: each pointer is lent with its own length, for this call alone.
+    unsafe {
+        interface::quote_merge(
+            first.as_mut_ptr(),
+            first.len(),
+            second.as_mut_ptr(),
+            second.len(),
+            out.as_mut_ptr(),
+            out.len(),
+        )
+    }
+}
+
 /// The answer is five numbers: edit number, kind of the commit place (1 header,
 /// 2 root word, 3 log), page (of a header, else 0), tape bytes used, flushes.
 /// On a refusal they are the edit number and four zeros. They are written only

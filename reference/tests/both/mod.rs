@@ -5,6 +5,7 @@
 #![allow(dead_code)]
 
 pub mod cuts;
+pub mod merges;
 
 use reference::image as plain;
 use reference::numbers::of_preview;

@@ -69,6 +69,14 @@ extern "C" {
         answer: *mut u64,
         answer_length: usize,
     ) -> u8;
+    pub fn quote_merge(
+        first: *const u8,
+        first_length: usize,
+        second: *const u8,
+        second_length: usize,
+        out: *mut u8,
+        out_length: usize,
+    ) -> u8;
     pub fn quote_transaction(
         image: *const u8,
         image_length: usize,

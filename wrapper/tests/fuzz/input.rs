@@ -5,6 +5,7 @@ use cases::cuts::{any_cut_number, any_small_tape, SmallTape};
 use cases::damage::{damage, other_length, FIELDS};
 use cases::images::{Built, LAST_KEY};
 use cases::lists::any_list;
+use cases::merges::{any_pair, any_third};
 use cases::random::Random;
 use cases::tapes::any_choices;
 use cases::{logs, stores};
@@ -14,6 +15,8 @@ use quote_store::calls;
 #[derive(Clone)]
 pub struct Input {
     pub image: Vec<u8>,
+    /// Of merge the second book; the first is the image, and work is the result.
+    pub other: Vec<u8>,
     pub work: Vec<u8>,
     pub tape: Vec<u8>,
     pub edits: Vec<u8>,
@@ -46,7 +49,24 @@ pub fn any_input(random: &mut Random) -> Input {
         key: any_key(random, &keys, &edits),
         c: any_count(random),
         edits,
+        other: Vec::new(),
         image,
+    }
+}
+
+/// The input with two books instead, mostly good ones, and a buffer for the result.
+pub fn with_books(random: &mut Random, input: &Input) -> Input {
+    let pair = any_pair(random);
+    let mut book = |built: &Built| match random.below(5) {
+        0 => any_image(random, built),
+        _ => built.image.clone(),
+    };
+    let [image, other] = pair.books.each_ref().map(&mut book);
+    Input {
+        image,
+        other,
+        work: any_third(random, pair.leaves),
+        ..input.clone()
     }
 }
 

@@ -8,11 +8,11 @@ mod lent;
 mod rules;
 
 use cases::random::Random;
-use input::{any_input, with_small_tape, Input};
+use input::{any_input, with_books, with_small_tape, Input};
 use quote_store::{calls, tape_length, Commit, CommitPlace, Preview, Refusal};
 use rules::{
-    Buffers, Call, CHECK, COUNT_CUTS, CUT, FORMAT, LOOKUP, NEXT_KEY, NTH_CUT, PREVIEW, RECOVER,
-    RECOVER_WORDS, RUN, TRANSACTION, TRANSACTION_WORDS,
+    Buffers, Call, CHECK, COUNT_CUTS, CUT, FORMAT, LOOKUP, MERGE, NEXT_KEY, NTH_CUT, PREVIEW,
+    RECOVER, RECOVER_WORDS, RUN, TRANSACTION, TRANSACTION_WORDS,
 };
 use std::collections::BTreeMap;
 
@@ -39,6 +39,8 @@ fn round(random: &mut Random, tally: &mut Tally) {
     cuts(random, &input, tally);
     let small = with_small_tape(random, &input);
     cuts(random, &small, tally);
+    let books = with_books(random, &input);
+    merge(random, &books, tally);
     let look = try_one(random, &PREVIEW, &input, tally);
     let made = [TRANSACTION, TRANSACTION_WORDS].map(|call| try_one(random, &call, &input, tally));
     let redone = [RECOVER, RECOVER_WORDS].map(|call| try_one(random, &call, &input, tally));
@@ -107,6 +109,41 @@ fn cuts(random: &mut Random, input: &Input, tally: &mut Tally) {
         let cut = calls::cut(&input.image, &mut work, &input.tape, c, &choices);
         assert_eq!(cut, Ok(()));
     }
+}
+
+/// Two books into one, and the same two the other way round: what is refused for both
+/// together, and the result, do not depend on which comes first.
+fn merge(random: &mut Random, input: &Input, tally: &mut Tally) {
+    let (number, merged) = try_one(random, &MERGE, input, tally);
+    let judged = [&input.image, &input.other].map(|book| calls::check(book));
+    let refused = match judged {
+        [Err(refusal), _] | [Ok(()), Err(refusal)] => Some(refusal.number()),
+        [Ok(()), Ok(())] => None,
+    };
+    match refused {
+        Some(refused) => assert!(number == 1 || number == refused),
+        None => assert!(![3, 4].contains(&number)),
+    }
+    let mut out = input.work.clone();
+    let safe = calls::merge(&input.image, &input.other, &mut out);
+    assert_eq!(safe.map_or_else(Refusal::number, |()| 0), number);
+    assert!(out == merged.work.after());
+    if refused.is_none() {
+        let mut turned = input.work.clone();
+        let said = calls::merge(&input.other, &input.image, &mut turned);
+        assert!(said == safe && turned == out);
+    }
+    if number == 0 {
+        assert_eq!(calls::check(&out), Ok(()));
+        let [first, second] = [&input.image, &input.other].map(|book| quotes(book));
+        assert_eq!(quotes(&out), first + second);
+    }
+}
+
+/// How many quotes a store has.
+fn quotes(image: &[u8]) -> usize {
+    let next = |key: &u64| calls::next_key(image, *key).expect("the image is sound");
+    std::iter::successors(next(&0), next).count()
 }
 
 /// The safe function answers as the raw call does, which has one number.
@@ -292,6 +329,7 @@ fn bad_input_gets_its_refusal() {
         LOOKUP,
         NEXT_KEY,
         PREVIEW,
+        MERGE,
         TRANSACTION,
         TRANSACTION_WORDS,
         RECOVER,

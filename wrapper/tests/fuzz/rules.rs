@@ -7,6 +7,7 @@ use cases::random::Random;
 /// The buffers of one call.
 pub struct Buffers {
     pub image: Lent<u8>,
+    pub other: Lent<u8>,
     pub work: Lent<u8>,
     pub tape: Lent<u8>,
     pub edits: Lent<u8>,
@@ -21,6 +22,7 @@ impl Buffers {
         let mut bytes = |content: &Vec<u8>| Lent::new(random, content.clone(), 0xa5);
         Buffers {
             image: bytes(&input.image),
+            other: bytes(&input.other),
             work: bytes(&input.work),
             tape: bytes(&input.tape),
             edits: bytes(&input.edits),
@@ -134,6 +136,14 @@ pub const NTH_CUT: Call = call(
     1,
 );
 
+/// "Each leaving the third buffer unchanged."
+pub const MERGE: Call = call(
+    "merge",
+    |b| proved::merge(b.image.lend(), b.other.lend(), b.work.lend()),
+    &[0, 1, 3, 4, 10, 11, 20],
+    0,
+);
+
 pub const FORMAT: Call = call("format", |b| proved::format(b.image.lend()), &[0, 1], 0);
 
 pub const CHECK: Call = call("check", |b| proved::check(b.image.lend()), &[0, 1, 3, 4], 0);
@@ -172,6 +182,7 @@ impl Call {
         let image_written = name == "format" && number == 0;
         assert!(image_written || buffers.image.stayed(), "image of {name}");
         assert!(buffers.edits.stayed(), "edits of {name}");
+        assert!(buffers.other.stayed(), "second book of {name}");
         let choices_written = name == "nth cut" && number == 0;
         assert!(
             choices_written || buffers.choices.stayed(),
@@ -223,6 +234,6 @@ impl Call {
 fn guards_stayed(buffers: &Buffers) -> bool {
     let Buffers { image, work, .. } = buffers;
     let Buffers { tape, edits, .. } = buffers;
-    let bytes = [image, work, tape, edits, &buffers.choices];
+    let bytes = [image, &buffers.other, work, tape, edits, &buffers.choices];
     bytes.iter().all(|lent| lent.guards_stayed()) && buffers.answer.guards_stayed()
 }

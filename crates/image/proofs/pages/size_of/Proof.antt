@@ -3,8 +3,8 @@
 use native.Mathlib.Omega.{arith}
 use Rattle.page.specs.Layout.{up8}
 use borrow.Author.Needs.{needs}
-use Rattle.tree_edit.proofs.pages.size_of.Statement.{statement}
-use Rattle.tree_edit.proofs.pages.size_of.Tie as tie
+use Rattle.image.proofs.pages.size_of.Statement.{statement}
+use Rattle.image.proofs.pages.size_of.Tie as tie
 
 add-result : tie.Need-add-result
 add-result c = search needs

@@ -2,11 +2,11 @@
 -- Assumes nothing.
 use mathlib.Core.Path.{_∙_}
 use native.Mathlib.Omega.{arith}
-use Rattle.tree_edit.proofs.Sized.{length-in, length-small, size-here}
 use Rattle.page.proofs.Facts.{ok-is}
+use Rattle.image.proofs.CodePages.{length-in, length-small, size-here}
 use borrow.Author.Needs.{needs}
-use Rattle.tree_edit.proofs.split.size_at.Statement.{statement}
-use Rattle.tree_edit.proofs.split.size_at.Tie as tie
+use Rattle.image.proofs.pages.size_at.Statement.{statement}
+use Rattle.image.proofs.pages.size_at.Tie as tie
 
 slot-at-requires : tie.Need-slot-at-requires
 slot-at-requires c κs = search needs

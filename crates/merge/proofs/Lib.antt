@@ -1,0 +1,13 @@
+pub mod Tables
+pub mod Joined
+pub mod Packing
+pub mod Standing
+pub mod Stepping
+pub mod Grounds
+pub mod Accepted
+pub mod Examples
+pub mod Coming
+pub mod Counting
+pub mod Filling
+pub mod Indexed
+pub mod Putting

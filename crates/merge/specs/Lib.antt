@@ -1,0 +1,5 @@
+pub mod Tables
+pub mod Leaves
+pub mod Calls
+pub mod Says
+pub mod Cursors

@@ -34,7 +34,7 @@ pub record Stands (img : List ℕ) (c : Cursor) : Type 0 where
 
 -- ---- both
 
--- a place in each, where no key that is left is in both
+-- a place in each
 pub record Ready (a b : List ℕ) (at : Cursors) : Type 0 where
   pub first : Stands a (at .first)
   pub second : Stands b (at .second)

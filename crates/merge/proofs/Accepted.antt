@@ -1,6 +1,6 @@
 -- What an accepted merge leaves, what a refused one leaves, and that the third buffer counts by its length alone.
 -- Assumes nothing.
-use Prim.Native.Nat.{ℕ, _+_, _-_, _*_, _/_, _≤_}
+use Prim.Native.Nat.{ℕ, suc, _+_, _-_, _*_, _/_, _≤_}
 use mathlib.Core.Path.{_≡_, refl, sym, ap, ap₂, _∙_, subst}
 use mathlib.Core.Bool.{Bool, true, false}
 use mathlib.Core.Logic.{_⊎_, inl, inr, ⊎-elim}
@@ -12,12 +12,13 @@ use Rattle.device.specs.declared.Refusal.{Refusal}
 use Rattle.device.specs.declared.Answer.{Answer}
 use Rattle.device.specs.declared.Answer.the-variants as answers
 use Rattle.device.proofs.Calls.{not-accepted}
-use Rattle.page.specs.Layout.{pageSize, slotCount, Rec}
+use Rattle.page.specs.Layout.{pageSize, slotCount, topKey, Rec}
 use Rattle.page.specs.Page.{records}
 use Rattle.page.specs.Operations.{pageOf}
 use Rattle.image.specs.PageZero.{pageCount}
 use Rattle.image.specs.Image.{childOf, children}
 use Rattle.image.specs.Table.{table}
+use Rattle.image.specs.Says.{Member}
 use Rattle.image.specs.Fresh.{separators, indexOver, numbered, stored, Storable, fresh}
 use Rattle.image.specs.Calls.{checkCall}
 use Rattle.image.proofs.Zero.{size-true}
@@ -28,7 +29,8 @@ use Rattle.merge.specs.Tables.{merged, Joins}
 use Rattle.merge.specs.Leaves.{leavesOf, Packed}
 use Rattle.merge.specs.Calls.{storeLeaves, mergeTables, ifChecked, mergeCall}
 use Rattle.merge.specs.Says.{Filling, MergeSays, bad-buffer, bad-first, bad-second, in-both, no-index, no-pages, merges, leavesIn, Merges}
-use Rattle.merge.proofs.Packing.{packed-end}
+use Rattle.merge.proofs.Joined.{same-members}
+use Rattle.merge.proofs.Packing.{packed-end, is-packed}
 use Rattle.merge.proofs.Grounds.{both-storable, no-key, leaves-are, merge-says, says-merge}
 
 -- an image is whole pages
@@ -140,6 +142,22 @@ module _ (a b out : List ℕ) where
       go _ (no-index _ _ _) e = refl
       go _ (no-pages _ _ _ _) e = refl
       go _ (merges _ _ _ _) e = absurd (not-accepted _ (sym e))
+
+-- what is merged depends on the records of both together, not on which book has which
+pub merge-same : (a b a′ b′ out c c′ : List ℕ) → mergeCall a b out ≡ accepted c → mergeCall a′ b′ out ≡ accepted c′ →
+    ((r : Rec) → Member r (table a) ⊎ Member r (table b) → Member r (table a′) ⊎ Member r (table b′)) →
+    ((r : Rec) → Member r (table a′) ⊎ Member r (table b′) → Member r (table a) ⊎ Member r (table b)) → c ≡ c′
+merge-same a b a′ b′ out c c′ e e′ to fro =
+    let m = accepted-made a b out c e in
+    let m′ = accepted-made a′ b′ out c′ e′ in
+    let j = m .fills .joins in
+    let j′ = m′ .fills .joins in
+    let one : m .fills .both ≡ m′ .fills .both =
+    same-members 1 1 (m .fills .both) (m′ .fills .both) (suc topKey) (j .rising) (j′ .rising) (λ r h. j′ .every r (to r (j .nothing-else r h)))
+    (λ r h. j .every r (fro r (j′ .nothing-else r h))) in
+    sym (m .is)
+    ∙ ap (stored (pageCount out)) (is-packed (m .fills .both) (m .ls) (m .fills .packed) ∙ ap leavesOf one ∙ sym (is-packed (m′ .fills .both) (m′ .ls) (m′ .fills .packed)))
+    ∙ m′ .is
 
 -- ---- the third buffer counts by its length alone
 

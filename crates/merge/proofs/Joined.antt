@@ -127,7 +127,7 @@ same-first x a y b hi h g (inl e) n = e
 same-first x a y b hi h g (inr m) (inl e) = sym e
 same-first x a y b hi h g (inr m) (inr n) = absurd (omega (arith, later x a hi h y n, later y b hi g x m))
 
-same-members : (lo mo : ℕ) (a b : List Rec) (hi : ℕ) → Rising lo a hi → Rising mo b hi → ((r : Rec) → Member r a → Member r b) →
+pub same-members : (lo mo : ℕ) (a b : List Rec) (hi : ℕ) → Rising lo a hi → Rising mo b hi → ((r : Rec) → Member r a → Member r b) →
     ((r : Rec) → Member r b → Member r a) → a ≡ b
 same-members lo mo [] [] hi h g f k = refl
 same-members lo mo [] (y ∷ b) hi h g f k = absurd (k y (inl refl))

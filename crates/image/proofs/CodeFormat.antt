@@ -17,7 +17,7 @@ use Rattle.page.proofs.Headers.{head-of, seal-raw}
 use Rattle.image.specs.PageZero.{noMark}
 use Rattle.image.specs.Fresh.{zeroPage, freshZero, blank}
 use Rattle.image.proofs.Zero.{Size}
-use Rattle.image.proofs.Stored.{length-zeroPage, zero-page}
+use Rattle.image.proofs.FilledPages.{length-zeroPage, zero-page}
 use Rattle.image.proofs.CodeZero.{past-words}
 
 -- ---- lists in general: what codec's laws lack

@@ -19,7 +19,8 @@ use Rattle.image.specs.Table.{table}
 use Rattle.image.specs.Fresh.{zeroPage, freshZero, separators, named, indexOver, leafPages, stored, allRecords, Storable, blank, putLeaves, fresh}
 use Rattle.image.specs.Calls.{formatCall}
 use Rattle.image.proofs.Zero.{size-true}
-use Rattle.image.proofs.Stored.{index-filled, stored-length, stored-root, stored-index, stored-leaf, stored-children, stored-table, stored-sound, stored-made}
+use Rattle.image.proofs.FilledPages.{index-filled}
+use Rattle.image.proofs.Stored.{stored-length, stored-root, stored-index, stored-leaf, stored-children, stored-table, stored-sound, stored-made}
 
 -- ---- one empty leaf
 

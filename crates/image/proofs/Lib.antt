@@ -15,6 +15,7 @@ pub mod Read
 pub mod Answers
 pub mod Says
 pub mod Whole
+pub mod FilledPages
 pub mod Stored
 pub mod Zeros
 pub mod Fresh

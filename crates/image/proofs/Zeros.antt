@@ -24,7 +24,8 @@ use Rattle.image.specs.Live.{covered, liveIn, live}
 use Rattle.image.specs.Fresh.{zeroPage, freshZero, numbered, indexOver, leafPages, stored, Storable}
 use Rattle.image.proofs.General.{zeros-at}
 use Rattle.image.proofs.Apart.{among-first, among-rest}
-use Rattle.image.proofs.Stored.{length-zeroPage, length-freshZero, Stand, length-past, index-good, index-fits, stored-pages, stored-root, stored-index, stored-leaf, stored-length, stored-children, stored-names}
+use Rattle.image.proofs.FilledPages.{length-zeroPage, length-freshZero, Stand, length-past, index-good, index-fits}
+use Rattle.image.proofs.Stored.{stored-pages, stored-root, stored-index, stored-leaf, stored-length, stored-children, stored-names}
 
 -- zeros past other bytes
 zeros-past : (a : List ℕ) (m i : ℕ) → length a ≤ i → getD (a ++ replicate m 0) i 0 ≡ 0

@@ -23,7 +23,8 @@ use Rattle.image.specs.Fresh.{separators, indexOver, numbered, stored, Storable
 use Rattle.image.specs.Calls.{checkCall}
 use Rattle.image.proofs.Zero.{size-true}
 use Rattle.image.proofs.Answers.{check-sound}
-use Rattle.image.proofs.Stored.{stored-root, stored-length, stored-children, stored-names, stored-leaves, stored-table, stored-sound, named-keys}
+use Rattle.image.proofs.FilledPages.{named-keys}
+use Rattle.image.proofs.Stored.{stored-root, stored-length, stored-children, stored-names, stored-leaves, stored-table, stored-sound}
 use Rattle.image.proofs.Zeros.{stored-zeros}
 use Rattle.merge.specs.Tables.{merged, Joins}
 use Rattle.merge.specs.Leaves.{leavesOf, Packed}

@@ -8,13 +8,13 @@ use native.Mathlib.Omega.{arith}
 use lib.ListN.{length, take, drop}
 use Rattle.codec.specs.Lists.{All}
 use Rattle.page.specs.Layout.{pageSize, lineSize, leafKind, Rec, size, unusedHead, headerOf, headOf, rawBytes}
-use Rattle.page.specs.Page.{records, RecOk}
+use Rattle.page.specs.Page.{RecOk}
 use Rattle.page.specs.Operations.{sizes, OnePage, fillHead, fillBytes}
 use Rattle.page.specs.declared.header.Header.{Header}
 use Rattle.page_edit.specs.Filling.{Room, Filled}
 use Rattle.page_edit.proofs.Filled.{filled-clean, filled-start, filled-count, filled-more, room-unused, filled-page}
 use Rattle.merge.specs.Leaves.{packed}
-use Rattle.merge.specs.Cursors.{Ready, leftOf, apartAt, Passed, takes, takesNext, onward, LeafFilled}
+use Rattle.merge.specs.Cursors.{Ready, leftOf, apartAt, Passed, takesNext, onward, LeafFilled}
 use Rattle.merge.specs.declared.Cursors.{Cursors}
 use Rattle.merge.proofs.Stepping.{left-ok, none-taken, first-taken}
 use Rattle.merge.proofs.Coming.{nextOf, next-is, passed-is}

@@ -20,7 +20,8 @@ use Rattle.page_edit.proofs.Filled.{room-unused}
 use Rattle.image.specs.Image.{indexRec, firstKey}
 use Rattle.image.specs.Fresh.{separators, named, indexOver, stored, Storable, blank, putLeaves}
 use Rattle.image.proofs.IndexRecords.{sizes-entries}
-use Rattle.image.proofs.Stored.{length-named, named-entries, stored-made}
+use Rattle.image.proofs.FilledPages.{length-named, named-entries}
+use Rattle.image.proofs.Stored.{stored-made}
 use Rattle.image.proofs.CodePages.{All-at}
 
 -- the record of the page k

@@ -5,7 +5,7 @@ use mathlib.Core.Path.{_≡_}
 use mathlib.Core.Logic.{_⊎_}
 use mathlib.Core.Bool.{Bool, true, false, _&&_}
 use mathlib.Core.List.{List, [], _∷_, _++_}
-use lib.ListN.{length, getD, take, drop}
+use lib.ListN.{length, getD, drop}
 use lib.Dec.{ltb, leb}
 use Rattle.page.specs.Layout.{pageSize, lineSize, slotCount, leafKind, topKey, Rec, recOf, size}
 use Rattle.page.specs.Page.{records}

@@ -8,10 +8,10 @@ use lib.ListN.{length}
 use lib.Dec.{eqb, ltb, leb}
 use borrow.Author.Tests.{ne-eqb, ltb-true, ltb-false, lt-ltb, le-ltb, leb-true, leb-false, le-leb, lt-leb}
 use Rattle.codec.specs.Lists.{pick}
-use Rattle.page.specs.Layout.{pageSize, lineSize, slotCount, Rec, recOf, size}
+use Rattle.page.specs.Layout.{slotCount, Rec, recOf, size}
 use Rattle.page.specs.Page.{records}
-use Rattle.page.specs.Operations.{sizes, fitsPage}
-use Rattle.page.proofs.Totals.{one-page, two-pages, not-one}
+use Rattle.page.specs.Operations.{fitsPage}
+use Rattle.page.proofs.Totals.{one-page, two-pages, not-one, page-one}
 use Rattle.image.specs.Image.{children}
 use Rattle.edit.specs.EditList.{Edit, insert, update, delete}
 use Rattle.edit.specs.Ledger.{add, replace}
@@ -44,8 +44,8 @@ module _ (st : State) (ins : Bool) (s : ℕ) (p : List ℕ) (rs : List Rec) wher
   reason-room : (g : ℕ) → Room st ins s p rs g → room st ins s p rs ≡ g
   unfolding room tooFew
   reason-room _ (in-place e) = rw (room-test ins s p e)
-  reason-room _ (copied e o h) = rw (full-test ins s p e, le-leb (length rs) slotCount (o .few), le-leb (sizes rs) (pageSize - lineSize) (o .small), le-ltb (length (st .free)) (pagesFor st 1) h)
-  reason-room _ (no-copy e o h) = rw (full-test ins s p e, le-leb (length rs) slotCount (o .few), le-leb (sizes rs) (pageSize - lineSize) (o .small), lt-ltb (length (st .free)) (pagesFor st 1) h)
+  reason-room _ (copied e o h) = rw (full-test ins s p e, page-one rs o, le-ltb (length (st .free)) (pagesFor st 1) h)
+  reason-room _ (no-copy e o h) = rw (full-test ins s p e, page-one rs o, lt-ltb (length (st .free)) (pagesFor st 1) h)
   reason-room _ (no-index e t h) = rw (full-test ins s p e, not-one rs t, le-leb slotCount (length (children (st .image) (st .root))) h)
   reason-room _ (split e t f h) = rw (full-test ins s p e, not-one rs t, lt-leb slotCount (length (children (st .image) (st .root))) f, le-ltb (length (st .free)) (pagesFor st 2) h)
   reason-room _ (no-split e t f h) = rw (full-test ins s p e, not-one rs t, lt-leb slotCount (length (children (st .image) (st .root))) f, lt-ltb (length (st .free)) (pagesFor st 2) h)

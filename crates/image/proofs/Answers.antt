@@ -18,10 +18,11 @@ use Rattle.page.specs.Page.{records}
 use Rattle.page.specs.Operations.{pageOf}
 use Rattle.image.specs.PageZero.{rootOf, pageZero}
 use Rattle.image.specs.Image.{childOf, children, treeOk, soundFrom, sound}
-use Rattle.image.specs.Table.{table, listing, find, foundIn, above, orElse}
+use Rattle.image.specs.Table.{table, pageEntries, listing, find, foundIn, above, orElse}
 use Rattle.image.specs.Descent.{leafFor, recordsFor}
 use Rattle.image.specs.Calls.{rootFrom, rootCall, checkFrom, checkCall, keyOk, leafLookup, lookupFrom, lookupCall, valueAt, valueCall, nextAfter, nextFrom, nextCall}
 use Rattle.image.specs.Says.{Member, Smallest, AtMost, Opened, Belongs, GoodLeaf, ReadSound}
+use Rattle.image.specs.declared.Place.{Place}
 use Rattle.image.specs.declared.PageZero.{PageZero}
 use Rattle.image.specs.declared.PageZero.the-variants.{Wrong, Waiting, Ready}
 use Rattle.image.specs.declared.Lookup.the-variants as lookups
@@ -31,8 +32,8 @@ use Rattle.image.specs.declared.Root.the-variants as roots
 use Rattle.image.proofs.Rising.{rising-from, rising-below}
 use Rattle.image.proofs.Soundness.{sound-facts, sound-tree}
 use Rattle.image.proofs.Order.{table-rising}
-use Rattle.image.proofs.Routing.{aboveFirst, find-routed, found-routed, next-routed}
-use Rattle.image.proofs.Belonging.{tree-good, belongs, belongs-after}
+use Rattle.image.proofs.Routing.{aboveFirst, next-routed}
+use Rattle.image.proofs.Belonging.{leaf-is, tree-good, belongs, belongs-after, find-leaf, found-leaf}
 use Rattle.image.proofs.Exact.{lookup-answers, found-lookup, missing-lookup, member-all, find-member, smallest-above, most-above}
 use Rattle.image.proofs.Read.{opened-call, read-lookup, read-records, read-next, after-good, after-none, ranged-is}
 
@@ -85,8 +86,11 @@ module _ (img : List ℕ) (s : sound img ≡ true) where
     abbrev pub sound-read : ReadSound img k (rootOf img)
     sound-read = record { opened = sound-opened; belongs = b; good = sound-good (b .before) (b .own) (b .later) (b .shape) }
 
+    page-is : leafFor img (rootOf img) k .page ≡ childOf (b .own)
+    page-is = ap (λ (p : Place). p .page) (leaf-is img root k b)
+
     pub leaf-sound : leafLookup img (rootOf img) k ≡ foundIn k (listing img)
-    leaf-sound = read-lookup img k root sound-read ∙ sym (found-routed img s k (recOf 0 []))
+    leaf-sound = read-lookup img k root sound-read ∙ ap (λ (q : ℕ). foundIn k (pageEntries img q)) (sym page-is) ∙ sym (found-leaf img s k)
 
     -- "On a sound image every answer is as it was."
     pub lookup-sound : lookupCall img k ≡ pick (keyOk k) (foundIn k (listing img)) (lookups.Refused (refusal 6))
@@ -95,7 +99,11 @@ module _ (img : List ℕ) (s : sound img ≡ true) where
 
     -- what is read for the key
     pub records-sound : (t : List Rec) × (recordsFor img (rootOf img) k ≡ some t) × (find k t ≡ find k (table img))
-    records-sound = (records (pageOf img (childOf (b .own))), read-records img k root sound-read, sym (find-routed img s k (recOf 0 [])))
+    records-sound = (
+      records (pageOf img (childOf (b .own))),
+      read-records img k root sound-read,
+      ap (λ (q : ℕ). find k (records (pageOf img q))) (sym page-is) ∙ sym (find-leaf img s k),
+    )
 
     pub next-sound : nextCall img k ≡ above k (table img)
     unfolding nextCall nextFrom

@@ -1,14 +1,15 @@
--- Distinct page numbers: `among` is membership by place, and `distinct` says that no two places hold the same number.
+-- Distinct page numbers: `among` is membership, in a part and by place, and `distinct` says that no two places hold the same number.
 -- Assumes nothing.
 use Prim.Native.Nat.{ℕ, zero, suc, _<_}
-use mathlib.Core.Path.{_≡_, refl, sym, ap, _∙_}
-use mathlib.Core.Bool.{Bool, true, false, _||_, not, true≢false, false≢true, or-true}
-use mathlib.Core.List.{List, [], _∷_}
+use mathlib.Core.Path.{_≡_, refl, sym, ap, _∙_, subst}
+use mathlib.Core.Bool.{Bool, true, false, _||_, not, true≢false, false≢true, or-true, or-assoc}
+use mathlib.Core.List.{List, [], _∷_, _++_}
 use native.Mathlib.Omega.{arith}
 use native.Mathlib.Nat.{not-suc-le-zero}
 use lib.ListN.{length, getD}
 use lib.Dec.{eqb}
 use borrow.Author.Tests.{eqb-true, eq-eqb, not-true}
+use Rattle.codec.specs.Lists.{All}
 use Rattle.codec.proofs.Tests.{both, first, second}
 use Rattle.image.specs.Image.{among, distinct}
 
@@ -19,6 +20,32 @@ among-first q qs = rw (eq-eqb q q refl)
 pub among-rest : (q r : ℕ) (qs : List ℕ) → among q qs ≡ true → among q (r ∷ qs) ≡ true
 unfolding among
 among-rest q r qs h = rw h (or-true (eqb q r))
+
+pub among-append : (q : ℕ) (a b : List ℕ) → among q (a ++ b) ≡ (among q a || among q b)
+unfolding among
+among-append q [] b = refl
+among-append q (p ∷ a) b = ap (λ (t : Bool). eqb q p || t) (among-append q a b) ∙ sym (or-assoc (eqb q p) (among q a) (among q b))
+
+pub among-left : (q : ℕ) (a b : List ℕ) → among q a ≡ true → among q (a ++ b) ≡ true
+among-left q a b h = among-append q a b ∙ rw h
+
+pub among-right : (q : ℕ) (a b : List ℕ) → among q b ≡ true → among q (a ++ b) ≡ true
+among-right q a b h = among-append q a b ∙ rw h (or-true (among q a))
+
+-- what holds of all numbers of a list holds of each among them
+module _ (P : ℕ → Type 0) where
+  pub All-among : (ps : List ℕ) → All P ps → (q : ℕ) → among q ps ≡ true → P q
+  unfolding among
+  All-among [] a q h = absurd (false≢true h)
+  All-among (p ∷ ps) a q h = go (eqb q p) refl h (All-among ps (a .1) q)
+    where
+      go : (t : Bool) → eqb q p ≡ t → (t || among q ps) ≡ true → (among q ps ≡ true → P q) → P q
+      go true e f g = subst P (sym (eqb-true q p e)) (a .0)
+      go false e f g = g f
+
+  pub among-All : (ps : List ℕ) → ((q : ℕ) → among q ps ≡ true → P q) → All P ps
+  among-All [] f = tt
+  among-All (p ∷ ps) f = (f p (among-first p ps), among-All ps (λ q h. f q (among-rest q p ps h)))
 
 pub at-among : (ps : List ℕ) (i : ℕ) → i < length ps → among (getD ps i 0) ps ≡ true
 at-among [] i h = absurd (not-suc-le-zero h)

@@ -20,7 +20,7 @@ use Rattle.page.specs.declared.Search.{Search}
 use Rattle.page.specs.declared.Search.the-variants.{At, Missing}
 use Rattle.page.proofs.Facts.{records-ok}
 use Rattle.image.specs.PageZero.{pageCount, isPage}
-use Rattle.image.specs.Image.{childOf, firstKey, places, leafOk, leafAt}
+use Rattle.image.specs.Image.{childOf, firstKey, places, boundOk, leafAt}
 use Rattle.image.specs.Facts.{Rising, Index}
 use Rattle.image.specs.Table.{above}
 use Rattle.image.specs.Route.{lastFrom, route}
@@ -129,7 +129,7 @@ module _ (img : List ℕ) (root : ℕ) (e : indexCall img ≡ roots.At root) whe
 
 -- a leaf that is sound is a sound page
 pub sound-page : (img : List ℕ) (root : ℕ) (p : Place) → leafSound img root p ≡ true → pageOk leafKind (p .page) (pageOf img (p .page)) ≡ true
-unfolding leafSound leafAt leafOk
+unfolding leafSound leafAt boundOk
 sound-page img root p h = everything _ h .0
 
 -- "Keys are .. to 999,999,999,999"

@@ -3,7 +3,7 @@
 -- Assumes nothing.
 use Prim.Native.Nat.{ℕ, suc, _+_, _-_, _≤_, _<_}
 use mathlib.Core.Path.{_≡_, refl, sym, ap, _∙_}
-use mathlib.Core.Bool.{Bool, true, false, _||_, or-true}
+use mathlib.Core.Bool.{Bool, true, false, _||_, false≢true, or-true}
 use mathlib.Core.List.{List, [], _∷_, map}
 use native.Mathlib.Omega.{arith}
 use lib.ListN.{length, getD, drop, set, replicate, drop-of-length-le, length-map, List·getD-map}
@@ -17,11 +17,11 @@ use Rattle.page.specs.Operations.{pageOf}
 use Rattle.page.proofs.Facts.{pageOk-true}
 use Rattle.page.proofs.CheckBytes.{same-test}
 use Rattle.image.specs.PageZero.{pageCount, isPage}
-use Rattle.image.specs.Image.{childOf, children, reached, indexOk, firstKey, places, leafOk, leafAt, leavesOk, treeOk}
+use Rattle.image.specs.Image.{childOf, children, indexOk, firstKey, places, boundOk, leafOk, leafAt, leavesOk, treeOk}
 use Rattle.image.specs.Facts.{Rising, Index}
 use Rattle.image.proofs.Zero.{Size}
 use Rattle.image.proofs.Rising.{From, Below, rising-from}
-use Rattle.image.proofs.Soundness.{index-facts, facts-index, page-rising}
+use Rattle.image.proofs.Soundness.{index-facts, facts-index, index-rising, page-rising, leaves-facts, facts-leaves, tree-facts, facts-tree}
 use Rattle.image.proofs.CodeMarks.{claims, claims-none, claims-on, claims-past, claims-twice, claims-apart, apart-claims}
 use Rattle.image.proofs.CodePages.{All-at, drop-next, child-two}
 
@@ -33,7 +33,7 @@ module _ (img : List ℕ) (root : ℕ) where
 
   pub index-claims : Size (length img) → isPage (pageCount img) root ≡ true → (p : List ℕ) → p ≡ pageOf img root → pageOk indexKind root p ≡ true → 1 ≤ length (records p) →
       claims (pageCount img) (set (set (replicate 64 0) 0 1) root 1) (map childOf (records p)) ≡ indexOk img root
-  unfolding reached children
+  unfolding children
   index-claims fits inside p e page some =
       let n = pageCount img in
       let ps = map childOf (records p) in
@@ -83,12 +83,12 @@ first-from at lo (r ∷ l) top d s h =
 
 module _ (only : Bool) (lo hi own : ℕ) (p : List ℕ) where
   pub leaf-unsound : pageOk leafKind own p ≡ false → leafOk only lo hi own p ≡ false
-  unfolding leafOk every
+  unfolding boundOk every
   leaf-unsound e = rw e
 
   module _ (ok : pageOk leafKind own p ≡ true) where
     pub leaf-empty : length (records p) ≡ 0 → leafOk only lo hi own p ≡ only
-    unfolding leafOk every allB
+    unfolding boundOk every allB
     leaf-empty e = go (records p) e
       where
         alone : (b : Bool) → every ((b || false) ∷ true ∷ true ∷ []) ≡ b
@@ -102,7 +102,7 @@ module _ (only : Bool) (lo hi own : ℕ) (p : List ℕ) where
 
     module _ (d : Rec) (some : 1 ≤ length (records p)) where
       pub leaf-low : getD (records p) 0 d .key < lo → leafOk only lo hi own p ≡ false
-      unfolding leafOk
+      unfolding boundOk
       leaf-low h =
           not-true (leafOk only lo hi own p)
           (λ t.
@@ -110,7 +110,7 @@ module _ (only : Bool) (lo hi own : ℕ) (p : List ℕ) where
           omega (arith, All-at (λ (r : Rec). lo ≤ r .key) (records p) 0 d from some))
 
       pub leaf-ends : lo ≤ getD (records p) 0 d .key → leafOk only lo hi own p ≡ ltb (getD (records p) (length (records p) - 1) d .key) hi
-      unfolding leafOk
+      unfolding boundOk
       leaf-ends h =
           let rs = records p in
           let s = page-rising leafKind own p ok in
@@ -157,12 +157,15 @@ module _ (img : List ℕ) (only : Bool) (lo : ℕ) (cs : List Rec) (i : ℕ) whe
 
 module _ (img : List ℕ) (root : ℕ) where
   pub tree-no-index : indexOk img root ≡ false → treeOk img root ≡ false
-  unfolding treeOk
-  tree-no-index e = rw e
+  tree-no-index e = not-true (treeOk img root) (λ t. false≢true (sym e ∙ facts-index img root (tree-facts img root t .index)))
 
-  pub tree-index : indexOk img root ≡ true → treeOk img root ≡ leavesOk img (eqb (length (children img root)) 1) 0 (children img root)
-  unfolding treeOk
-  tree-index e = rw e
+  pub tree-index : isPage (pageCount img) root ≡ true → indexOk img root ≡ true → treeOk img root ≡ leavesOk img (eqb (length (children img root)) 1) 0 (children img root)
+  tree-index p e =
+      let cs = children img root in
+      let only : Bool = eqb (length cs) 1 in
+      let k = index-facts img root e in
+      same-test (treeOk img root) (leavesOk img only 0 cs) (λ t. facts-leaves img only 0 cs (tree-facts img root t .leaves))
+      (λ t. facts-tree img root p (record { index = k; leaves = leaves-facts img only 0 cs (index-rising img root k) t }))
 
 -- ---- the index page, lent as p
 

@@ -1,35 +1,36 @@
 -- The frame: soundness, table, root and reached pages depend only on line 0 of page 0, the reached headers and the bytes of listed records.
 -- Assumes nothing.
-use Prim.Native.Nat.{ℕ, zero, _+_, _*_, _/_, _%_, _≤_, _<_}
-use mathlib.Core.Path.{_≡_, refl, sym, ap, ap₂, _∙_, subst}
+use Prim.Native.Nat.{ℕ, zero, suc, _+_, _*_, _/_, _%_, _≤_, _<_}
+use mathlib.Core.Path.{_≡_, refl, sym, ap, _∙_, subst}
 use mathlib.Core.Logic.{_⊎_, inl, inr}
-use mathlib.Core.Bool.{Bool, true, false, _&&_, _||_, false≢true, or-true}
-use mathlib.Core.List.{List, [], _∷_, _++_, map}
+use mathlib.Core.Bool.{Bool, true, false, _&&_, _||_, or-true}
+use mathlib.Core.List.{List, [], _∷_}
 use native.Mathlib.Omega.{arith}
-use lib.ListN.{length, getD, drop, length-take, length-drop, List·getD-eq-default}
-use lib.Seq.{ext-getD}
-use lib.Dec.{leb, ltb, eqb}
-use borrow.Author.Tests.{le-leb, ltb-true, ltb-false, lt-ltb, eqb-true}
+use lib.ListN.{length, getD, List·getD-eq-default}
+use lib.Dec.{leb, ltb}
+use borrow.Author.Tests.{le-leb, ltb-true, ltb-false, lt-ltb}
 use Rattle.codec.specs.Lists.{part, All}
 use Rattle.codec.specs.Numbers.{number}
 use Rattle.codec.proofs.Tests.{first}
 use Rattle.codec.proofs.Lists.{getD-part}
 use Rattle.codec.proofs.Agree.{part-agree}
-use Rattle.page.specs.Layout.{pageSize, lineSize, leafKind, indexKind, Rec, size}
+use Rattle.page.specs.Layout.{pageSize, lineSize, topKey, size, Head}
 use Rattle.page.specs.Page.{Entry, end, entries, laidOut, pageOk}
+use Rattle.page.specs.PageFormat.{format1}
 use Rattle.page.specs.Operations.{pageOf}
 use Rattle.page.proofs.Facts.{pageOk-true}
 use Rattle.page.proofs.Writes.{Agree}
 use Rattle.page.proofs.Frame.{Same, page-agree}
 use Rattle.page.proofs.Images.{length-pageOf}
 use Rattle.image.specs.PageZero.{pageCount, isPage, rootOf, pageZero}
-use Rattle.image.specs.Image.{childOf, children, reached, among, nextSep, sound}
-use Rattle.image.specs.Facts.{Leaves, Sound}
-use Rattle.image.specs.Table.{leafRecords, table}
+use Rattle.image.specs.Image.{among, pagesIn, heightOf, reached, sound}
+use Rattle.image.specs.Facts.{TreeIn, Sound}
+use Rattle.image.specs.Table.{tableIn, table}
 use Rattle.image.specs.Live.{covered, liveIn, live}
-use Rattle.image.proofs.Apart.{among-first, among-rest}
-use Rattle.image.proofs.Zero.{size-true, isPage-true, ready-facts}
-use Rattle.image.proofs.Soundness.{Tree, sound-facts, sound-tree, tree-sound}
+use Rattle.image.proofs.Apart.{All-among}
+use Rattle.image.proofs.Zero.{size-true, isPage-true}
+use Rattle.image.proofs.Alike.{page-first, Agree as AgreeIn, Alike, alike, height-alike, tree-alike, under-pages}
+use Rattle.image.proofs.Soundness.{Tree, tree-treeIn, sound-treeIn, sound-facts, treeIn-sound}
 use Rattle.image.proofs.Values.{page-fits}
 
 -- ---- parts and pages that agree
@@ -68,79 +69,50 @@ pub record Reached (img : List ℕ) (q : ℕ) : Type 0 where
   pub kind : ℕ
   pub ok : pageOk kind q (pageOf img q) ≡ true
 
-leaf-reached : (img : List ℕ) (only : Bool) (lo : ℕ) (cs : List Rec) → All (λ (p : ℕ). isPage (pageCount img) p ≡ true) (map childOf cs) → Leaves img only lo cs →
-    (q : ℕ) → among q (map childOf cs) ≡ true → Reached img q
-unfolding among
-leaf-reached img only lo [] i k q h = absurd (false≢true h)
-leaf-reached img only lo (c ∷ cs) i k q h = go (eqb q (childOf c)) refl h (leaf-reached img only (nextSep cs) cs (i .1) (k .1) q)
-  where
-    go : (t : Bool) → eqb q (childOf c) ≡ t → (t || among q (map childOf cs)) ≡ true → (among q (map childOf cs) ≡ true → Reached img q) → Reached img q
-    go true e f g = subst (Reached img) (sym (eqb-true q (childOf c) e)) (record { page = i .0; kind = leafKind; ok = k .0 .page })
-    go false e f g = g f
+pub treeIn-reached : (img : List ℕ) (root : ℕ) → TreeIn format1 img (heightOf img root) root → (q : ℕ) → among q (reached img root) ≡ true → Reached img q
+unfolding reached
+treeIn-reached img root t q k =
+    let h = heightOf img root in
+    let ps = pagesIn format1 img h root in
+    let ok : ℕ → Type 0 = λ x. (kind : ℕ) × (pageOk kind x (pageOf img x) ≡ true) in
+    let o = All-among ok ps (under-pages format1 img ok (λ n lo hi x f. (suc n, f .page)) h 0 (suc topKey) root (t .under)) q k in
+    record { page = All-among (λ (x : ℕ). isPage (pageCount img) x ≡ true) ps (t .inside) q k; kind = o .0; ok = o .1 }
 
 pub tree-reached : (img : List ℕ) (root : ℕ) → isPage (pageCount img) root ≡ true → Tree img root → (q : ℕ) → among q (reached img root) ≡ true → Reached img q
-unfolding among reached
-tree-reached img root p t q h = go (eqb q root) refl h
-  where
-    go : (b : Bool) → eqb q root ≡ b → (b || among q (map childOf (children img root))) ≡ true → Reached img q
-    go true e f = subst (Reached img) (sym (eqb-true q root e)) (record { page = p; kind = indexKind; ok = t .index .page })
-    go false e f = leaf-reached img (eqb (length (children img root)) 1) 0 (children img root) (t .index .inside) (t .leaves) q f
+tree-reached img root p t = treeIn-reached img root (tree-treeIn img root p t)
 
 -- ---- the tree under a root, where the reached pages say the same
 
 abbrev pub SamePages : List ℕ → List ℕ → List ℕ → Type 0
 SamePages a b qs = (q : ℕ) → among q qs ≡ true → Same (pageOf a q) (pageOf b q)
 
-leaves-same : (a b : List ℕ) (only : Bool) (lo : ℕ) (cs : List Rec) → SamePages a b (map childOf cs) → Leaves a only lo cs → Leaves b only lo cs
-leaves-same a b only lo [] s k = tt
-leaves-same a b only lo (c ∷ cs) s k =
-    let q = childOf c in
-    let e = s q (among-first q (map childOf cs)) in (
-      record {
-        page = e .sound leafKind q ∙ k .0 .page;
-        filled = rw (e .recs) (k .0 .filled);
-        rising = rw (e .recs) (k .0 .rising);
-      },
-      leaves-same a b only (nextSep cs) cs (λ p h. s p (among-rest p q (map childOf cs) h)) (k .1),
-    )
-
-records-same : (a b : List ℕ) (cs : List Rec) → SamePages a b (map childOf cs) → leafRecords b cs ≡ leafRecords a cs
-unfolding leafRecords
-records-same a b [] s = refl
-records-same a b (c ∷ cs) s =
-    ap₂ (λ (x y : List Rec). x ++ y) (s (childOf c) (among-first (childOf c) (map childOf cs)) .recs)
-    (records-same a b cs (λ p h. s p (among-rest p (childOf c) (map childOf cs) h)))
-
 module _ (a b : List ℕ) (root : ℕ) (l : length a ≡ length b) (s : SamePages a b (reached a root)) where
-  pub children-same : children b root ≡ children a root
-  unfolding children reached
-  children-same = s root (among-first root (map childOf (children a root))) .recs
+  abbrev h : ℕ
+  h = heightOf a root
+
+  root-same : Same (pageOf a root) (pageOf b root)
+  unfolding reached
+  root-same = s root (page-first format1 a h root)
+
+  height-same : heightOf b root ≡ heightOf a root
+  height-same = height-alike format1 a b root (ap (λ (x : Head). x .kind) (root-same .head))
+
+  agree : AgreeIn format1 a b (pagesIn format1 a (heightOf a root) root)
+  unfolding reached
+  agree x k = let e = s x k in record { recs = e .recs; sound = e .sound }
+
+  under-alike : Alike format1 a b (heightOf a root) root
+  under-alike = alike format1 a b h root agree
+
+  pub treeIn-same : TreeIn format1 a (heightOf a root) root → TreeIn format1 b (heightOf b root) root
+  treeIn-same t = subst (λ (n : ℕ). TreeIn format1 b n root) (sym height-same) (tree-alike format1 a b h root l agree t)
+
+  pub tableIn-same : tableIn format1 b (heightOf b root) root ≡ tableIn format1 a (heightOf a root) root
+  tableIn-same = ap (λ (n : ℕ). tableIn format1 b n root) height-same ∙ under-alike .table
 
   pub reached-same : reached b root ≡ reached a root
   unfolding reached
-  reached-same = ap (λ (cs : List Rec). root ∷ map childOf cs) children-same
-
-  below : SamePages a b (map childOf (children a root))
-  unfolding reached
-  below q h = s q (among-rest q root (map childOf (children a root)) h)
-
-  pub table-same : leafRecords b (children b root) ≡ leafRecords a (children a root)
-  table-same = ap (leafRecords b) children-same ∙ records-same a b (children a root) below
-
-  pub tree-same : Tree a root → Tree b root
-  unfolding reached
-  tree-same t =
-      let cs = children a root in
-      record {
-        index =
-            record {
-              page = s root (among-first root (map childOf cs)) .sound indexKind root ∙ t .index .page;
-              some = rw children-same (t .index .some);
-              inside = rw (children-same, ← l) (t .index .inside);
-              apart = rw reached-same (t .index .apart);
-            };
-        leaves = subst (λ (x : List Rec). Leaves b (eqb (length x) 1) 0 x) (sym children-same) (leaves-same a b (eqb (length cs) 1) 0 cs below (t .leaves));
-      }
+  reached-same = ap (λ (n : ℕ). pagesIn format1 b n root) height-same ∙ under-alike .pages
 
 -- ---- the image, where the live bytes are the same
 
@@ -159,11 +131,8 @@ module _ (a b : List ℕ) (sa : sound a ≡ true) (l : length a ≡ length b) (s
   abbrev root : ℕ
   root = rootOf a
 
-  old : Tree a root
-  old = sound-tree a (sound-facts a sa)
-
-  page : isPage (pageCount a) root ≡ true
-  page = ready-facts a root (sound-facts a sa .zero) .page
+  old : TreeIn format1 a (heightOf a (rootOf a)) (rootOf a)
+  old = sound-treeIn a sa
 
   zero-same : (pageZero b ≡ pageZero a) × (rootOf b ≡ rootOf a)
   zero-same = zero-agree a b l (λ i h. same i (live-line a i h))
@@ -171,7 +140,7 @@ module _ (a b : List ℕ) (sa : sound a ≡ true) (l : length a ≡ length b) (s
   pub pages-same : SamePages a b (reached a (rootOf a))
   unfolding pageOf
   pages-same q r =
-      let k = tree-reached a root page old q r in
+      let k = treeIn-reached a root old q r in
       let fits = page-fits a q (k .page) in
       let la : length (pageOf a q) ≡ pageSize = length-pageOf a q fits in
       let lb : length (pageOf b q) ≡ pageSize = length-pageOf b q (omega arith) in
@@ -189,8 +158,8 @@ module _ (a b : List ℕ) (sa : sound a ≡ true) (l : length a ≡ length b) (s
   pub frame : (sound b ≡ true) × (table b ≡ table a) × (reached b (rootOf b) ≡ reached a (rootOf a)) × (rootOf b ≡ rootOf a)
   unfolding table
   frame = (
-    tree-sound b root (rw (← l) (sound-facts a sa .size)) (zero-same .0 ∙ sound-facts a sa .zero) (tree-same a b root l pages-same old),
-    ap (λ (r : ℕ). leafRecords b (children b r)) (zero-same .1) ∙ table-same a b root l pages-same,
+    treeIn-sound b root (rw (← l) (sound-facts a sa .size)) (zero-same .0 ∙ sound-facts a sa .zero) (treeIn-same a b root l pages-same old),
+    ap (λ (r : ℕ). tableIn format1 b (heightOf b r) r) (zero-same .1) ∙ tableIn-same a b root l pages-same,
     ap (reached b) (zero-same .1) ∙ reached-same a b root l pages-same,
     zero-same .1,
   )
@@ -220,6 +189,6 @@ live-place img i h v = go (ltb i lineSize) refl v
     go true e f = (omega (arith, ltb-true i lineSize e, size-true (length img) (s .size) .low), inl (ltb-true i lineSize e))
     go false e f =
         let r = first (among (i / pageSize) (reached img (rootOf img))) (liveIn (pageOf img (i / pageSize)) (i % pageSize)) f in
-        let k = tree-reached img (rootOf img) (ready-facts img (rootOf img) (s .zero) .page) (sound-tree img s) (i / pageSize) r in
+        let k = treeIn-reached img (rootOf img) (sound-treeIn img h) (i / pageSize) r in
         let p = isPage-true (pageCount img) (i / pageSize) (k .page) in
         (omega (arith, page-fits img (i / pageSize) (k .page)), inr (omega arith))

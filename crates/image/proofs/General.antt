@@ -55,6 +55,10 @@ All-unmap f P [] h = tt
 All-unmap f P (x ∷ l) h = (h .0, All-unmap f P l (h .1))
 
 module _ {A : Type 0} (P : A → Type 0) where
+  pub All-any : ((x : A) → P x) → (l : List A) → All P l
+  All-any f [] = tt
+  All-any f (x ∷ l) = (f x, All-any f l)
+
   pub All-append : (a b : List A) → All P a → All P b → All P (a ++ b)
   All-append [] b h k = k
   All-append (x ∷ a) b h k = (h .0, All-append a b (h .1) k)

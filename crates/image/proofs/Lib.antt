@@ -1,8 +1,12 @@
 pub mod General
 pub mod Rising
+pub mod Ranges
 pub mod IndexRecords
 pub mod Zero
 pub mod Apart
+pub mod Under
+pub mod Alike
+pub mod OneHeight
 pub mod Soundness
 pub mod Order
 pub mod Routing

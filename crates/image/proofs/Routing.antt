@@ -1,4 +1,4 @@
--- Routing by separators: the routed leaf alone answers a lookup; it or the leaf after it answers a next key.
+-- Routing by separators: the pages before the routed one list smaller keys, those after it larger ones; the routed leaf or the leaf after it answers a next key.
 -- Assumes nothing.
 use Prim.Native.Nat.{ℕ, suc, _+_, _≤_, _<_}
 use mathlib.Core.Path.{_≡_, refl, sym, ap, _∙_, subst}
@@ -15,20 +15,22 @@ use borrow.Author.Tests.{leb-true, leb-false, lt-leb, lt-ltb, le-ltb, ne-eqb}
 use Rattle.codec.specs.Lists.{All, pick}
 use Rattle.codec.proofs.Tests.{All-map}
 use Rattle.page.specs.Layout.{topKey, Rec}
-use Rattle.page.specs.Page.{Entry, recs, entries, records}
+use Rattle.page.specs.Page.{Entry, records}
 use Rattle.page.specs.Operations.{pageOf}
 use Rattle.image.specs.PageZero.{rootOf}
-use Rattle.image.specs.Image.{childOf, children, firstKey, startOf, nextSep, sound}
-use Rattle.image.specs.Facts.{Rising, Leaves}
-use Rattle.image.specs.Table.{leafRecords, table, inImage, leafEntries, listing, find, foundIn, above, orElse}
+use Rattle.image.specs.Image.{childOf, children, joined, firstKey, startOf, nextSep, sound}
+use Rattle.image.specs.Facts.{Rising, Leaves, Spans}
+use Rattle.image.specs.Table.{leafRecords, table, find, foundIn, above, orElse}
 use Rattle.image.specs.Route.{lastFrom, route}
 use Rattle.image.specs.declared.Lookup.the-variants.{Found, Missing}
 use Rattle.image.specs.declared.Next.{Next}
 use Rattle.image.specs.declared.Next.the-variants.{Key, Last}
-use Rattle.image.proofs.General.{All-unmap, All-left}
-use Rattle.image.proofs.Rising.{From, Below, rising-hi, rising-from, rising-below}
-use Rattle.image.proofs.Soundness.{Tree, index-rising, sound-facts, sound-tree}
-use Rattle.image.proofs.Order.{leafRecords-append, leafEntries-append, recs-leafEntries, leaves-before, leaves-from, leaves-after}
+use Rattle.image.proofs.General.{map-same, All-unmap, All-left}
+use Rattle.image.proofs.Rising.{From, Below, rising-hi, rising-from, rising-below, rising-split}
+use Rattle.image.proofs.Ranges.{rising-first, spans-cut, spans-rising}
+use Rattle.image.proofs.OneHeight.{table-one}
+use Rattle.image.proofs.Soundness.{LeafIn, leaves-spans, Tree, index-rising, sound-facts, sound-tree}
+use Rattle.image.proofs.Order.{leafRecords-append, leaves-from}
 
 -- ---- the routed place
 
@@ -165,29 +167,49 @@ pub after-answers : (k : ℕ) (l m : List Rec) (z : Rec) → 1 ≤ length l → 
 after-answers k [] m z q f = absurd (not-suc-le-zero q)
 after-answers k (r ∷ l) m z q f = above-first k r (l ++ m) (f .0)
 
--- ---- the leaves before the routed one have smaller keys, those after it larger ones
+-- ---- the pages before the routed one list smaller keys, those after it larger ones
+
+-- pages of any kind: f says what a page lists, in its range
+module _ (P : ℕ → ℕ → ℕ → Type 0) (f : ℕ → List Rec) (rises : (a b x : ℕ) → P a b x → Rising a (f x) b) (lo : ℕ) (pre : List Rec) (c : Rec) (post : List Rec) (hi : ℕ)
+    (seps : Rising lo (pre ++ c ∷ post) hi) (spans : Spans P lo (pre ++ c ∷ post) hi) (k : ℕ) where
+  pub pages-before : startOf pre lo (c .key) ≤ k → Below (joined f pre) k
+  pages-before low = go pre (rising-split lo pre (c ∷ post) hi seps .0) (spans-cut P lo pre (c ∷ post) hi spans .0) low
+    where
+      go : (ps : List Rec) → Rising lo ps (c .key) → Spans P lo ps (c .key) → startOf ps lo (c .key) ≤ k → Below (joined f ps) k
+      go [] r s l = tt
+      go (p ∷ ps) r s l = rising-below lo (joined f (p ∷ ps)) k (rising-hi lo (joined f (p ∷ ps)) (c .key) k l (spans-rising P f rises lo (p ∷ ps) (c .key) r s))
+
+  pub pages-after : k < firstKey post (suc k) → From (suc k) (joined f post)
+  pages-after high = go post (rising-split lo pre (c ∷ post) hi seps .1 .1) (spans-cut P lo pre (c ∷ post) hi spans .1 .1) high
+    where
+      go : (ps : List Rec) → Rising (suc (c .key)) ps hi → Spans P (firstKey ps hi) ps hi → k < firstKey ps (suc k) → From (suc k) (joined f ps)
+      go [] r s q = tt
+      go (d ∷ ps) r s q =
+          All-map (λ (r : Rec). d .key ≤ r .key) (λ (r : Rec). suc k ≤ r .key) (λ r le. omega arith) (joined f (d ∷ ps))
+          (rising-from (d .key) (joined f (d ∷ ps)) hi (spans-rising P f rises (d .key) (d ∷ ps) hi (rising-first (suc (c .key)) (d ∷ ps) hi r) s))
+
+-- so only the middle one of three lists may have the key
+module _ {A B : Type 0} (rec : A → Rec) (answer : A → B) (nothing : B) (k : ℕ) where
+  pub seek-between : (a b d : List A) → Below (map rec a) k → From (suc k) (map rec d) →
+      seek (λ (x : A). rec x .key) answer nothing k (a ++ (b ++ d)) ≡ seek (λ (x : A). rec x .key) answer nothing k b
+  seek-between a b d low high =
+      seek-middle (λ (x : A). rec x .key) answer nothing k a b d
+      (All-map (λ (x : A). rec x .key < k) (λ (x : A). rec x .key ≡ k → ⊥) (λ x q e. omega arith) a (All-unmap rec (λ (r : Rec). r .key < k) a low))
+      (All-map (λ (x : A). suc k ≤ rec x .key) (λ (x : A). rec x .key ≡ k → ⊥) (λ x q e. omega arith) d (All-unmap rec (λ (r : Rec). suc k ≤ r .key) d high))
+
+-- ---- the leaves
 
 module _ (img : List ℕ) (only : Bool) (pre : List Rec) (c : Rec) (post : List Rec) (s : Rising 0 (pre ++ c ∷ post) (suc topKey)) (h : Leaves img only 0 (pre ++ c ∷ post))
     (k : ℕ) (low : startOf pre 0 (c .key) ≤ k) (high : k < firstKey post (suc k)) where
   pub before-below : Below (leafRecords img pre) k
+  unfolding leafRecords
   before-below =
-      rising-below 0 (leafRecords img pre) k (rising-hi 0 (leafRecords img pre) (startOf pre 0 (c .key)) k low (leaves-before img only 0 pre c post h))
+      pages-before (LeafIn img only) (λ x. records (pageOf img x)) (λ a b x l. l .rising) 0 pre c post (suc topKey) s (leaves-spans img only 0 (pre ++ c ∷ post) h) k low
 
   pub after-above : From (suc k) (leafRecords img post)
-  unfolding nextSep leafRecords
-  after-above = go post (leaves-after img only 0 pre c post s h) high
-    where
-      go : (cs : List Rec) → Rising (nextSep cs) (leafRecords img cs) (suc topKey) → k < firstKey cs (suc k) → From (suc k) (leafRecords img cs)
-      go [] g q = tt
-      go (d ∷ cs) g q =
-          All-map (λ (r : Rec). d .key ≤ r .key) (λ (r : Rec). suc k ≤ r .key) (λ r le. omega arith) (leafRecords img (d ∷ cs))
-          (rising-from (d .key) (leafRecords img (d ∷ cs)) (suc topKey) g)
-
-  not-before : (r : Rec) → r .key < k → r .key ≡ k → ⊥
-  not-before r q e = omega arith
-
-  not-after : (r : Rec) → suc k ≤ r .key → r .key ≡ k → ⊥
-  not-after r q e = omega arith
+  unfolding leafRecords
+  after-above =
+      pages-after (LeafIn img only) (λ x. records (pageOf img x)) (λ a b x l. l .rising) 0 pre c post (suc topKey) s (leaves-spans img only 0 (pre ++ c ∷ post) h) k high
 
   pub find-here : find k (leafRecords img (pre ++ c ∷ post)) ≡ find k (records (pageOf img (childOf c)))
   unfolding leafRecords
@@ -197,25 +219,8 @@ module _ (img : List ℕ) (only : Bool) (pre : List Rec) (c : Rec) (post : List 
       let d = leafRecords img post in
       ap (find k) (leafRecords-append img pre (c ∷ post))
       ∙ find-seek k (a ++ (b ++ d))
-      ∙ seek-middle (λ (r : Rec). r .key) (λ (r : Rec). some (r .value)) none k a b d
-      (All-map (λ (r : Rec). r .key < k) (λ (r : Rec). r .key ≡ k → ⊥) not-before a before-below)
-      (All-map (λ (r : Rec). suc k ≤ r .key) (λ (r : Rec). r .key ≡ k → ⊥) not-after d after-above)
+      ∙ seek-between (λ (r : Rec). r) (λ (r : Rec). some (r .value)) none k a b d (rw (map-same a) before-below) (rw (map-same d) after-above)
       ∙ sym (find-seek k b)
-
-  pub found-here : foundIn k (leafEntries img (pre ++ c ∷ post)) ≡ foundIn k (map (inImage (childOf c)) (entries (pageOf img (childOf c))))
-  unfolding leafEntries
-  found-here =
-      let a = leafEntries img pre in
-      let b = map (inImage (childOf c)) (entries (pageOf img (childOf c))) in
-      let d = leafEntries img post in
-      let below : Below (recs a) k = rw (recs-leafEntries img pre) before-below in
-      let past : From (suc k) (recs d) = rw (recs-leafEntries img post) after-above in
-      ap (foundIn k) (leafEntries-append img pre (c ∷ post))
-      ∙ found-seek k (a ++ (b ++ d))
-      ∙ seek-middle (λ (e : Entry). e .rec .key) (λ (e : Entry). Found (e .at + 16) (length (e .rec .value))) Missing k a b d
-      (All-map (λ (e : Entry). e .rec .key < k) (λ (e : Entry). e .rec .key ≡ k → ⊥) (λ e q. not-before (e .rec) q) a (All-unmap (λ (e : Entry). e .rec) (λ (r : Rec). r .key < k) a below))
-      (All-map (λ (e : Entry). suc k ≤ e .rec .key) (λ (e : Entry). e .rec .key ≡ k → ⊥) (λ e q. not-after (e .rec) q) d (All-unmap (λ (e : Entry). e .rec) (λ (r : Rec). suc k ≤ r .key) d past))
-      ∙ sym (found-seek k b)
 
   -- the leaf after it, unless it is the last
   pub leaf-after : (1 ≤ length post → only ≡ false) → (d : Rec) (ds : List Rec) → post ≡ d ∷ ds → After img k d
@@ -277,17 +282,6 @@ module _ (img : List ℕ) (root : ℕ) (t : Tree img root) (k : ℕ) (z : Rec) w
   held : Leaves img (eqb (length cs) 1) 0 (take i cs ++ getD cs i z ∷ drop (suc i) cs)
   held = subst (Leaves img (eqb (length cs) 1) 0) shape (t .leaves)
 
-  pub tree-find : find k (leafRecords img (children img root)) ≡ find k (records (pageOf img (routedPage k (children img root) z)))
-  tree-find =
-      ap (λ (l : List Rec). find k (leafRecords img l)) shape
-      ∙ find-here img (eqb (length cs) 1) (take i cs) (getD cs i z) (drop (suc i) cs) seps held k (tree-routed .low) (tree-routed .high)
-
-  pub tree-found : foundIn k (leafEntries img (children img root)) ≡
-      foundIn k (map (inImage (routedPage k (children img root) z)) (entries (pageOf img (routedPage k (children img root) z))))
-  tree-found =
-      ap (λ (l : List Rec). foundIn k (leafEntries img l)) shape
-      ∙ found-here img (eqb (length cs) 1) (take i cs) (getD cs i z) (drop (suc i) cs) seps held k (tree-routed .low) (tree-routed .high)
-
   many : 1 ≤ length (drop (suc i) cs) → eqb (length cs) 1 ≡ false
   many q = ne-eqb (length cs) 1 (λ e. omega (arith, length-drop (suc i) cs))
 
@@ -303,16 +297,6 @@ module _ (img : List ℕ) (h : sound img ≡ true) (k : ℕ) (z : Rec) where
   abbrev tree : Tree img (rootOf img)
   tree = sound-tree img (sound-facts img h)
 
-  pub find-routed : find k (table img) ≡ find k (records (pageOf img (routedPage k (children img (rootOf img)) z)))
-  unfolding table
-  find-routed = tree-find img (rootOf img) tree k z
-
-  pub found-routed : foundIn k (listing img) ≡
-      foundIn k (map (inImage (routedPage k (children img (rootOf img)) z)) (entries (pageOf img (routedPage k (children img (rootOf img)) z))))
-  unfolding listing
-  found-routed = tree-found img (rootOf img) tree k z
-
   pub next-routed : above k (table img) ≡
       orElse (above k (records (pageOf img (routedPage k (children img (rootOf img)) z)))) (aboveFirst img k (drop (suc (route k (children img (rootOf img)))) (children img (rootOf img))))
-  unfolding table
-  next-routed = tree-above img (rootOf img) tree k z
+  next-routed = ap (above k) (table-one img) ∙ tree-above img (rootOf img) tree k z

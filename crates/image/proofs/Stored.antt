@@ -18,7 +18,7 @@ use Rattle.page.specs.Layout.{pageSize, lineSize, leafKind, indexKind, topKey, 
 use Rattle.page.specs.Page.{records}
 use Rattle.page.specs.Operations.{fill, pageOf, putPage}
 use Rattle.image.specs.PageZero.{pageCount, isPage, rootOf, noMark, wordsPast}
-use Rattle.image.specs.Image.{childOf, indexRec, children, reached, among, distinct, firstKey, nextSep, sound}
+use Rattle.image.specs.Image.{childOf, indexRec, children, among, distinct, firstKey, nextSep, sound}
 use Rattle.image.specs.Facts.{Rising, Index, Leaf, Leaves}
 use Rattle.image.specs.Table.{leafRecords, table}
 use Rattle.image.specs.Fresh.{zeroPage, freshZero, separators, named, numbered, indexOver, leafPages, stored, allRecords, Storable, blank, putLeaves}
@@ -26,6 +26,7 @@ use Rattle.image.proofs.General.{part-front, part-past}
 use Rattle.image.proofs.Rising.{rising-lo, rising-split}
 use Rattle.image.proofs.IndexRecords.{index-child}
 use Rattle.image.proofs.Zero.{true-isPage, Line, facts-ready, past-root}
+use Rattle.image.proofs.OneHeight.{table-one}
 use Rattle.image.proofs.Soundness.{tree-sound}
 use Rattle.image.proofs.FilledPages.{page-between, put-between, past, length-zeroPage, length-past, length-freshZero, zero-page, Leafs, leafs-filled, length-leafs, Stand, leafs-stand, length-separators, length-index, named-pages, smallest, Full, next-first, rest-full, index-filled}
 
@@ -160,8 +161,7 @@ module _ (n : ℕ) (ls : List (List Rec)) where
         ∙ pages-records (stored n ls) 2 ls stored-leaf leafs
 
     pub stored-table : table (stored n ls) ≡ allRecords ls
-    unfolding table
-    stored-table = rw (stored-root, stored-children) (leaf-records (stored n ls) (indexOver ls) ∙ ap allRecords stored-leaves)
+    stored-table = table-one (stored n ls) ∙ rw (stored-root, stored-children) (leaf-records (stored n ls) (indexOver ls) ∙ ap allRecords stored-leaves)
 
 -- ---- it is sound
 
@@ -179,7 +179,6 @@ module _ (n : ℕ) (ls : List (List Rec)) (size : isImageSize (pageSize * n) ≡
       }
 
   index-sound : Index (stored n ls) 1
-  unfolding reached
   index-sound =
       record {
         page = rw (stored-index n ls s) (index-filled ls s .ok);

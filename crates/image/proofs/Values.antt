@@ -2,25 +2,25 @@
 -- Assumes nothing.
 use Prim.Native.Nat.{ℕ, _+_, _*_, _≤_}
 use mathlib.Core.Path.{_≡_, sym, ap, _∙_}
-use mathlib.Core.Bool.{Bool, true}
+use mathlib.Core.Bool.{true}
 use mathlib.Core.List.{List, [], _∷_, map}
 use native.Mathlib.Omega.{arith}
 use lib.ListN.{length}
-use lib.Dec.{eqb}
 use Rattle.codec.specs.Lists.{part, All}
 use Rattle.codec.specs.Numbers.{number}
 use Rattle.page.specs.Layout.{pageSize, leafKind, Rec, size, readHead}
 use Rattle.page.specs.Page.{Entry, entries, pageOk, Held}
+use Rattle.page.specs.PageFormat.{format1}
 use Rattle.page.specs.Operations.{pageOf}
 use Rattle.page.proofs.Records.{up8-least, record-at, length-at, record-is}
 use Rattle.page.proofs.Facts.{pageOk-true, ok-is}
 use Rattle.image.specs.PageZero.{pageCount, isPage, rootOf}
-use Rattle.image.specs.Image.{childOf, children, nextSep, sound}
-use Rattle.image.specs.Facts.{Leaves}
-use Rattle.image.specs.Table.{inImage, pageEntries, leafEntries, listing}
-use Rattle.image.proofs.General.{part-part, All-append}
+use Rattle.image.specs.Image.{heightOf, sound}
+use Rattle.image.specs.Table.{inImage, pageEntries, listing}
+use Rattle.image.proofs.General.{part-part}
 use Rattle.image.proofs.Zero.{isPage-true}
-use Rattle.image.proofs.Soundness.{sound-facts}
+use Rattle.image.proofs.Alike.{gathered-all}
+use Rattle.image.proofs.Order.{IsLeaf, sound-leaves}
 
 pub value-at : (p : List ℕ) (start : ℕ) (e : Entry) → Held p start e → part p (e .at + 16) (length (e .rec .value)) ≡ e .rec .value
 value-at p start e h =
@@ -60,15 +60,7 @@ page-listed img q k ok =
     let p = pageOf img q in
     held-listed img q (readHead p .start) k (entries p) (ok-is p (pageOk-true leafKind q p ok .laid) .body .held)
 
-leaves-listed : (img : List ℕ) (only : Bool) (lo : ℕ) (cs : List Rec) → All (λ (p : ℕ). isPage (pageCount img) p ≡ true) (map childOf cs) → Leaves img only lo cs → All (Listed img) (leafEntries img cs)
-unfolding leafEntries
-leaves-listed img only lo [] k h = tt
-leaves-listed img only lo (c ∷ cs) k h =
-    All-append (Listed img) (pageEntries img (childOf c)) (leafEntries img cs) (page-listed img (childOf c) (k .0) (h .0 .page)) (leaves-listed img only (nextSep cs) cs (k .1) (h .1))
-
 pub listing-listed : (img : List ℕ) → sound img ≡ true → All (Listed img) (listing img)
 unfolding listing
 listing-listed img h =
-    let s = sound-facts img h in
-    let cs = children img (rootOf img) in
-    leaves-listed img (eqb (length cs) 1) 0 cs (s .index .inside) (s .leaves)
+    gathered-all format1 (IsLeaf img) (Listed img) (λ x. pageEntries img x) (λ x l. page-listed img x (l .0) (l .1)) img (heightOf img (rootOf img)) (rootOf img) (sound-leaves img h)

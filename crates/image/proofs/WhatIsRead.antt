@@ -1,6 +1,6 @@
 -- What is read decides, and nothing else: two images that agree on it give the same answer.
 -- Assumes nothing.
-use Prim.Native.Nat.{ℕ, _+_, _<_}
+use Prim.Native.Nat.{ℕ, suc, _+_, _<_}
 use mathlib.Core.Path.{_≡_, refl, sym, ap, ap₂, _∙_}
 use mathlib.Core.Bool.{Bool, true, false}
 use mathlib.Core.List.{List, [], _∷_}
@@ -14,9 +14,10 @@ use Rattle.device.specs.Calls.{refusal}
 use Rattle.page.specs.Layout.{lineSize, topKey, Rec}
 use Rattle.page.specs.Page.{records}
 use Rattle.page.specs.Operations.{pageOf}
-use Rattle.image.specs.Image.{children, reached, indexOk, leafAt}
+use Rattle.image.specs.Image.{children, places, topPlace, indexOk, leafAt}
 use Rattle.image.specs.Table.{find, orElse}
-use Rattle.image.specs.Descent.{topPlace, down, leafFor, leafSound, recordsFor}
+use Rattle.image.specs.Route.{route}
+use Rattle.image.specs.Descent.{down, leafFor, leafSound, recordsFor}
 use Rattle.image.specs.Calls.{rootCall, indexFrom, indexCall, ranged, leafLookup, lookupFrom, lookupCall, valueAt, valueCall, leafNext, nextAfter, nextFrom, nextCall}
 use Rattle.image.specs.Says.{readRecords, LookupSays, not-opened, bad-leaf, bad-key, found, missing}
 use Rattle.image.specs.WhatIsRead.{ReadAlike, lookupReads, afterReads, nextReads}
@@ -27,6 +28,7 @@ use Rattle.image.specs.declared.Lookup.{Lookup}
 use Rattle.image.specs.declared.Lookup.the-variants as lookups
 use Rattle.image.specs.declared.Next.{Next}
 use Rattle.image.specs.declared.Next.the-variants as nexts
+use Rattle.image.proofs.OneHeight.{leaf-one}
 use Rattle.image.proofs.Read.{opened-call, read-records}
 use Rattle.image.proofs.Says.{lookup-says}
 use Rattle.image.proofs.Frame.{zero-agree}
@@ -39,12 +41,15 @@ module _ (a b : List ℕ) (root : ℕ) (size : length b ≡ length a) (same : pa
   children-alike = ap records same
 
   index-same : indexOk b root ≡ indexOk a root
-  unfolding indexOk reached children
+  unfolding indexOk children
   index-same = rw (same, size)
 
   pub leaf-alike : (k : ℕ) → leafFor b root k ≡ leafFor a root k
-  unfolding leafFor down children topPlace
-  leaf-alike k = rw same
+  unfolding down children topPlace
+  leaf-alike k =
+      leaf-one b root k
+      ∙ ap (λ (p : List ℕ). getD (places 0 (records p) (suc topKey)) (route k (records p)) (topPlace root)) same
+      ∙ sym (leaf-one a root k)
 
   module _ (p : Place) (page : pageOf b (p .page) ≡ pageOf a (p .page)) where
     sound-alike : leafSound b root p ≡ leafSound a root p

@@ -24,6 +24,7 @@ use Rattle.image.specs.Live.{covered, liveIn, live}
 use Rattle.image.specs.Fresh.{zeroPage, freshZero, numbered, indexOver, leafPages, stored, Storable}
 use Rattle.image.proofs.General.{zeros-at}
 use Rattle.image.proofs.Apart.{among-first, among-rest}
+use Rattle.image.proofs.OneHeight.{reached-one}
 use Rattle.image.proofs.FilledPages.{length-zeroPage, length-freshZero, Stand, length-past, index-good, index-fits}
 use Rattle.image.proofs.Stored.{stored-pages, stored-root, stored-index, stored-leaf, stored-length, stored-children, stored-names}
 
@@ -114,8 +115,8 @@ module _ (n : ℕ) (ls : List (List Rec)) (s : Storable ls) (room : 2 + length l
   img = stored n ls
 
   reached-is : reached img (rootOf img) ≡ numbered 1 ([] ∷ ls)
-  unfolding reached numbered
-  reached-is = rw (stored-root n ls, stored-children n ls s, stored-names n ls s)
+  unfolding numbered
+  reached-is = reached-one img (rootOf img) ∙ rw (stored-root n ls, stored-children n ls s, stored-names n ls s)
 
   page-clean : (q : ℕ) → 1 ≤ q → q < 2 + length ls → Clean (pageOf img q)
   page-clean q low high = go (decLt 1 q)

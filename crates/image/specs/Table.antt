@@ -1,7 +1,7 @@
 -- The table of an image, and what a lookup and a next key say of it (document 01, 'The plain ledger' and 'Each call').
 -- Assumes nothing.
 use Prim.Native.Nat.{ℕ, _+_, _*_}
-use mathlib.Core.List.{List, [], _∷_, _++_, map}
+use mathlib.Core.List.{List, [], _∷_, map}
 use mathlib.Core.Option.{Option, none, some}
 use lib.ListN.{length}
 use lib.Dec.{ltb, eqb}
@@ -10,7 +10,8 @@ use Rattle.page.specs.Layout.{pageSize, Rec}
 use Rattle.page.specs.Page.{Entry, entries, records}
 use Rattle.page.specs.Operations.{pageOf}
 use Rattle.image.specs.PageZero.{rootOf}
-use Rattle.image.specs.Image.{children, childOf}
+use Rattle.page.specs.PageFormat.{PageFormat, format1}
+use Rattle.image.specs.Image.{recordsAt, joined, gathered, heightOf}
 use Rattle.image.specs.declared.Lookup.{Lookup}
 use Rattle.image.specs.declared.Lookup.the-variants.{Found, Missing}
 use Rattle.image.specs.declared.Next.{Next}
@@ -18,12 +19,15 @@ use Rattle.image.specs.declared.Next.the-variants.{Key, Last, Refused}
 
 -- the records of the leaves that the index records cs name
 unfoldable pub leafRecords : List ℕ → List Rec → List Rec
-leafRecords img [] = []
-leafRecords img (c ∷ cs) = records (pageOf img (childOf c)) ++ leafRecords img cs
+leafRecords img cs = joined (λ x. records (pageOf img x)) cs
+
+-- the records of the leaves under page q of height h
+unfoldable pub tableIn : PageFormat → List ℕ → ℕ → ℕ → List Rec
+tableIn Pg img h q = gathered Pg (λ x. recordsAt Pg img x) (λ x. []) img h q
 
 -- "A sound image's table is the key and value of each record that its reached leaves list, keys rising."
 unfoldable pub table : List ℕ → List Rec
-table img = leafRecords img (children img (rootOf img))
+table img = tableIn format1 img (heightOf img (rootOf img)) (rootOf img)
 
 -- an entry of page q with its offset in the image
 abbrev pub inImage : ℕ → Entry → Entry
@@ -34,11 +38,11 @@ abbrev pub pageEntries : List ℕ → ℕ → List Entry
 pageEntries img q = map (inImage q) (entries (pageOf img q))
 
 unfoldable pub leafEntries : List ℕ → List Rec → List Entry
-leafEntries img [] = []
-leafEntries img (c ∷ cs) = pageEntries img (childOf c) ++ leafEntries img cs
+leafEntries img cs = joined (λ x. pageEntries img x) cs
 
+-- the same of the table
 unfoldable pub listing : List ℕ → List Entry
-listing img = leafEntries img (children img (rootOf img))
+listing img = gathered format1 (λ x. pageEntries img x) (λ x. []) img (heightOf img (rootOf img)) (rootOf img)
 
 -- the value that a table holds for the key k
 unfoldable pub find : ℕ → List Rec → Option (List ℕ)

@@ -18,6 +18,7 @@ use Rattle.image.specs.PageZero.{rootOf}
 use Rattle.image.specs.Image.{childOf, children, nextSep, sound}
 use Rattle.image.specs.Facts.{Leaves}
 use Rattle.image.specs.Table.{leafRecords, table}
+use Rattle.image.proofs.OneHeight.{table-one}
 use Rattle.image.proofs.Soundness.{sound-facts}
 use Rattle.edit.specs.Ledger.{add}
 use Rattle.merge.specs.Tables.{merged, apart}
@@ -59,8 +60,7 @@ few-records img only lo (c ∷ cs) k =
 
 -- 28 leaves of 28 records
 table-few : (img : List ℕ) → sound img ≡ true → length (table img) ≤ 784
-unfolding table
-table-few img h = omega (arith, few-records img _ 0 (children img (rootOf img)) (sound-facts img h .leaves), few-leaves img h _ refl)
+table-few img h = omega (arith, ap length (table-one img), few-records img _ 0 (children img (rootOf img)) (sound-facts img h .leaves), few-leaves img h _ refl)
 
 -- ---- counting leaves
 

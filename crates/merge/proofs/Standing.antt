@@ -27,6 +27,7 @@ use Rattle.image.specs.Says.{GoodLeaf}
 use Rattle.image.proofs.General.{All-right}
 use Rattle.image.proofs.Zero.{size-true, ready-facts}
 use Rattle.image.proofs.Rising.{rising-le, rising-lo, rising-split}
+use Rattle.image.proofs.OneHeight.{table-one}
 use Rattle.image.proofs.Soundness.{sound-facts, sound-tree}
 use Rattle.image.proofs.Values.{page-fits}
 use Rattle.image.proofs.Order.{leafRecords-append, table-rising, table-ok}
@@ -109,12 +110,12 @@ module _ {img : List ℕ} {i q : ℕ} (f : IsLeaf img i q) where
   leaf-first = rw (drop-cons cs i (recOf 0 []) (f .less), f .page)
 
   table-end : (s : ℕ) → table img ≡ (leafRecords img (take i (children img (rootOf img))) ++ take s (records (pageOf img q))) ++ (drop s (records (pageOf img q)) ++ leafRecords img (drop (suc i) (children img (rootOf img))))
-  unfolding table
   table-end s =
       let rs = records (pageOf img q) in
       let front = leafRecords img (take i cs) in
       let after = leafRecords img (drop (suc i) cs) in
-      ap (leafRecords img) (sym (take-append-drop i cs))
+      table-one img
+      ∙ ap (leafRecords img) (sym (take-append-drop i cs))
       ∙ leafRecords-append img (take i cs) (drop i cs)
       ∙ ap (λ (l : List Rec). front ++ l) (leaf-first ∙ ap (λ (l : List Rec). l ++ after) (sym (take-append-drop s rs)) ∙ append-assoc (take s rs) (drop s rs) after)
       ∙ sym (append-assoc front (take s rs) (drop s rs ++ after))

@@ -11,6 +11,8 @@ pub mod Made
 pub mod Frame
 pub mod Sizes
 pub mod Totals
+pub mod Placed
+pub mod Format1
 pub mod Images
 pub mod CheckBytes
 pub mod CheckBits

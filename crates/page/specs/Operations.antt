@@ -1,7 +1,7 @@
 -- What insert, update, delete and fill make of a page (document 01, 'Edits').
 -- An operation is a new header and new bytes; the header line is written last.
 -- Assumes nothing.
-use Prim.Native.Nat.{ℕ, zero, suc, _+_, _-_, _*_, _≤_, _<_}
+use Prim.Native.Nat.{ℕ, _+_, _-_, _*_, _≤_, _<_}
 use mathlib.Core.Path.{_≡_}
 use mathlib.Core.Bool.{Bool, true, false, _&&_}
 use mathlib.Core.List.{List, [], _∷_, _++_}
@@ -41,6 +41,11 @@ update p i r = let h = readHead p in seal (updateHead h i (size r)) (written (h 
 unfoldable pub delete : List ℕ → ℕ → List ℕ
 delete p i = seal (deleteHead (readHead p) i) p
 
+-- the record r put in as the i-th, or in place of the i-th
+unfoldable pub inPlace : Bool → ℕ → Rec → List ℕ → List ℕ
+inPlace true i r p = insert p i r
+inPlace false i r p = update p i r
+
 -- "A new page is filled in key order from the end down; its bytes from 64 to start stay."
 unfoldable pub fillHead : Head → List Rec → Head
 fillHead h [] = h
@@ -64,9 +69,12 @@ unfoldable pub sizes : List Rec → ℕ
 sizes [] = 0
 sizes (r ∷ rs) = size r + sizes rs
 
--- "at most 28 and at most 960 bytes": whether the records rs fit one page
+-- "at most 28 and at most 960 bytes": whether the records rs fit one page of at most `cap` records, and of 28
+abbrev pub fitsIn : ℕ → List Rec → Bool
+fitsIn cap rs = leb (length rs) cap && leb (sizes rs) (pageSize - lineSize)
+
 abbrev pub fitsPage : List Rec → Bool
-fitsPage rs = leb (length rs) slotCount && leb (sizes rs) (pageSize - lineSize)
+fitsPage rs = fitsIn slotCount rs
 
 -- what it stands for, and what stands against it
 pub record OnePage (rs : List Rec) : Type 0 where

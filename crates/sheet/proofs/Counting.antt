@@ -17,11 +17,12 @@ use Rattle.page.specs.Page.{Entry, recs, entries, records, Held}
 use Rattle.page.specs.Operations.{pageOf}
 use Rattle.page.proofs.Facts.{pageOk-true, ok-is, recs-entries}
 use Rattle.image.specs.PageZero.{pageCount, isPage, rootOf}
-use Rattle.image.specs.Image.{childOf, children, among, distinct, reached, nextSep, sound}
+use Rattle.image.specs.Image.{childOf, children, among, distinct, nextSep, sound}
 use Rattle.image.specs.Facts.{Leaves}
 use Rattle.image.specs.Table.{inImage, leafEntries, listing}
 use Rattle.image.proofs.Zero.{isPage-true}
 use Rattle.image.proofs.Values.{held-room}
+use Rattle.image.proofs.OneHeight.{listing-one}
 use Rattle.image.proofs.Soundness.{sound-facts}
 use Rattle.sheet.specs.Rows.{Shown, leafRows, rowsIn, rowsOf, nextSlot, rowsAfter}
 
@@ -85,9 +86,10 @@ zero-apart n [] h = refl
 zero-apart n (p ∷ ps) h = neither (ne-eqb 0 p (λ e. omega (arith, isPage-true n p (h .0)))) (zero-apart n ps (h .1))
 
 pub rows-counted : (img : List ℕ) → sound img ≡ true → rowsAfter 0 0 (listing img) ≡ rowsOf img
-unfolding listing rowsOf reached distinct
+unfolding rowsOf distinct
 rows-counted img h =
     let s = sound-facts img h in
     let cs = children img (rootOf img) in
-    leaves-counted img (eqb (length cs) 1) 0 0 0 cs (s .leaves) (zero-apart (pageCount img) (map childOf cs) (s .index .inside))
+    ap (rowsAfter 0 0) (listing-one img)
+    ∙ leaves-counted img (eqb (length cs) 1) 0 0 0 cs (s .leaves) (zero-apart (pageCount img) (map childOf cs) (s .index .inside))
     (second (not (among (rootOf img) (map childOf cs))) (distinct (map childOf cs)) (s .index .apart))

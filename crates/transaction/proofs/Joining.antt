@@ -21,6 +21,8 @@ use Rattle.journal.specs.Edited.{Edited}
 use Rattle.tree.specs.State.{State, begin}
 use Rattle.tree.specs.Whole.{finished, stopped, editsFrom, editsOn, editedImage}
 use Rattle.tree.specs.Good.{count, Good}
+use Rattle.page.specs.PageFormat.{format1}
+use Rattle.tree.specs.Edits.{noKeep}
 use Rattle.tree.proofs.States.{Leads}
 use Rattle.tree.proofs.Runs.{begin-good, edits-run}
 use Rattle.tree.proofs.Accepted.{edits-accepted}
@@ -106,7 +108,7 @@ module _ {a work before : List ℕ} {root : ℕ} (B : Begun a work before root) 
     made-stopped k i q = sym made ∙ ap (steps.outcomeOf before w) q
 
     -- a page that is still free is as it was
-    as-begun : {st : State} → Leads (begin a .free) (begin a) st → (p : ℕ) → 1 ≤ count p (st .free) → pageOf (st .image) p ≡ pageOf a p
+    as-begun : {st : State} → Leads format1 noKeep (begin a .free) (begin a) st → (p : ℕ) → 1 ≤ count p (st .free) → pageOf (st .image) p ≡ pageOf a p
     unfolding begin
     as-begun L p free = L .spare p free
 

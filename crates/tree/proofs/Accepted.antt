@@ -2,7 +2,7 @@
 -- journal allows.
 -- Assumes nothing.
 use Prim.Native.Nat.{ℕ, zero, _+_, _-_, _/_, _%_, _≤_, _<_}
-use mathlib.Core.Path.{_≡_, refl, sym, ap, ap₂, _∙_, subst}
+use mathlib.Core.Path.{_≡_, refl, sym, ap, ap₂, _∙_}
 use mathlib.Core.Logic.{_⊎_, inl, inr}
 use mathlib.Core.Bool.{Bool, true, false, _&&_, _||_, not, false≢true}
 use mathlib.Core.List.{List, [], _∷_, _++_}
@@ -18,18 +18,18 @@ use Rattle.codec.proofs.Numbers.{length-bytesOf}
 use Rattle.codec.proofs.Tests.{first, second}
 use Rattle.codec.proofs.Agree.{part-add}
 use Rattle.page.specs.Layout.{pageSize, lineSize, readHead}
-use Rattle.page.specs.Page.{Entry, end, entries, laidOut, Held}
+use Rattle.page.specs.Page.{Entry, end, entries, Held}
 use Rattle.page.specs.Operations.{pageOf}
+use Rattle.page.specs.PageFormat.{OldPage, format1}
 use Rattle.page.proofs.Facts.{ok-is}
-use Rattle.page.proofs.Frame.{Same}
+use Rattle.page.proofs.Format1.{format1-rules}
 use Rattle.image.specs.PageZero.{pageCount, rootOf, noMark, wordsPast}
-use Rattle.image.specs.Image.{children, reached, among, sound}
+use Rattle.image.specs.Image.{heightOf, reached, among, sound}
 use Rattle.image.specs.Facts.{Sound}
-use Rattle.image.specs.Table.{leafRecords, table}
+use Rattle.image.specs.Table.{tableIn, table}
 use Rattle.image.specs.Live.{covered, liveIn, live}
 use Rattle.image.proofs.Zero.{Line, size-true, ready-facts, facts-ready}
-use Rattle.image.proofs.Soundness.{sound-facts, tree-sound}
-use Rattle.image.proofs.Frame.{SamePages, reached-same, table-same, tree-same}
+use Rattle.image.proofs.Soundness.{sound-facts, treeIn-sound}
 use Rattle.edit.specs.EditList.{Edit}
 use Rattle.edit.specs.Ledger.{applyEdits}
 use Rattle.edit.specs.Reads.{Proper}
@@ -38,12 +38,10 @@ use Rattle.journal.specs.Changes.{wordSize, pageWords, lineWords, freeWord}
 use Rattle.journal.specs.Edited.{Edited}
 use Rattle.tree.specs.State.{State, begin}
 use Rattle.tree.specs.Whole.{finished, editsOn, editedImage}
-use Rattle.tree.specs.Grounds.{tableOf}
 use Rattle.tree.specs.Good.{count, inside}
 use Rattle.tree.proofs.General.{byte-part, byte-past}
-use Rattle.tree.proofs.Counts.{hit-self, inside-most, inside-range, inside-page, count-among, among-count}
-use Rattle.tree.proofs.Pages.{Old}
-use Rattle.tree.proofs.Tree.{good-tree, reached-laid}
+use Rattle.tree.proofs.Counts.{inside-most, inside-range, inside-page, count-among, among-count}
+use Rattle.tree.proofs.SameTree.{SameTree, same-tree, own-page, pages-laid}
 use Rattle.tree.proofs.Runs.{Run, begin-good, begin-table, edits-run}
 use Rattle.tree.proofs.PutBack.{byte-page, Ended, edited-length, edited-root, edited-reached, edited-other, edited-mark, edited-word, edited-past}
 
@@ -57,9 +55,6 @@ covered-start p start (e ∷ es) o k h = go (leb (e .at) o) refl h (covered-star
     go true c h f = omega (arith, k .0 .low, leb-true (e .at) o c)
     go false c h f = f h
 
-same-self : (p : List ℕ) → laidOut p ≡ true → Same p p
-same-self p laid = record { ok = laid; head = refl; entries = refl; recs = refl; sound = λ kind own. refl }
-
 module _ (a : List ℕ) (h : sound a ≡ true) (es : List Edit) (st : State) (R : Run (pageCount a) (begin a .free) es (begin a) st) where
   abbrev n : ℕ
   n = pageCount a
@@ -71,7 +66,7 @@ module _ (a : List ℕ) (h : sound a ≡ true) (es : List Edit) (st : State) (R 
   S = sound-facts a h
 
   root-in : 1 ≤ inside n (st .root)
-  root-in = omega (arith, R .good .apart (st .root), hit-self (st .root))
+  root-in = omega (arith, R .good .apart (st .root), own-page format1 (st .image) (heightOf (st .image) (st .root)) (st .root))
 
   ended : Ended a n st
   unfolding begin
@@ -100,16 +95,13 @@ module _ (a : List ℕ) (h : sound a ≡ true) (es : List Edit) (st : State) (R 
   same-length : length w ≡ length a
   same-length = edited-length a n st ended
 
-  same-pages : SamePages (st .image) w (reached (st .image) (st .root))
-  same-pages q e =
-      let k = among-count q (reached (st .image) (st .root)) e in
-      subst (Same (pageOf (st .image) q)) (sym (reached-page q k)) (same-self (pageOf (st .image) q) (reached-laid n st (R .good) q k))
-
-  same-image : length (st .image) ≡ length w
-  same-image = ended .long ∙ sym same-length
+  same : SameTree format1 st w
+  unfolding reached
+  same = same-tree format1 n st (R .good) w (ended .long ∙ sym same-length) (λ x k. reached-page x k)
 
   pub reached-are : reached w (rootOf w) ≡ reached (st .image) (st .root)
-  reached-are = ap (reached w) root-is ∙ reached-same (st .image) w (st .root) same-image same-pages
+  unfolding reached
+  reached-are = ap (reached w) root-is ∙ same .pages
 
   -- ---- sound
 
@@ -137,15 +129,13 @@ module _ (a : List ℕ) (h : sound a ≡ true) (es : List Edit) (st : State) (R 
       }
 
   pub edited-sound : sound (editedImage a st) ≡ true
-  edited-sound =
-      tree-sound w (st .root) (rw same-length (S .size)) (facts-ready w (st .root) line)
-      (tree-same (st .image) w (st .root) same-image same-pages (good-tree n st (R .good)))
+  edited-sound = treeIn-sound w (st .root) (rw same-length (S .size)) (facts-ready w (st .root) line) (same .tree)
 
   pub edited-table : table (editedImage a st) ≡ applyEdits es (table a)
-  unfolding table tableOf
+  unfolding table
   edited-table =
-      ap (λ (r : ℕ). leafRecords w (children w r)) root-is
-      ∙ table-same (st .image) w (st .root) same-image same-pages
+      ap (λ (r : ℕ). tableIn format1 w (heightOf w r) r) root-is
+      ∙ same .table
       ∙ R .makes
       ∙ ap (applyEdits es) (begin-table a)
 
@@ -186,7 +176,7 @@ module _ (a : List ℕ) (h : sound a ≡ true) (es : List Edit) (st : State) (R 
       range : (1 ≤ q) × (q < n)
       range = inside-range n q (omega (arith, begin-good a h .apart q, here))
 
-      old : Old (pageOf a q) (pageOf (st .image) q)
+      old : OldPage (pageOf a q) (pageOf (st .image) q)
       old = R .leads .old q (omega (arith, begin-good a h .apart q, here, inside-most n q))
 
       go : (pageOf w q ≡ pageOf (st .image) q) ⊎ (pageOf w q ≡ pageOf a q) → getD (pageOf w q) o 0 ≡ getD (pageOf a q) o 0
@@ -194,7 +184,7 @@ module _ (a : List ℕ) (h : sound a ≡ true) (es : List Edit) (st : State) (R 
       go (inl z) = ap (λ (p : List ℕ). getD p o 0) z ∙ byte-past (pageOf (st .image) q) (pageOf a q) (readHead (pageOf a q) .start) o (old .above) k
 
   live-kept : (i : ℕ) → live a i ≡ true → freeWord (reached a (rootOf a)) (i / wordSize) ≡ true → (j : ℕ) → j / wordSize ≡ i / wordSize → getD w j 0 ≡ getD a j 0
-  unfolding live liveIn freeWord begin
+  unfolding live liveIn freeWord begin reached
   live-kept i lv fw j e =
       let rs = reached a (rootOf a) in
       let q = i / pageSize in
@@ -209,7 +199,7 @@ module _ (a : List ℕ) (h : sound a ≡ true) (es : List Edit) (st : State) (R 
       (not-second (leb lineWords (i / wordSize % pageWords)) (not (among (i / wordSize / pageWords) rs)) (second (leb pageWords (i / wordSize)) _ fw)
       (ap (λ (x : ℕ). not (among x rs)) same ∙ ap not busy)) in
       let inside : covered o (entries p) ≡ true = not-first (ltb o lineSize) (covered o (entries p)) (second (among q rs) (liveIn p o) lives) (le-ltb o lineSize (omega arith)) in
-      let laid = reached-laid n (begin a) (begin-good a h) q (among-count q rs busy) in
+      let laid = pages-laid format1 n (begin a) (begin-good a h) format1-rules q (among-count q rs busy) in
       let body = ok-is p laid .body in
       let start : readHead p .start ≤ o = covered-start p (readHead p .start) (entries p) o (body .held) inside in
       let page : j / pageSize ≡ q = omega arith in

@@ -4,7 +4,7 @@ use Prim.Native.Nat.{ℕ, zero, suc, _+_, _-_, _*_, _≤_, _<_}
 use mathlib.Core.Path.{_≡_, refl, sym, ap, _∙_, subst}
 use mathlib.Core.Logic.{_⊎_, inl, inr}
 use mathlib.Core.Bool.{Bool, true, false, _&&_}
-use mathlib.Core.List.{List, _∷_, map}
+use mathlib.Core.List.{List, [], _∷_}
 use native.Mathlib.Omega.{arith}
 use lib.ListN.{length, drop}
 use lib.Seq.{take-take}
@@ -13,12 +13,14 @@ use borrow.Author.Tests.{eqb-true, eqb-false}
 use Rattle.codec.specs.Lists.{part, eqs, pick, All}
 use Rattle.codec.specs.Numbers.{number}
 use Rattle.codec.proofs.Tests.{eqs-differ}
-use Rattle.page.specs.Layout.{pageSize, lineSize, readHead}
+use Rattle.page.specs.Layout.{pageSize, lineSize, Rec, readHead}
 use Rattle.page.specs.Page.{records}
 use Rattle.page.specs.Operations.{pageOf}
+use Rattle.page.specs.PageFormat.{PageFormat, Lower, format1}
 use Rattle.page.proofs.Listed.{count-at}
+use Rattle.page.proofs.Format1.{format1-sinks}
 use Rattle.image.specs.PageZero.{pageCount, rootOf}
-use Rattle.image.specs.Image.{childOf, children, reached, among, sound}
+use Rattle.image.specs.Image.{childOf, recordsAt, joined, gathered, pagesIn, heightOf, reached, among, sound}
 use Rattle.image.proofs.General.{part-part}
 use Rattle.edit.specs.EditList.{Edit}
 use Rattle.edit.specs.Reads.{Proper}
@@ -27,10 +29,10 @@ use Rattle.journal.specs.Changes.{headerLine, changedFrom, changedPages, sameRo
 use Rattle.tree.specs.State.{State, begin}
 use Rattle.tree.specs.Whole.{finished, editsOn, editedImage}
 use Rattle.tree.specs.Good.{hit, count}
-use Rattle.tree.proofs.Counts.{hit-self, inside-most, inside-range, count-among}
-use Rattle.tree.proofs.Pages.{Lower}
-use Rattle.tree.proofs.Moves.{Sunk, Touch}
-use Rattle.tree.proofs.Runs.{Run, begin-good, edits-run, edits-touch}
+use Rattle.tree.proofs.Counts.{hit-self, hit-other, count-append, inside-most, inside-range, count-among}
+use Rattle.tree.proofs.Runs.{Run, begin-good, edits-run}
+use Rattle.tree.proofs.SameTree.{same-height, own-page}
+use Rattle.tree.proofs.Touched.{Touch, edits-touch}
 use Rattle.tree.proofs.Accepted.{reached-page, reached-are, root-is}
 
 -- ---- a header that has sunk is another header
@@ -76,10 +78,73 @@ changed-some before after a w (suc n) p x low high b f d = go (eqb x p) refl (λ
         let r : 1 ≤ length rest = k (omega (arith, eqb-false x p e)) (omega arith) b f d in
         by-test (λ (l : List ℕ). 1 ≤ length l) (among p before && among p after) (λ c. by-test (λ (l : List ℕ). 1 ≤ length l) (eqs (headerLine a p) (headerLine w p)) (λ c. r) (λ c. omega arith)) (λ c. r)
 
--- an index that is the same reaches the same pages
-pub reached-same : (a w : List ℕ) {r s : ℕ} → s ≡ r → pageOf w r ≡ pageOf a r → reached w s ≡ reached a r
-unfolding reached children
-reached-same a w {r} z e = ap (reached w) z ∙ ap (λ (p : List ℕ). r ∷ map childOf (records p)) e
+-- ---- a page that has sunk, reached before and after
+
+hit-is : (x q : ℕ) → 1 ≤ hit x q → x ≡ q
+hit-is x q h = go (eqb x q) refl
+  where
+    go : (b : Bool) → eqb x q ≡ b → x ≡ q
+    go true e = eqb-true x q e
+    go false e = absurd (omega (arith, hit-other x q (eqb-false x q e)))
+
+module _ (Pg : PageFormat) (Sunken : List ℕ → List ℕ → Type 0) (a w : List ℕ) where
+  -- a page of ps and of qs has sunk from a to w
+  pub record InBoth (ps qs : List ℕ) : Type 0 where
+    pub page : ℕ
+    pub before : 1 ≤ count page ps
+    pub after : 1 ≤ count page qs
+    pub lower : Sunken (pageOf a page) (pageOf w page)
+
+  -- a page is as it was, or has sunk
+  abbrev pub Stayed : ℕ → Type 0
+  Stayed x = (pageOf w x ≡ pageOf a x) ⊎ Sunken (pageOf a x) (pageOf w x)
+
+  -- page x, which page q of height h reached, has sunk: so, of the pages on the way to it, has the first that is not as it was
+  pub sunk-both : (h q x : ℕ) → ((y : ℕ) → 1 ≤ count y (pagesIn Pg a h q) → Stayed y) → 1 ≤ count x (pagesIn Pg a h q) → Sunken (pageOf a x) (pageOf w x) →
+      InBoth (pagesIn Pg a h q) (pagesIn Pg w h q)
+  unfolding pagesIn gathered
+  sunk-both zero q x f k l =
+      record { page = q; before = omega (arith, hit-self q); after = omega (arith, hit-self q); lower = subst (λ (y : ℕ). Sunken (pageOf a y) (pageOf w y)) (hit-is x q (omega arith)) l }
+  sunk-both (suc h) q x f k l = go (f q (omega (arith, hit-self q))) (λ y g m. sunk-both h y x g m l)
+    where
+      own : Sunken (pageOf a q) (pageOf w q) → InBoth (pagesIn Pg a (suc h) q) (pagesIn Pg w (suc h) q)
+      own s = record { page = q; before = omega (arith, hit-self q); after = omega (arith, hit-self q); lower = s }
+
+      -- under the pages that cs name
+      each : (cs : List Rec) → ((y : ℕ) → 1 ≤ count y (joined (λ z. pagesIn Pg a h z) cs) → Stayed y) → 1 ≤ count x (joined (λ z. pagesIn Pg a h z) cs) →
+          ((y : ℕ) → ((z : ℕ) → 1 ≤ count z (pagesIn Pg a h y) → Stayed z) → 1 ≤ count x (pagesIn Pg a h y) → InBoth (pagesIn Pg a h y) (pagesIn Pg w h y)) →
+          InBoth (joined (λ z. pagesIn Pg a h z) cs) (joined (λ z. pagesIn Pg w h z) cs)
+      each [] f k r = absurd (omega arith)
+      each (c ∷ cs) f k r = here (count x (pagesIn Pg a h (childOf c))) refl (λ g m. each cs g m r)
+        where
+          both : (y : ℕ) → count y (joined (λ z. pagesIn Pg a h z) (c ∷ cs)) ≡ count y (pagesIn Pg a h (childOf c)) + count y (joined (λ z. pagesIn Pg a h z) cs)
+          both y = count-append y (pagesIn Pg a h (childOf c)) (joined (λ z. pagesIn Pg a h z) cs)
+
+          after : (y : ℕ) → count y (joined (λ z. pagesIn Pg w h z) (c ∷ cs)) ≡ count y (pagesIn Pg w h (childOf c)) + count y (joined (λ z. pagesIn Pg w h z) cs)
+          after y = count-append y (pagesIn Pg w h (childOf c)) (joined (λ z. pagesIn Pg w h z) cs)
+
+          here : (m : ℕ) → count x (pagesIn Pg a h (childOf c)) ≡ m →
+              (((y : ℕ) → 1 ≤ count y (joined (λ z. pagesIn Pg a h z) cs) → Stayed y) → 1 ≤ count x (joined (λ z. pagesIn Pg a h z) cs) → InBoth (joined (λ z. pagesIn Pg a h z) cs) (joined (λ z. pagesIn Pg w h z) cs)) →
+              InBoth (joined (λ z. pagesIn Pg a h z) (c ∷ cs)) (joined (λ z. pagesIn Pg w h z) (c ∷ cs))
+          here (suc m) e g =
+              let B = r (childOf c) (λ y j. f y (omega (arith, both y))) (omega arith) in
+              record { page = B .page; before = omega (arith, both (B .page), B .before); after = omega (arith, after (B .page), B .after); lower = B .lower }
+          here zero e g =
+              let B = g (λ y j. f y (omega (arith, both y))) (omega (arith, both x)) in
+              record { page = B .page; before = omega (arith, both (B .page), B .before); after = omega (arith, after (B .page), B .after); lower = B .lower }
+
+      go : Stayed q → ((y : ℕ) → ((z : ℕ) → 1 ≤ count z (pagesIn Pg a h y) → Stayed z) → 1 ≤ count x (pagesIn Pg a h y) → InBoth (pagesIn Pg a h y) (pagesIn Pg w h y)) →
+          InBoth (pagesIn Pg a (suc h) q) (pagesIn Pg w (suc h) q)
+      go (inr s) r = own s
+      go (inl e) r = at (hit x q) refl
+        where
+          at : (m : ℕ) → hit x q ≡ m → InBoth (pagesIn Pg a (suc h) q) (pagesIn Pg w (suc h) q)
+          at (suc m) z = own (subst (λ (y : ℕ). Sunken (pageOf a y) (pageOf w y)) (hit-is x q (omega arith)) l)
+          at zero z =
+              let B = each (recordsAt Pg a q) (λ y j. f y (omega arith)) (omega (arith, k)) r in
+              let same : count (B .page) (joined (λ y. pagesIn Pg w h y) (recordsAt Pg w q)) ≡ count (B .page) (joined (λ y. pagesIn Pg w h y) (recordsAt Pg a q)) =
+              ap (λ (p : List ℕ). count (B .page) (joined (λ y. pagesIn Pg w h y) (Pg .recs p))) e in
+              record { page = B .page; before = omega (arith, B .before); after = omega (arith, same, B .after); lower = B .lower }
 
 -- ---- the changed place
 
@@ -119,14 +184,28 @@ module _ (a : List ℕ) (h : sound a ≡ true) (e : Edit) (es : List Edit) (P : 
       r : ℕ
       r = rootOf a
 
-      not-free : count r F ≡ 0
-      not-free = omega (arith, begin-good a h .apart r, hit-self r, inside-most (pageCount a) r)
+      not-free : (x : ℕ) → 1 ≤ count x (pagesIn format1 a (heightOf a (rootOf a)) (rootOf a)) → count x F ≡ 0
+      not-free x k = omega (arith, begin-good a h .apart x, inside-most (pageCount a) x)
 
-      -- the root is the same: its page has sunk, or it lists the same leaves
-      under : st .root ≡ r → Sunk (begin a) st → (pageOf (st .image) r ≡ pageOf a r) ⊎ Lower (pageOf a r) (pageOf (st .image) r) → 1 ≤ length (changedPages a w)
-      under z k (inr l) = page-changed r (omega (arith, hit-self r)) (omega (arith, ap (hit r) z, hit-self r)) l
-      under z k (inl e) = page-changed (k .page) (k .there) (subst (λ (l : List ℕ). 1 ≤ count (k .page) l) (sym (reached-same a (st .image) z e)) (k .there)) (k .lower)
+      stayed : (x : ℕ) → 1 ≤ count x (pagesIn format1 a (heightOf a (rootOf a)) (rootOf a)) → Stayed format1 Lower a (st .image) x
+      stayed x k = R .leads .old x (not-free x k) .sinks
 
-      go : Touch F (begin a) st → (1 ≤ length (changedPages a w)) ⊎ (sameRoot a w ≡ false)
-      go (inl k) = inr (root-changed (λ z. omega (arith, not-free, ap (λ (x : ℕ). count x F) z)))
-      go (inr k) = inl (under (k .0) (k .1) (R .leads .old r not-free .sinks))
+      own : 1 ≤ count (rootOf a) (pagesIn format1 a (heightOf a (rootOf a)) (rootOf a))
+      own = own-page format1 a (heightOf a (rootOf a)) (rootOf a)
+
+      reaches : st .root ≡ rootOf a → (x : ℕ) → 1 ≤ count x (pagesIn format1 (st .image) (heightOf (st .image) (rootOf a)) (rootOf a)) →
+          1 ≤ count x (pagesIn format1 (st .image) (heightOf (st .image) (st .root)) (st .root))
+      reaches z x k = subst (λ (y : ℕ). 1 ≤ count x (pagesIn format1 (st .image) (heightOf (st .image) y) y)) (sym z) k
+
+      -- the root is the same: its page has sunk, or it is as it was, and so is its height
+      under : st .root ≡ rootOf a → (x : ℕ) → 1 ≤ count x (pagesIn format1 a (heightOf a (rootOf a)) (rootOf a)) → Lower (pageOf a x) (pageOf (st .image) x) → Stayed format1 Lower a (st .image) (rootOf a) →
+          1 ≤ length (changedPages a w)
+      under z x k l (inr low) = page-changed r own (reaches z r (own-page format1 (st .image) (heightOf (st .image) r) r)) low
+      under z x k l (inl same) =
+          let B = sunk-both format1 Lower a (st .image) (heightOf a r) r x stayed k l in
+          let height : heightOf (st .image) r ≡ heightOf a r = same-height format1 a (st .image) r same in
+          page-changed (B .page) (B .before) (reaches z (B .page) (subst (λ (k : ℕ). 1 ≤ count (B .page) (pagesIn format1 (st .image) k r)) (sym height) (B .after))) (B .lower)
+
+      go : Touch format1 format1-sinks F (begin a) st → (1 ≤ length (changedPages a w)) ⊎ (sameRoot a w ≡ false)
+      go (inl k) = inr (root-changed (λ z. omega (arith, not-free r own, ap (λ (x : ℕ). count x F) z)))
+      go (inr k) = inl (under (k .0) (k .1 .page) (k .1 .there) (k .1 .lower) (stayed r own))

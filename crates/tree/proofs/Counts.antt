@@ -11,8 +11,9 @@ use Rattle.codec.specs.Lists.{pick, All}
 use Rattle.codec.proofs.Tests.{first, second}
 use Rattle.page.specs.Layout.{Rec}
 use Rattle.image.specs.PageZero.{isPage}
-use Rattle.image.specs.Image.{among, distinct}
+use Rattle.image.specs.Image.{among, distinct, joined}
 use Rattle.image.proofs.Zero.{isPage-true}
+use Rattle.image.proofs.Ranges.{joined-append}
 use Rattle.edit.proofs.General.{by-test}
 use Rattle.tree.specs.Good.{hit, count, named, inside}
 
@@ -57,6 +58,9 @@ count-append x (p ∷ a) b = omega (arith, count-append x a b)
 pub named-append : (x : ℕ) (a b : List Rec) → named x (a ++ b) ≡ named x a + named x b
 named-append x [] b = omega arith
 named-append x (c ∷ a) b = omega (arith, named-append x a b)
+
+pub count-joined : (f : ℕ → List ℕ) (x : ℕ) (a b : List Rec) → count x (joined f (a ++ b)) ≡ count x (joined f a) + count x (joined f b)
+count-joined f x a b = ap (count x) (joined-append f a b) ∙ count-append x (joined f a) (joined f b)
 
 pub among-count : (x : ℕ) (l : List ℕ) → among x l ≡ true → 1 ≤ count x l
 unfolding among hit

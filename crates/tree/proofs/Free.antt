@@ -10,6 +10,7 @@ use borrow.Author.Tests.{leb-true, leb-false, eqb-true, eqb-false, eq-eqb, ne-eq
 use Rattle.codec.specs.Lists.{pick}
 use Rattle.image.specs.Image.{among}
 use Rattle.image.proofs.Zero.{true-isPage}
+use Rattle.image.proofs.Apart.{among-append}
 use Rattle.tree.specs.State.{others}
 use Rattle.tree.specs.Good.{hit, count, inside}
 use Rattle.tree.specs.NewPages.{Highest}
@@ -97,11 +98,6 @@ others-rest (suc n) rs p ps e = go (among (suc n) rs) refl e (others-rest n rs p
         ∙ rw (eq-eqb (suc n) p z)
 
 -- ---- the first of them once some are taken
-
-among-append : (q : ℕ) (a b : List ℕ) → among q (a ++ b) ≡ (among q a || among q b)
-unfolding among
-among-append q [] b = refl
-among-append q (p ∷ a) b = ap (λ (t : Bool). eqb q p || t) (among-append q a b) ∙ sym (or-assoc (eqb q p) (among q a) (among q b))
 
 others-after : (n : ℕ) (rs ts ps : List ℕ) → others n rs ≡ ts ++ ps → ps ≡ others n (ts ++ rs)
 unfolding among

@@ -2,12 +2,15 @@
 -- Assumes nothing.
 use Prim.Native.Nat.{ℕ, suc, _+_, _-_, _≤_, _<_}
 use mathlib.Core.Path.{_≡_, refl, sym, ap, _∙_}
+use mathlib.Core.Bool.{true, false}
 use mathlib.Core.List.{List, [], _∷_, _++_}
 use native.Mathlib.Omega.{arith}
 use lib.ListN.{length, getD, drop}
-use lib.Seq.{getD-drop}
+use lib.Seq.{getD-drop, set-append-seam}
 use Rattle.codec.specs.Lists.{part, insertAt, removeAt}
 use Rattle.codec.proofs.Lists.{getD-part}
+use Rattle.page.specs.Layout.{Rec}
+use Rattle.page.specs.Operations.{made}
 
 -- ---- at a seam
 
@@ -25,6 +28,14 @@ module _ {A : Type 0} where
   pub getD-seam : (pre : List A) (y : A) (post : List A) (z : A) → getD (pre ++ y ∷ post) (length pre) z ≡ y
   getD-seam [] y post z = refl
   getD-seam (x ∷ pre) y post z = getD-seam pre y post z
+
+pub made-seam : (pre : List Rec) (c d : Rec) (post : List Rec) → made false (length pre) d (pre ++ c ∷ post) ≡ pre ++ d ∷ post
+unfolding made
+made-seam pre c d post = set-append-seam pre c post d
+
+pub inserted-seam : (pre : List Rec) (d e : Rec) (post : List Rec) → made true (suc (length pre)) e (pre ++ d ∷ post) ≡ pre ++ d ∷ e ∷ post
+unfolding made
+inserted-seam pre d e post = insertAt-seam pre d e post
 
 -- ---- parts
 

@@ -1,31 +1,34 @@
 -- The key rules of edits on the tree are those of the ledger: edits that are made keep them, and 8 or 9 says which edit is the first that breaks its rule.
 -- Assumes nothing.
 use Prim.Native.Nat.{ℕ, suc, _≤_}
-use mathlib.Core.Path.{_≡_, refl, sym, subst}
+use mathlib.Core.Path.{_≡_, refl, sym, ap, _∙_, subst}
 use mathlib.Core.Logic.{_⊎_, inl, inr}
 use mathlib.Core.Bool.{Bool, true}
 use mathlib.Core.List.{List, [], _∷_, _++_}
 use native.Mathlib.Omega.{arith}
 use Rattle.codec.specs.Lists.{All}
 use Rattle.page.specs.Layout.{Rec}
+use Rattle.page.specs.PageFormat.{format1}
+use Rattle.page.proofs.Format1.{format1-rules}
 use Rattle.image.specs.PageZero.{pageCount}
 use Rattle.image.specs.Image.{sound}
 use Rattle.image.specs.Table.{table}
 use Rattle.image.proofs.General.{All-left}
 use Rattle.edit.specs.EditList.{Edit}
+use Rattle.edit.specs.Ledger.{applyEdits}
 use Rattle.edit.specs.Reads.{Proper}
 use Rattle.edit.specs.Keys.{Kept, Broken, AllKept, FirstBroken}
 use Rattle.edit.proofs.Keys.{broken-number, kept-append, first-broken}
 use Rattle.tree.specs.State.{State, Step, done, refused, begin}
-use Rattle.tree.specs.Edits.{edited}
-use Rattle.tree.specs.Whole.{finished, onward, editsFrom, editsOn}
+use Rattle.tree.specs.Edits.{noKeep, edited}
+use Rattle.tree.specs.Whole.{finished, onward, editsFrom, editsOn, editsFromIn}
 use Rattle.tree.specs.Grounds.{tableOf, ground, Grounds}
 use Rattle.tree.specs.Reasons.{Room, in-place, copied, no-copy, no-index, split, no-split, Reason, broken, inserted, updated, deleted}
 use Rattle.tree.specs.Good.{count, Good}
 use Rattle.tree.proofs.States.{leads-free}
-use Rattle.tree.proofs.Steps.{Ends}
-use Rattle.tree.proofs.Edits.{Made, edited-ends}
-use Rattle.tree.proofs.Runs.{begin-good, begin-table}
+use Rattle.tree.proofs.Exact.{code}
+use Rattle.tree.proofs.Outcomes.{RunIn, OutcomesIn, outcomes-in}
+use Rattle.tree.proofs.Runs.{edit-exact, begin-good, begin-table}
 use Rattle.tree.proofs.Reasons.{ground-reason}
 
 -- ---- one edit
@@ -57,18 +60,25 @@ reason-kept st _ _ (deleted k h) x y = h
 
 -- ---- a list of edits
 
+-- an edit that is made
+one-run : (n : ℕ) (F : List ℕ) (e : Edit) (s u : State) → Good n s → ((x : ℕ) → count x (s .free) ≤ count x F) → Proper e → edited e s ≡ done u → RunIn format1 noKeep n F (e ∷ []) s u
+unfolding editsFromIn onward
+one-run n F e s u G sub P q =
+    subst (λ (x : Step). OutcomesIn format1 noKeep n F 0 (e ∷ []) s (onward x 0 (λ t. finished t))) q (outcomes-in format1 format1-rules noKeep n F (λ x h. refl) 0 (e ∷ []) s G sub (P, tt))
+
 made-kept : (n : ℕ) (F : List ℕ) (i : ℕ) (es : List Edit) (s t : State) → Good n s → ((x : ℕ) → count x (s .free) ≤ count x F) → All Proper es → editsFrom i es s ≡ finished t → AllKept es (tableOf s)
-unfolding editsFrom onward
+unfolding editsFromIn onward applyEdits
 made-kept n F i [] s t G sub P q = tt
-made-kept n F i (e ∷ es) s t G sub P q = go (edited e s) (edited-ends n F s G sub e (P .0)) q (λ u H k. made-kept n F (suc i) es u t H k (P .1))
+made-kept n F i (e ∷ es) s t G sub P q = go (edited e s) refl q (λ u H k. made-kept n F (suc i) es u t H k (P .1))
   where
-    go : (x : Step) → Ends (Made n F e s) (ground s e) x → onward x i (λ u. editsFrom (suc i) es u) ≡ finished t →
+    go : (x : Step) → edited e s ≡ x → onward x i (λ u. editsFrom (suc i) es u) ≡ finished t →
         ((u : State) → Good n u → ((x : ℕ) → count x (u .free) ≤ count x F) → editsFrom (suc i) es u ≡ finished t → AllKept es (tableOf u)) → AllKept (e ∷ es) (tableOf s)
-    go (refused k) h q f = let z : _≡_ {A = ℕ} 0 1 = cc in absurd (omega arith)
-    go (done u) h q f =
-        let M = h .1 in (
-          reason-kept s e (ground s e) (ground-reason s e) (λ z. omega (arith, h .0)) (λ z. omega (arith, h .0)),
-          subst (AllKept es) (M .makes) (f u (M .good) (λ x. omega (arith, sub x, leads-free F s u (M .leads) x)) q),
+    go (refused k) z q f = let y : _≡_ {A = ℕ} 0 1 = cc in absurd (omega arith)
+    go (done u) z q f =
+        let R = one-run n F e s u G sub (P .0) z in
+        let none : ground s e ≡ 0 = sym (edit-exact n s G e (P .0)) ∙ ap code z in (
+          reason-kept s e (ground s e) (ground-reason s e) (λ y. omega arith) (λ y. omega arith),
+          subst (AllKept es) (R .makes) (f u (R .good) (λ x. omega (arith, sub x, leads-free format1 noKeep F s u (R .leads) x)) q),
         )
 
 module _ (a : List ℕ) (h : sound a ≡ true) (es : List Edit) (P : All Proper es) where

@@ -1,140 +1,92 @@
--- An edit in one leaf: what its state must show so that the tree stays sound, and lists the leaf's new records in place of the old; and
--- that an edit in the leaf's own page does.
+-- An edit that is made leaves root, index and free pages as document 01 says.
 -- Assumes nothing.
-use Prim.Native.Nat.{ℕ, _+_, _≤_}
+use Prim.Native.Nat.{ℕ, _≤_, _<_}
 use mathlib.Core.Path.{_≡_, refl, sym, ap, _∙_, subst}
-use mathlib.Core.Logic.{_⊎_, inl, inr}
-use mathlib.Core.Bool.{Bool, true}
-use mathlib.Core.List.{List, [], _∷_, _++_, append-nil}
+use mathlib.Core.Bool.{Bool, true, false}
+use mathlib.Core.List.{List, _∷_, _++_}
 use native.Mathlib.Omega.{arith}
-use lib.ListN.{length}
-use lib.Dec.{eqb}
-use borrow.Author.Tests.{eq-eqb}
-use Rattle.codec.proofs.Tests.{All-map}
-use Rattle.page.specs.Layout.{leafKind, indexKind, Rec, readHead}
-use Rattle.page.specs.Page.{records, formOk}
-use Rattle.page.specs.Operations.{pageOf}
-use Rattle.page.proofs.Facts.{true-pageOk, form-leaf}
-use Rattle.image.specs.Image.{childOf, children, reached, nextSep, startOf, IsEntry, Entries}
-use Rattle.image.specs.Facts.{Rising, Leaf}
-use Rattle.image.specs.Table.{leafRecords}
-use Rattle.image.proofs.Rising.{From, rising-rise}
-use Rattle.edit.proofs.General.{all-right}
-use Rattle.tree.specs.State.{State, withPage}
-use Rattle.tree.specs.Grounds.{tableOf}
-use Rattle.tree.specs.Good.{hit, count, named, inside, Shows, Good}
-use Rattle.tree.proofs.Counts.{hit-self, hit-apart, inside-most, named-append}
-use Rattle.tree.proofs.Pages.{laid-length, Lower, Old}
-use Rattle.tree.proofs.States.{write-here, write-other, Leads, leads-write}
-use Rattle.tree.proofs.Tree.{Here, good-shows, good-entries, sep-next, NoMore, Swap, swap-pages, swap-good, swap-table}
+use lib.ListN.{length, length-set}
+use lib.Dec.{leb}
+use borrow.Author.Tests.{leb-false}
+use Rattle.codec.proofs.Lists.{length-insertAt}
+use Rattle.page.specs.Layout.{slotCount, leafKind, indexKind, Rec, recOf, size}
+use Rattle.page.specs.Page.{records, RecOk}
+use Rattle.page.specs.Operations.{made, delete, pageOf}
+use Rattle.page.specs.PageFormat.{format1}
+use Rattle.page.specs.declared.Search.{Search}
+use Rattle.page.specs.declared.Search.the-variants.{At, Missing}
+use Rattle.image.specs.Image.{childOf, children, nextSep, startOf}
+use Rattle.edit.specs.EditList.{Edit, keyOf}
+use Rattle.edit.specs.EditList as edits
+use Rattle.edit.specs.Ledger.{add, replace}
+use Rattle.edit.specs.Reads.{Proper}
+use Rattle.edit.proofs.Places.{search-there, search-missing}
+use Rattle.tree.specs.State.{State, done, withPage}
+use Rattle.tree.specs.Edits.{gone, noKeep, put, dropped, absorbed, editLeaf, onto, lowOf, rooted, onlyLeaf, edited}
+use Rattle.tree.specs.Moved.{Stays, PutIn, Does, InLeaf}
+use Rattle.tree.specs.Good.{Good}
+use Rattle.tree.proofs.IndexPut.{Yields}
+use Rattle.tree.proofs.Spots.{Spot, good-spot}
+use Rattle.tree.proofs.LeafSplit.{leaf-put}
+use Rattle.tree.proofs.AtLeaf.{leafEdit, whereIn, at-leaf, good-cut}
+use Rattle.tree.proofs.Puts.{dropped-is}
 
--- ---- what has changed
+module _ (n : ℕ) (st : State) (pre : List Rec) (c : Rec) (post : List Rec) (S : Spot n st pre c post) where
+  abbrev rs : List Rec
+  rs = records (pageOf (st .image) (childOf c))
 
--- a page that s reaches has sunk in t
-pub record Sunk (s t : State) : Type 0 where
-  pub page : ℕ
-  pub there : 1 ≤ count page (reached (s .image) (s .root))
-  pub lower : Lower (pageOf (s .image) page) (pageOf (t .image) page)
+  -- a record put in, with which the leaf's are to
+  put-in : (ins : Bool) (j : ℕ) (r : Rec) → RecOk r → (to : List Rec) → made ins j r rs ≡ to → 1 ≤ length (made ins j r rs) →
+      Yields (λ t. PutIn st t pre c post ins (size r) to) (rooted format1 1
+      (onto (put format1 noKeep leafKind (leb slotCount (length (children (st .image) (st .root)))) ins j r (childOf c) st)
+      (λ x s. absorbed format1 noKeep indexKind (length pre) (lowOf (length pre) 0 (c .key)) (st .root) x s)))
+  put-in ins j r ok to is some =
+      let full : Bool = leb slotCount (length (children (st .image) (st .root))) in
+      let few : full ≡ false → length (pre ++ c ∷ post) < slotCount = λ z. omega (arith, ap length (S .shape), leb-false slotCount (length (children (st .image) (st .root))) z) in
+      subst (λ (l : List Rec). Yields (λ t. PutIn st t pre c post ins (size r) l) (rooted format1 1 (onto (put format1 noKeep leafKind full ins j r (childOf c) st)
+      (λ x s. absorbed format1 noKeep indexKind (length pre) (lowOf (length pre) 0 (c .key)) (st .root) x s)))) is (leaf-put n st pre c post S ins j r ok some full few)
 
--- the root is a page of F, or the same and a page under it has sunk
-abbrev pub Touch : List ℕ → State → State → Type 0
-Touch F s t = (1 ≤ count (t .root) F) ⊎ ((t .root ≡ s .root) × Sunk s t)
+  -- a record dropped, with the leaf's own if it is left empty
+  left-stays : (s : State) → Stays st s → Yields (Stays st) (rooted format1 1 (absorbed format1 noKeep indexKind (length pre) (lowOf (length pre) 0 (c .key)) (st .root) gone s))
+  unfolding absorbed rooted
+  left-stays s h = dropped-is format1 (λ b. Yields (Stays st) (rooted format1 1 b)) false (length pre) (st .root) s h h
 
--- a leaf that shows records in order is sound
-pub leaf-shows : (b : Bool) (lo hi own s : ℕ) (g : List ℕ) (rs : List Rec) → Shows g leafKind own s rs → Rising lo rs hi → From 1 rs → (b ≡ true) ⊎ (1 ≤ length rs) → Leaf b lo hi own g
-leaf-shows b lo hi own s g rs h up keys some =
+  drop-stays : (j : ℕ) → Yields (Stays st) (rooted format1 1 (onto (dropped format1 (onlyLeaf format1 (st .image) 1 (st .root)) j (childOf c) st)
+      (λ x s. absorbed format1 noKeep indexKind (length pre) (lowOf (length pre) 0 (c .key)) (st .root) x s)))
+  unfolding onto absorbed rooted
+  drop-stays j =
+      let s : State = withPage (childOf c) (delete (pageOf (st .image) (childOf c)) j) st in
+      dropped-is format1 (λ b. Yields (Stays st) (rooted format1 1 (onto b (λ x s. absorbed format1 noKeep indexKind (length pre) (lowOf (length pre) 0 (c .key)) (st .root) x s))))
+      (onlyLeaf format1 (st .image) 1 (st .root)) j (childOf c) st (left-stays s (refl, refl)) (refl, refl)
+
+  edit-does : (e : Edit) → Proper e → (s : Search) → whereIn e st c ≡ s → Yields (λ t. Does st t pre c post e) (leafEdit e st (length pre) c s)
+  unfolding editLeaf made onto rooted
+  edit-does (edits.insert k v) P (At j) q = tt
+  edit-does (edits.insert k v) P (Missing j) q =
+      let T = search-missing k (startOf pre 0 (c .key)) rs (nextSep post) (S .rising) j q in
+      put-in true j (recOf k v) (record { low = P .high; few = P .short }) (add k v rs) (T .inserted v) (omega (arith, length-insertAt j (recOf k v) rs))
+  edit-does (edits.update k v) P (At j) q =
+      let T = search-there k (startOf pre 0 (c .key)) rs (nextSep post) (S .rising) j q in
+      put-in false j (recOf k v) (record { low = P .high; few = P .short }) (replace k v rs) (T .updated v) (omega (arith, length-set rs j (recOf k v), T .inside))
+  edit-does (edits.update k v) P (Missing j) q = tt
+  edit-does (edits.delete k) P (At j) q = drop-stays j
+  edit-does (edits.delete k) P (Missing j) q = tt
+
+-- an edit that is made leaves root, index and free pages as document 01 says
+pub edit-moves : (n : ℕ) (st : State) → Good n st → (e : Edit) → Proper e → (t : State) → edited e st ≡ done t → InLeaf e st t
+edit-moves n st G e P t q =
+    let C = good-cut n st G (keyOf e) in
+    let pre = C .pre in
+    let c = C .own in
+    let post = C .post in
+    let S = good-spot n st G pre c post (C .shape) in
     record {
-      page =
-          true-pageOk leafKind own g (record {
-            laid = h .laid;
-            kind = h .kind;
-            own = h .own;
-            forms = rw (h .recs) (All-map (λ (r : Rec). 1 ≤ r .key) (λ (r : Rec). formOk leafKind r ≡ true) form-leaf rs keys);
-            rise = rw (h .recs) (rising-rise lo rs hi up);
-          });
-      filled = rw (h .recs) some;
-      rising = rw (h .recs) up;
+      pre = pre;
+      c = c;
+      post = post;
+      shape = C .shape;
+      place = sym (C .place);
+      does =
+          subst (Yields (λ u. Does st u pre c post e)) (sym (at-leaf e st pre c post (C .shape) (C .place)) ∙ q)
+          (edit-does n st pre c post S e P (whereIn e st c) refl);
     }
-
--- ---- one leaf, with the index records before and after its own
-
-module _ (n : ℕ) (F : List ℕ) (H : Here n F) where
-  open Here H using (st, G, sub, pre, c, post, shape)
-
-  -- t lists the records rs in place of the leaf's
-  pub record After (rs : List Rec) (t : State) : Type 0 where
-    pub good : Good n t
-    pub pages : NoMore st t
-    pub lists : tableOf t ≡ leafRecords (st .image) pre ++ (rs ++ leafRecords (st .image) post)
-    pub leads : Leads F st t
-    pub touch : Touch F st t
-
-  -- the page of another leaf is neither the root, nor this leaf, nor free
-  pub siblings-apart : (x : ℕ) → 1 ≤ named x pre + named x post → (hit x (st .root) ≡ 0) × (hit x (childOf c) ≡ 0) × (count x (st .free) ≡ 0)
-  siblings-apart x h =
-      let a = G .apart x in
-      let b = inside-most n x in
-      let d = ap (named x) shape ∙ named-append x pre (c ∷ post) in
-      (omega arith, omega arith, omega arith)
-
-  -- and this leaf's page is neither the root nor free
-  pub leaf-apart : (1 ≤ inside n (childOf c)) × (hit (childOf c) (st .root) ≡ 0) × (count (childOf c) (st .free) ≡ 0)
-  leaf-apart =
-      let x = childOf c in
-      let a = G .apart x in
-      let b = inside-most n x in
-      let d = ap (named x) shape ∙ named-append x pre (c ∷ post) in
-      let e = hit-self x in
-      (omega arith, omega arith, omega arith)
-
-  pub index-shape : Shows (pageOf (st .image) (st .root)) indexKind (st .root) (readHead (pageOf (st .image) (st .root)) .start) (pre ++ c ∷ post)
-  index-shape = subst (Shows (pageOf (st .image) (st .root)) indexKind (st .root) (readHead (pageOf (st .image) (st .root)) .start)) shape (good-shows n st G)
-
-  -- the leaves d and ds in its place
-  pub swap-after : (t : State) (d : Rec) (ds rs : List Rec) → Swap n F H t d ds → leafRecords (t .image) (d ∷ ds) ≡ rs → Leads F st t → Touch F st t → After rs t
-  swap-after t d ds rs S e leads touch =
-      record {
-        good = swap-good n F H t d ds S;
-        pages = swap-pages n F H t d ds S;
-        lists =
-            swap-table n F H t d ds S
-            ∙ ap (λ (l : List Rec). leafRecords (st .image) pre ++ (l ++ leafRecords (st .image) post)) e;
-        leads = leads;
-        touch = touch;
-      }
-
-  -- ---- in its own page
-
-  own-sep : (ps : List Rec) → startOf ps (c .key) (c .key) ≡ c .key
-  own-sep [] = refl
-  own-sep (p ∷ ps) = refl
-
-  pub rewritten : (g : List ℕ) (s : ℕ) (rs : List Rec) → Shows g leafKind (childOf c) s rs → Old (pageOf (st .image) (childOf c)) g → Lower (pageOf (st .image) (childOf c)) g →
-      Rising (startOf pre 0 (c .key)) rs (nextSep post) → From 1 rs → (length (children (st .image) (st .root)) ≡ 1) ⊎ (1 ≤ length rs) → After rs (withPage (childOf c) g st)
-  unfolding leafRecords reached
-  rewritten g s rs shows old lower up keys some =
-      let q = childOf c in
-      let t : State = withPage q g st in
-      let A = leaf-apart in
-      let whole = laid-length g (shows .laid) in
-      let here = write-here n (st .image) (G .size) q (A .0) g whole in
-      let other = write-other n (st .image) (G .size) q (A .0) g whole in
-      let root : pageOf (t .image) (st .root) ≡ pageOf (st .image) (st .root) = other (st .root) (λ z. hit-apart q (st .root) (A .1) (sym z)) in
-      let there : Shows (pageOf (t .image) q) leafKind q s rs = subst (λ (p : List ℕ). Shows p leafKind q s rs) (sym here) shows in
-      let leads : Leads F st t = leads-write F n st (G .size) q (A .0) g whole (λ h. old) (A .2) in
-      swap-after t c [] rs (record {
-        long = leads .long;
-        start = readHead (pageOf (st .image) (st .root)) .start;
-        index = subst (λ (p : List ℕ). Shows p indexKind (st .root) (readHead (pageOf (st .image) (st .root)) .start) (pre ++ c ∷ post)) (sym root) index-shape;
-        entries = (all-right IsEntry pre (c ∷ post) (subst Entries shape (good-entries n st G)) .0, tt);
-        others = λ x h. other x (hit-apart x q (siblings-apart x h .1));
-        sep = own-sep pre;
-        seps = (omega arith, sep-next n F H);
-        leaves = λ b e k. (leaf-shows b (startOf pre 0 (c .key)) (nextSep post) q s (pageOf (t .image) q) rs there up keys (filled b e some), k);
-        pages = λ x. omega arith;
-      }) (append-nil (records (pageOf (t .image) q)) ∙ there .recs) leads
-      (inr (refl, record { page = q; there = omega (arith, ap (named q) shape, named-append q pre (c ∷ post), hit-self q); lower = subst (Lower (pageOf (st .image) q)) (sym here) lower }))
-    where
-      filled : (b : Bool) → b ≡ eqb (length (pre ++ c ∷ post)) 1 → (length (children (st .image) (st .root)) ≡ 1) ⊎ (1 ≤ length rs) → (b ≡ true) ⊎ (1 ≤ length rs)
-      filled b e (inl h) = inl (e ∙ eq-eqb (length (pre ++ c ∷ post)) 1 (ap length (sym shape) ∙ h))
-      filled b e (inr h) = inr h

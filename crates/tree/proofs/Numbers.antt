@@ -1,75 +1,115 @@
 -- The numbers that edits are refused with: 8 to 11, and no other (document 01, 'Each call and when it says no').
 -- Assumes nothing.
-use Prim.Native.Nat.{ℕ, suc, _≤_}
+use Prim.Native.Nat.{ℕ, zero, suc, _≤_}
 use mathlib.Core.Path.{_≡_, subst}
 use mathlib.Core.Bool.{Bool, true, false, _&&_}
 use mathlib.Core.List.{List, [], _∷_}
 use native.Mathlib.Omega.{arith}
 use lib.ListN.{length, getD}
-use lib.Dec.{eqb, ltb, leb}
-use Rattle.page.specs.Layout.{slotCount, Rec, recOf, size}
-use Rattle.page.specs.Page.{records}
-use Rattle.page.specs.Operations.{delete, pageOf, fitsPage}
+use lib.Dec.{leb}
+use Rattle.page.specs.Layout.{leafKind, Rec, recOf, size}
+use Rattle.page.specs.Operations.{pageOf, fitsIn}
+use Rattle.page.specs.PageFormat.{PageFormat, format1}
 use Rattle.page.specs.Search.{searched}
 use Rattle.page.specs.declared.Search.{Search}
 use Rattle.page.specs.declared.Search.the-variants.{At, Missing}
-use Rattle.image.specs.Image.{children, childOf}
+use Rattle.image.specs.Image.{childOf, recordsAt}
 use Rattle.image.specs.Route.{route}
 use Rattle.edit.specs.EditList.{Edit, keyOf}
 use Rattle.edit.specs.EditList as edits
 use Rattle.edit.proofs.General.{by-test}
-use Rattle.tree.specs.State.{State, Step, done, refused, takePage, taken}
-use Rattle.tree.specs.Edits.{isFull, indexed, copied, split, moved, put, dropped, editAt, edited}
-use Rattle.tree.specs.Whole.{stopped, onward, editsFrom, editsOn}
+use Rattle.tree.specs.State.{State, Step, done, refused}
+use Rattle.tree.specs.Edits.{Change, PageStep, now, stops, kept, gone, one, two, isFull, copied, split, moved, put, dropped, copyThen, thenInto, absorbed, editLeaf, onto, lowOf, editIn, rooted, editedIn, noKeep, edited}
+use Rattle.tree.specs.Whole.{stopped, onward, editsFrom, editsOn, editsFromIn}
+use Rattle.tree.proofs.IndexPut.{taken-is}
+
+-- ---- in a page
+
+abbrev InRange : PageStep → Type 0
+InRange (now c s) = Unit {0}
+InRange (stops k) = (8 ≤ k) × (k ≤ 11)
+
+module _ (Pg : PageFormat) (keep : ℕ → Pg .Keep) where
+  moved-numbered : (kind : ℕ) (full : Bool) (rs : List Rec) (st : State) → InRange (moved Pg kind full rs st)
+  unfolding moved copied split
+  moved-numbered kind full rs st =
+      by-test InRange (fitsIn (Pg .cap) rs) (λ e. taken-is InRange (stops 11) st _ (omega arith, omega arith) (λ p f z. tt))
+      (λ e. by-test InRange full (λ z. (omega arith, omega arith))
+      (λ z. taken-is InRange (stops 11) st _ (omega arith, omega arith) (λ p f y. taken-is InRange (stops 11) _ _ (omega arith, omega arith) (λ q g x. tt))))
+
+  put-numbered : (kind : ℕ) (full ins : Bool) (i : ℕ) (r : Rec) (q : ℕ) (st : State) → InRange (put Pg keep kind full ins i r q st)
+  unfolding put
+  put-numbered kind full ins i r q st = by-test InRange (isFull Pg (keep q) ins (size r) (pageOf (st .image) q)) (λ e. moved-numbered kind full _ st) (λ e. tt)
+
+  copy-numbered : (x : ℕ) (b : PageStep) → InRange b → InRange (copyThen x b)
+  unfolding copyThen
+  copy-numbered x (stops n) h = h
+  copy-numbered x (now kept t) h = tt
+  copy-numbered x (now gone t) h = tt
+  copy-numbered x (now (one y) t) h = tt
+  copy-numbered x (now (two y k z) t) h = tt
+
+  then-numbered : (a : PageStep) (q : ℕ) (f : ℕ → State → PageStep) → InRange a → ((x : ℕ) (s : State) → InRange (f x s)) → InRange (thenInto a q f)
+  unfolding thenInto
+  then-numbered (stops n) q f h g = h
+  then-numbered (now kept s) q f h g = g q s
+  then-numbered (now gone s) q f h g = tt
+  then-numbered (now (one x) s) q f h g = copy-numbered x (f x s) (g x s)
+  then-numbered (now (two x k y) s) q f h g = tt
+
+  absorbed-numbered : (kind i low q : ℕ) (c : Change) (st : State) → InRange (absorbed Pg keep kind i low q c st)
+  unfolding absorbed dropped
+  absorbed-numbered kind i low q kept st = tt
+  absorbed-numbered kind i low q gone st = tt
+  absorbed-numbered kind i low q (one a) st = put-numbered kind false false i _ q st
+  absorbed-numbered kind i low q (two a k b) st = then-numbered _ q _ (put-numbered kind false _ _ _ q st) (λ x s. put-numbered kind false _ _ _ x s)
+
+  leaf-numbered : (only full : Bool) (e : Edit) (q : ℕ) (st : State) (s : Search) → InRange (editLeaf Pg keep only full e q st s)
+  unfolding editLeaf dropped
+  leaf-numbered only full (edits.insert k v) q st (At j) = (omega arith, omega arith)
+  leaf-numbered only full (edits.insert k v) q st (Missing j) = put-numbered leafKind full true j (recOf k v) q st
+  leaf-numbered only full (edits.update k v) q st (At j) = put-numbered leafKind full false j (recOf k v) q st
+  leaf-numbered only full (edits.update k v) q st (Missing j) = (omega arith, omega arith)
+  leaf-numbered only full (edits.delete k) q st (At j) = tt
+  leaf-numbered only full (edits.delete k) q st (Missing j) = (omega arith, omega arith)
+
+  onto-numbered : (a : PageStep) (f : Change → State → PageStep) → InRange a → ((c : Change) (s : State) → InRange (f c s)) → InRange (onto a f)
+  unfolding onto
+  onto-numbered (stops n) f h g = h
+  onto-numbered (now c s) f h g = g c s
+
+  in-numbered : (only full : Bool) (e : Edit) (h lo q : ℕ) (st : State) → InRange (editIn Pg keep only full e h lo q st)
+  unfolding editIn
+  in-numbered only full e zero lo q st = leaf-numbered only full e q st (searched (keyOf e) 0 (recordsAt Pg (st .image) q))
+  in-numbered only full e (suc h) lo q st =
+      let cs = recordsAt Pg (st .image) q in
+      let i = route (keyOf e) cs in
+      let c = getD cs i (recOf 0 []) in
+      let low = lowOf i lo (c .key) in
+      let room : Bool = full && leb (Pg .cap) (length cs) in
+      onto-numbered (editIn Pg keep only room e h low (childOf c) st) (λ x s. absorbed Pg keep (suc (suc h)) i low q x s) (in-numbered only room e h low (childOf c) st)
+      (λ x s. absorbed-numbered (suc (suc h)) i low q x s)
+
+-- ---- an edit
 
 abbrev Numbered : Step → Type 0
 Numbered (done t) = Unit {0}
 Numbered (refused k) = (8 ≤ k) × (k ≤ 11)
 
-taken-numbered : (st : State) (k : ℕ → State → Step) → ((p : ℕ) (s : State) → Numbered (k p s)) → Numbered (taken st k)
-unfolding taken takePage
-taken-numbered st k h = go (st .free)
-  where
-    go : (f : List ℕ) → Numbered (takePage f st k)
-    go [] = (omega arith, omega arith)
-    go (p ∷ f) = h p _
-
-indexed-numbered : (ins : Bool) (i : ℕ) (r : Rec) (st : State) (k : State → Step) → ((s : State) → Numbered (k s)) → Numbered (indexed ins i r st k)
-unfolding indexed
-indexed-numbered ins i r st k h =
-    by-test Numbered (isFull ins (size r) (pageOf (st .image) (st .root))) (λ e. taken-numbered st _ (λ q s. h _)) (λ e. h _)
-
-moved-numbered : (st : State) (i sep : ℕ) (rs : List Rec) → Numbered (moved st i sep rs)
-unfolding moved copied split
-moved-numbered st i sep rs =
-    by-test Numbered (fitsPage rs)
-    (λ e. taken-numbered st _ (λ p s. indexed-numbered false i _ _ done (λ t. tt)))
-    (λ e. by-test Numbered (leb slotCount (length (children (st .image) (st .root)))) (λ c. (omega arith, omega arith))
-    (λ c. taken-numbered st _ (λ p s. taken-numbered s _ (λ q u. indexed-numbered false i _ _ _ (λ x. indexed-numbered true (suc i) _ x done (λ t. tt))))))
-
-put-numbered : (st : State) (i sep q : ℕ) (ins : Bool) (j : ℕ) (r : Rec) → Numbered (put st i sep q ins j r)
-unfolding put
-put-numbered st i sep q ins j r = by-test Numbered (isFull ins (size r) (pageOf (st .image) q)) (λ e. moved-numbered st i sep _) (λ e. tt)
-
-at-numbered : (st : State) (i sep q : ℕ) (e : Edit) (s : Search) → Numbered (editAt st i sep q e s)
-unfolding editAt dropped
-at-numbered st i sep q (edits.insert k v) (At j) = (omega arith, omega arith)
-at-numbered st i sep q (edits.insert k v) (Missing j) = put-numbered st i sep q true j (recOf k v)
-at-numbered st i sep q (edits.update k v) (At j) = put-numbered st i sep q false j (recOf k v)
-at-numbered st i sep q (edits.update k v) (Missing j) = (omega arith, omega arith)
-at-numbered st i sep q (edits.delete k) (At j) =
-    by-test Numbered (eqb (length (records (delete (pageOf (st .image) q) j))) 0 && ltb 1 (length (children (st .image) (st .root)))) (λ e. tt) (λ e. tt)
-at-numbered st i sep q (edits.delete k) (Missing j) = (omega arith, omega arith)
+rooted-numbered : (Pg : PageFormat) (h : ℕ) (b : PageStep) → InRange b → Numbered (rooted Pg h b)
+unfolding rooted
+rooted-numbered Pg h (stops n) z = z
+rooted-numbered Pg h (now kept s) z = tt
+rooted-numbered Pg h (now gone s) z = tt
+rooted-numbered Pg h (now (one q) s) z = tt
+rooted-numbered Pg h (now (two p k q) s) z = taken-is Numbered (refused 11) s _ (omega arith, omega arith) (λ r f y. tt)
 
 edited-numbered : (e : Edit) (st : State) → Numbered (edited e st)
-unfolding edited
-edited-numbered e st =
-    let cs = children (st .image) (st .root) in
-    let c = getD cs (route (keyOf e) cs) (recOf 0 []) in
-    at-numbered st (route (keyOf e) cs) (c .key) (childOf c) e (searched (keyOf e) 0 (records (pageOf (st .image) (childOf c))))
+unfolding editedIn
+edited-numbered e st = rooted-numbered format1 _ _ (in-numbered format1 noKeep _ _ e _ 0 (st .root) st)
 
 from-numbered : (i : ℕ) (es : List Edit) (st : State) (k j : ℕ) → editsFrom i es st ≡ stopped k j → (8 ≤ k) × (k ≤ 11)
-unfolding editsFrom onward
+unfolding editsFromIn onward
 from-numbered i [] st k j q = let z : _≡_ {A = ℕ} 0 1 = cc in absurd (omega arith)
 from-numbered i (e ∷ es) st k j q = go (edited e st) (edited-numbered e st) q (λ s. from-numbered (suc i) es s k j)
   where

@@ -5,7 +5,7 @@ use Prim.Native.Nat.{ℕ, _+_, _-_, _*_, _/_, _%_, _≤_, _<_}
 use mathlib.Core.Path.{_≡_, refl, sym, ap, ap₂, _∙_}
 use mathlib.Core.Logic.{_⊎_, inl, inr}
 use mathlib.Core.Bool.{Bool, true, false}
-use mathlib.Core.List.{List, [], _∷_}
+use mathlib.Core.List.{List, [], _∷_, map}
 use native.Mathlib.Decide.{decLt}
 use native.Mathlib.Omega.{arith}
 use lib.ListN.{length, getD}
@@ -13,20 +13,21 @@ use lib.Dec.{eqb}
 use borrow.Author.Tests.{eqb-true, eqb-false, ne-eqb}
 use Rattle.codec.specs.Lists.{part}
 use Rattle.codec.proofs.Lists.{length-removeAt}
-use Rattle.page.specs.Layout.{pageSize, lineSize, leafKind, Rec, recOf, size, readHead}
+use Rattle.page.specs.Layout.{pageSize, lineSize, Rec, recOf, size, readHead}
 use Rattle.page.specs.Page.{records, laidOut, RecOk}
-use Rattle.page.specs.Operations.{delete, pageOf}
-use Rattle.page.specs.Search.{searched}
+use Rattle.page.specs.Operations.{inPlace, delete, pageOf}
+use Rattle.page.specs.PageFormat.{format1, Lower}
 use Rattle.page.specs.declared.Search.{Search}
 use Rattle.page.specs.declared.Search.the-variants.{At, Missing}
 use Rattle.page.proofs.Records.{size-even}
-use Rattle.page.proofs.Facts.{ok-is, pageOk-true}
+use Rattle.page.proofs.Facts.{ok-is}
+use Rattle.page.proofs.Placed.{laid-length, laid-start, place-shows, place-lower, place-old, place-below, delete-shows, delete-lower, delete-past}
 use Rattle.image.specs.PageZero.{pageCount, rootOf, wordsPast}
 use Rattle.image.specs.Image.{childOf, children, reached, among, startOf, nextSep, sound}
 use Rattle.image.specs.Facts.{Rising}
-use Rattle.image.specs.Route.{route}
 use Rattle.image.specs.Says.{Belongs}
 use Rattle.image.proofs.Zero.{ready-facts}
+use Rattle.image.proofs.OneHeight.{reached-one}
 use Rattle.image.proofs.Soundness.{sound-facts}
 use Rattle.image.proofs.Belonging.{route-is}
 use Rattle.edit.specs.EditList.{Edit, keyOf}
@@ -36,42 +37,36 @@ use Rattle.edit.proofs.Places.{search-there}
 use Rattle.journal.specs.Edited.{Edited}
 use Rattle.journal.specs.Cost.{Span, Elsewhere, OneLeaf}
 use Rattle.tree.specs.State.{State, Step, done, refused, begin, withPage}
-use Rattle.tree.specs.Edits.{isFull, inPlace, put, dropped, editAt, edited}
-use Rattle.tree.specs.Whole.{finished, onward, editsFrom, editsOn, editedImage}
-use Rattle.tree.specs.Good.{count, named, inside}
+use Rattle.tree.specs.Edits.{isFull, put, dropped, absorbed, editLeaf, onto, rooted, edited}
+use Rattle.tree.specs.Whole.{finished, onward, editsOn, editedImage, editsFromIn}
+use Rattle.tree.specs.Good.{hit, count, named, inside}
 use Rattle.tree.specs.Reasons.{NotFull}
-use Rattle.tree.proofs.General.{getD-seam, byte-part, byte-past}
+use Rattle.tree.proofs.General.{byte-part, byte-past}
 use Rattle.tree.proofs.Counts.{hit-self, hit-apart, named-append, count-among, among-count}
-use Rattle.tree.proofs.Pages.{Lower, laid-length, laid-start, full-exact, room-test, place-shows, place-lower, place-old, place-below, delete-shows, delete-lower, delete-past}
+use Rattle.tree.proofs.Pages.{full-exact, room-test}
 use Rattle.tree.proofs.States.{write-here, write-other}
-use Rattle.tree.proofs.Tree.{Here, leaf-here}
-use Rattle.tree.proofs.Moves.{leaf-apart}
+use Rattle.tree.proofs.Spots.{Spot, good-spot, leaf-apart}
+use Rattle.tree.proofs.AtLeaf.{leafEdit, whereIn, at-leaf}
 use Rattle.tree.proofs.Runs.{Run, begin-good, edits-run}
 use Rattle.tree.proofs.PutBack.{byte-page}
 use Rattle.tree.proofs.Accepted.{reached-page, root-is, reached-are, edited-is}
-use Rattle.tree.proofs.Changed.{line-page, lower-differs, reached-same}
+use Rattle.tree.proofs.Changed.{line-page, lower-differs}
+
+-- an index that is the same reaches the same pages
+reached-same : (a w : List ℕ) {r s : ℕ} → s ≡ r → pageOf w r ≡ pageOf a r → reached w s ≡ reached a r
+unfolding children
+reached-same a w {r} z e = ap (reached w) z ∙ reached-one w r ∙ ap (λ (p : List ℕ). r ∷ map childOf (records p)) e ∙ sym (reached-one a r)
 
 -- ---- what one edit comes to
 
 -- a list of one edit
 one-edit : (a : List ℕ) (e : Edit) (st : State) → editsOn a (e ∷ []) ≡ finished st → edited e (begin a) ≡ done st
-unfolding editsOn editsFrom onward
+unfolding editsOn editsFromIn onward
 one-edit a e st q = go (edited e (begin a)) q
   where
     go : (x : Step) → onward x 0 (λ s. finished s) ≡ finished st → x ≡ done st
     go (refused k) q = let z : _≡_ {A = ℕ} 0 1 = cc in absurd (omega arith)
     go (done t) q = let z : t ≡ st = cc in ap done z
-
--- it is made in the leaf that its key belongs to
-at-leaf : (e : Edit) (st : State) (b : Belongs (keyOf e) (children (st .image) (st .root))) →
-    edited e st ≡ editAt st (length (b .before)) (b .own .key) (childOf (b .own)) e (searched (keyOf e) 0 (records (pageOf (st .image) (childOf (b .own)))))
-unfolding edited
-at-leaf e st b =
-    let cs = children (st .image) (st .root) in
-    let i : route (keyOf e) cs ≡ length (b .before) = route-is (keyOf e) cs b in
-    let own : getD cs (route (keyOf e) cs) (recOf 0 []) ≡ b .own =
-    ap₂ (λ (l : List Rec) (j : ℕ). getD l j (recOf 0 [])) (b .shape) i ∙ getD-seam (b .before) (b .own) (b .later) (recOf 0 []) in
-    ap₂ (λ (j : ℕ) (c : Rec). editAt st j (c .key) (childOf c) e (searched (keyOf e) 0 (records (pageOf (st .image) (childOf c))))) i own
 
 -- the edit brings this record: an insert (true) or an update
 pub data Puts : Edit → Bool → Rec → Type 0 where
@@ -82,35 +77,34 @@ pub puts-ok : (e : Edit) (ins : Bool) (r : Rec) → Puts e ins r → Proper e �
 puts-ok _ _ _ (inserts k v) P = record { low = P .high; few = P .short }
 puts-ok _ _ _ (updates k v) P = record { low = P .high; few = P .short }
 
-module _ (st t : State) (i sep q : ℕ) where
+module _ (st t : State) (i : ℕ) (c : Rec) where
   abbrev leaf : List ℕ
-  leaf = pageOf (st .image) q
+  leaf = pageOf (st .image) (childOf c)
 
   -- a record that has room is put in its place
-  put-place : (ins : Bool) (j : ℕ) (r : Rec) → NotFull ins (size r) leaf → put st i sep q ins j r ≡ done t → t ≡ withPage q (inPlace ins j r leaf) st
-  unfolding put
-  put-place ins j r room e =
-      let f : isFull ins (size r) leaf ≡ false = full-exact ins (size r) leaf ∙ room-test ins (size r) leaf room in
-      let g : done (withPage q (inPlace ins j r leaf) st) ≡ done t = rw f at e in
-      cc
-
-  put-at : (e : Edit) (ins : Bool) (r : Rec) → Puts e ins r → (s : Search) → NotFull ins (size r) leaf → editAt st i sep q e s ≡ done t → (j : ℕ) × (t ≡ withPage q (inPlace ins j r leaf) st)
-  unfolding editAt
+  put-at : (e : Edit) (ins : Bool) (r : Rec) → Puts e ins r → (s : Search) → NotFull ins (size r) leaf → leafEdit e st i c s ≡ done t → (j : ℕ) × (t ≡ withPage (childOf c) (inPlace ins j r leaf) st)
+  unfolding editLeaf put onto absorbed rooted
   put-at _ _ _ (inserts k v) (At j) room e = let z : _≡_ {A = ℕ} 0 1 = cc in absurd (omega arith)
-  put-at _ _ _ (inserts k v) (Missing j) room e = (j, put-place true j (recOf k v) room e)
-  put-at _ _ _ (updates k v) (At j) room e = (j, put-place false j (recOf k v) room e)
+  put-at _ _ _ (inserts k v) (Missing j) room e =
+      let f : isFull format1 tt true (size (recOf k v)) leaf ≡ false = full-exact true (size (recOf k v)) leaf ∙ room-test true (size (recOf k v)) leaf room in
+      let g : done (withPage (childOf c) (inPlace true j (recOf k v) leaf) st) ≡ done t = rw f at e in
+      (j, cc)
+  put-at _ _ _ (updates k v) (At j) room e =
+      let f : isFull format1 tt false (size (recOf k v)) leaf ≡ false = full-exact false (size (recOf k v)) leaf ∙ room-test false (size (recOf k v)) leaf room in
+      let g : done (withPage (childOf c) (inPlace false j (recOf k v) leaf) st) ≡ done t = rw f at e in
+      (j, cc)
   put-at _ _ _ (updates k v) (Missing j) room e = let z : _≡_ {A = ℕ} 0 1 = cc in absurd (omega arith)
 
   -- a record is dropped from a leaf that is not left empty
-  drop-at : (k lo hi : ℕ) → laidOut leaf ≡ true → Rising lo (records leaf) hi → 2 ≤ length (records leaf) → (s : Search) → searched k 0 (records leaf) ≡ s → editAt st i sep q (edits.delete k) s ≡ done t →
-      (j : ℕ) × (j < length (records leaf)) × (t ≡ withPage q (delete leaf j) st)
-  unfolding editAt dropped
+  drop-at : (k lo hi : ℕ) → laidOut leaf ≡ true → Rising lo (records leaf) hi → 2 ≤ length (records leaf) → (s : Search) → whereIn (edits.delete k) st c ≡ s → leafEdit (edits.delete k) st i c s ≡ done t →
+      (j : ℕ) × (j < length (records leaf)) × (t ≡ withPage (childOf c) (delete leaf j) st)
+  unfolding editLeaf dropped onto absorbed rooted
   drop-at k lo hi laid up some (Missing j) z e = let z : _≡_ {A = ℕ} 0 1 = cc in absurd (omega arith)
   drop-at k lo hi laid up some (At j) z e =
       let inside = search-there k lo (records leaf) hi up j z .inside in
       let left : eqb (length (records (delete leaf j))) 0 ≡ false =
       ne-eqb (length (records (delete leaf j))) 0 (λ z. omega (arith, ap length (delete-shows leaf laid j .recs), length-removeAt j (records leaf) inside)) in
-      let g : done (withPage q (delete leaf j) st) ≡ done t = rw left at e in
+      let g : done (withPage (childOf c) (delete leaf j) st) ≡ done t = rw left at e in
       (j, inside, cc)
 
 -- ---- a page edited in place
@@ -165,47 +159,49 @@ module _ (a : List ℕ) (h : sound a ≡ true) (e : Edit) (P : Proper e) (st : S
   R : Run (pageCount a) (begin a .free) (e ∷ []) (begin a) st
   R = edits-run a h (e ∷ []) (P, tt) st made
 
-  here : Here (pageCount a) (begin a .free)
+  here : Spot (pageCount a) (begin a) (b .before) (b .own) (b .later)
   unfolding begin
-  here = record { st = begin a; G = begin-good a h; sub = λ x. omega arith; pre = b .before; c = b .own; post = b .later; shape = b .shape }
+  here = good-spot (pageCount a) (begin a) (begin-good a h) (b .before) (b .own) (b .later) (b .shape)
 
   laid : laidOut p ≡ true
-  unfolding begin here
-  laid = pageOk-true leafKind q p (leaf-here (pageCount a) (begin a .free) here .page) .laid
+  unfolding begin
+  laid = here .leaf .laid
 
   rises : Rising (startOf (b .before) 0 (b .own .key)) (records p) (nextSep (b .later))
-  unfolding begin here
-  rises = leaf-here (pageCount a) (begin a .free) here .rising
-
-  found : editAt (begin a) (length (b .before)) (b .own .key) q e (searched (keyOf e) 0 (records p)) ≡ done st
   unfolding begin
-  found = sym (at-leaf e (begin a) b) ∙ one-edit a e st made
+  rises = here .rising
+
+  found : leafEdit e (begin a) (length (b .before)) (b .own) (whereIn e (begin a) (b .own)) ≡ done st
+  unfolding begin
+  found = sym (at-leaf e (begin a) (b .before) (b .own) (b .later) (b .shape) (route-is (keyOf e) (children a (rootOf a)) b)) ∙ one-edit a e st made
+
+  apart : (1 ≤ inside (pageCount a) q) × (hit q (rootOf a) ≡ 0)
+  unfolding begin
+  apart = let A = leaf-apart (pageCount a) (begin a) (b .before) (b .own) (b .later) here in (A .0, A .1)
+
+  long : length a ≡ pageSize * pageCount a
+  unfolding begin
+  long = begin-good a h .size
 
   was : 1 ≤ count q (reached a (rootOf a))
-  unfolding reached
-  was = omega (arith, ap (named q) (b .shape), named-append q (b .before) (b .own ∷ b .later), hit-self q)
+  was = omega (arith, ap (count q) (reached-one a (rootOf a)), ap (named q) (b .shape), named-append q (b .before) (b .own ∷ b .later), hit-self q)
 
   module _ (g : List ℕ) (from to : ℕ) (W : Rewrites p g from to) (is : st ≡ withPage q g (begin a)) where
-    page-there : 1 ≤ inside (pageCount a) q
-    unfolding begin here
-    page-there = leaf-apart (pageCount a) (begin a .free) here .0
-
     same-root : st .root ≡ rootOf a
     unfolding begin
     same-root = ap (λ (s : State). s .root) is
 
     other-page : (x : ℕ) → (x ≡ q → ⊥) → pageOf (st .image) x ≡ pageOf a x
     unfolding begin
-    other-page x ne = ap (λ (s : State). pageOf (s .image) x) is ∙ write-other (pageCount a) a (begin-good a h .size) q page-there g (W .whole) x ne
+    other-page x ne = ap (λ (s : State). pageOf (s .image) x) is ∙ write-other (pageCount a) a long q (apart .0) g (W .whole) x ne
 
     own-page : pageOf (st .image) q ≡ g
     unfolding begin
-    own-page = ap (λ (s : State). pageOf (s .image) q) is ∙ write-here (pageCount a) a (begin-good a h .size) q page-there g (W .whole)
+    own-page = ap (λ (s : State). pageOf (s .image) q) is ∙ write-here (pageCount a) a long q (apart .0) g (W .whole)
 
     -- the same pages are reached
     all-reached : reached (st .image) (st .root) ≡ reached a (rootOf a)
-    unfolding begin here
-    all-reached = reached-same a (st .image) same-root (other-page (rootOf a) (λ z. hit-apart q (rootOf a) (leaf-apart (pageCount a) (begin a .free) here .1) (sym z)))
+    all-reached = reached-same a (st .image) same-root (other-page (rootOf a) (λ z. hit-apart q (rootOf a) (apart .1) (sym z)))
 
     stays : 1 ≤ count q (reached (st .image) (st .root))
     stays = omega (arith, ap (count q) all-reached, was)
@@ -282,8 +278,8 @@ module _ (a : List ℕ) (h : sound a ≡ true) (e : Edit) (P : Proper e) (st : S
       OneLeaf a (editedImage a st) (childOf (b .own)) (readHead (pageOf a (childOf (b .own))) .start - size r) (readHead (pageOf a (childOf (b .own))) .start)
   unfolding begin
   put-one-leaf ins r is room =
-      let j = put-at (begin a) st (length (b .before)) (b .own .key) q e ins r is _ room found in
-      one-leaf _ _ _ (place-rewrites p laid (j .0) ins r (puts-ok e ins r is P) room) (j .1)
+      let j = put-at (begin a) st (length (b .before)) (b .own) e ins r is (whereIn e (begin a) (b .own)) room found in
+      one-leaf (inPlace ins (j .0) r p) (readHead p .start - size r) (readHead p .start) (place-rewrites p laid (j .0) ins r (puts-ok e ins r is P) room) (j .1)
 
 -- and a delete
 pub delete-one-leaf : (a : List ℕ) (h : sound a ≡ true) (k : ℕ) → Proper (edits.delete k) → (st : State) → editsOn a (edits.delete k ∷ []) ≡ finished st → (b : Belongs k (children a (rootOf a))) →
@@ -291,5 +287,7 @@ pub delete-one-leaf : (a : List ℕ) (h : sound a ≡ true) (k : ℕ) → Proper
 unfolding begin
 delete-one-leaf a h k P st made b some =
     let e = edits.delete k in
-    let j = drop-at (begin a) st (length (b .before)) (b .own .key) (childOf (b .own)) k _ _ (laid a h e P st made b) (rises a h e P st made b) some _ refl (found a h e P st made b) in
-    one-leaf a h e P st made b _ _ _ (delete-rewrites (p a h e P st made b) (laid a h e P st made b) (j .0) (j .1)) (j .2)
+    let q = pageOf a (childOf (b .own)) in
+    let j = drop-at (begin a) st (length (b .before)) (b .own) k (startOf (b .before) 0 (b .own .key)) (nextSep (b .later)) (laid a h e P st made b) (rises a h e P st made b) some
+    (whereIn e (begin a) (b .own)) refl (found a h e P st made b) in
+    one-leaf a h e P st made b (delete q (j .0)) lineSize lineSize (delete-rewrites q (laid a h e P st made b) (j .0) (j .1)) (j .2)

@@ -12,11 +12,11 @@ use borrow.Author.Tests.{leb-true, leb-false}
 use Rattle.codec.specs.Lists.{pick, All}
 use Rattle.page.specs.Layout.{pageSize, lineSize, slotCount, Rec, size}
 use Rattle.page.specs.Page.{RecOk}
-use Rattle.page.specs.Operations.{sizes, fitsPage}
+use Rattle.page.specs.Operations.{sizes, fitsIn, fitsPage}
 use Rattle.page.proofs.Totals.{sizeMost, size-most, sizes-append, sizes-least}
 use Rattle.edit.proofs.General.{by-test}
 use Rattle.tree.specs.Edits.{splitFrom, splitPoint}
-use Rattle.tree.specs.Good.{Fits}
+use Rattle.tree.specs.Good.{FitsIn, Fits}
 
 -- ---- "m smallest with twice their bytes at least the total", where `seen` bytes stand before the list
 
@@ -77,21 +77,26 @@ unfolding sizes
 nonempty [] h = h
 nonempty (r ∷ l) h = omega arith
 
--- what has no room in one page has room in two
+-- what has no room in one page has room in two, whatever the number of records that a page may list from 28 on
+module _ (cap : ℕ) (least : 28 ≤ cap) where
+  pub halves-in : (l : List Rec) → All RecOk l → length l ≤ suc cap → sizes l ≤ pageSize - lineSize + sizeMost →
+      fitsIn cap l ≡ false → FitsIn cap (take (splitPoint l) l) × FitsIn cap (drop (splitPoint l) l)
+  halves-in l g few small over =
+      let m = splitPoint l in
+      let e : sizes (take m l) + sizes (drop m l) ≡ sizes l = sym (sizes-append (take m l) (drop m l)) ∙ ap sizes (take-append-drop m l) in
+      let n : length (take m l) + length (drop m l) ≡ length l = sym (length-append (take m l) (drop m l)) ∙ ap length (take-append-drop m l) in
+      let big : 2 * sizeMost < sizes l = large (leb (length l) cap) refl (leb (sizes l) (pageSize - lineSize)) refl over in
+      let a = point-reaches l in
+      let b = point-close l g (omega arith) in
+      let ls : 1 ≤ length (take m l) = nonempty (take m l) (omega arith) in
+      let rs : 1 ≤ length (drop m l) = nonempty (drop m l) (omega arith) in
+      (record { some = ls; few = omega arith; room = omega arith }, record { some = rs; few = omega arith; room = omega arith })
+    where
+      large : (s : Bool) → leb (length l) cap ≡ s → (t : Bool) → leb (sizes l) (pageSize - lineSize) ≡ t → (s && t) ≡ false → 2 * sizeMost < sizes l
+      large true p true q z = let y : _≡_ {A = ℕ} 0 1 = cc in absurd (omega arith)
+      large true p false q z = omega (arith, leb-false (sizes l) (pageSize - lineSize) q)
+      large false p t q z = omega (arith, leb-false (length l) cap p, sizes-least l)
+
 pub halves : (l : List Rec) → All RecOk l → length l ≤ suc slotCount → sizes l ≤ pageSize - lineSize + sizeMost →
     fitsPage l ≡ false → Fits (take (splitPoint l) l) × Fits (drop (splitPoint l) l)
-halves l g few small over =
-    let m = splitPoint l in
-    let e : sizes (take m l) + sizes (drop m l) ≡ sizes l = sym (sizes-append (take m l) (drop m l)) ∙ ap sizes (take-append-drop m l) in
-    let n : length (take m l) + length (drop m l) ≡ length l = sym (length-append (take m l) (drop m l)) ∙ ap length (take-append-drop m l) in
-    let big : 2 * sizeMost < sizes l = large (leb (length l) slotCount) refl (leb (sizes l) (pageSize - lineSize)) refl over in
-    let a = point-reaches l in
-    let b = point-close l g (omega arith) in
-    let ls : 1 ≤ length (take m l) = nonempty (take m l) (omega arith) in
-    let rs : 1 ≤ length (drop m l) = nonempty (drop m l) (omega arith) in
-    (record { some = ls; few = omega arith; room = omega arith }, record { some = rs; few = omega arith; room = omega arith })
-  where
-    large : (s : Bool) → leb (length l) slotCount ≡ s → (t : Bool) → leb (sizes l) (pageSize - lineSize) ≡ t → (s && t) ≡ false → 2 * sizeMost < sizes l
-    large true p true q z = let y : _≡_ {A = ℕ} 0 1 = cc in absurd (omega arith)
-    large true p false q z = omega (arith, leb-false (sizes l) (pageSize - lineSize) q)
-    large false p t q z = omega (arith, leb-false (length l) slotCount p, sizes-least l)
+halves = halves-in slotCount (omega arith)

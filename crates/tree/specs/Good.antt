@@ -1,18 +1,18 @@
--- A state whose tree is sound, with its pages counted: root, leaves and free pages are distinct and in range.
+-- A state whose tree is sound, with its pages counted: reached and free pages are distinct and in range.
 -- Assumes nothing.
-use Prim.Native.Nat.{ℕ, _+_, _≤_, _*_}
+use Prim.Native.Nat.{ℕ, suc, _+_, _≤_, _*_}
 use mathlib.Core.List.{List, [], _∷_, map}
 use mathlib.Core.Path.{_≡_}
-use mathlib.Core.Bool.{true}
+use mathlib.Core.Logic.{_⊎_}
 use lib.Dec.{eqb}
 use lib.ListN.{length}
-use Rattle.codec.specs.Lists.{pick}
-use Rattle.page.specs.Layout.{Rec, readHead, pageSize, lineSize, slotCount, indexKind}
+use Rattle.codec.specs.Lists.{pick, All}
+use Rattle.page.specs.Layout.{Rec, pageSize, lineSize, slotCount, topKey}
+use Rattle.page.specs.Operations.{sizes}
+use Rattle.page.specs.PageFormat.{PageFormat, format1}
 use Rattle.image.specs.PageZero.{isPage}
-use Rattle.image.specs.Image.{childOf, children}
-use Rattle.page.specs.Page.{records, laidOut, pageOk}
-use Rattle.page.specs.Operations.{sizes, pageOf}
-use Rattle.image.specs.Facts.{Leaves}
+use Rattle.image.specs.Image.{childOf, pagesIn, leavesIn, heightIn}
+use Rattle.image.specs.Facts.{Under, Nonempty}
 use Rattle.tree.specs.State.{State}
 
 -- ---- pages counted: that pages are distinct, in range and not taken is one inequality for each page
@@ -33,29 +33,28 @@ named x cs = count x (map childOf cs)
 unfoldable pub inside : ℕ → ℕ → ℕ
 inside n x = pick (isPage n x) 1 0
 
--- ---- pages and records
+-- ---- records
 
--- g is laid out, of kind k and with the number n, the content start s and the records rs
-pub record Shows (g : List ℕ) (k n s : ℕ) (rs : List Rec) : Type 0 where
-  pub laid : laidOut g ≡ true
-  pub kind : readHead g .kind ≡ k
-  pub own : readHead g .own ≡ n
-  pub start : readHead g .start ≡ s
-  pub recs : records g ≡ rs
-
--- a page has room for the records
-pub record Fits (l : List Rec) : Type 0 where
+-- a page of at most `cap` records has room for these
+pub record FitsIn (cap : ℕ) (l : List Rec) : Type 0 where
   pub some : 1 ≤ length l
-  pub few : length l ≤ slotCount
+  pub few : length l ≤ cap
   pub room : lineSize + sizes l ≤ pageSize
+
+abbrev pub Fits : List Rec → Type 0
+Fits l = FitsIn slotCount l
 
 -- ---- states
 
--- the state of an image with n pages, at most 64: its index and leaves are sound, and root, leaves and free pages are distinct and in range
-pub record Good (n : ℕ) (st : State) : Type 0 where
+-- the state of an image with n pages, at most 64: the tree under its root is sound, and reached and free pages are distinct and in range
+pub record GoodIn (Pg : PageFormat) (n : ℕ) (st : State) : Type 0 where
   pub few : n ≤ 64
   pub size : length (st .image) ≡ pageSize * n
-  pub index : pageOk indexKind (st .root) (pageOf (st .image) (st .root)) ≡ true
-  pub some : 1 ≤ length (children (st .image) (st .root))
-  pub leaves : Leaves (st .image) (eqb (length (children (st .image) (st .root))) 1) 0 (children (st .image) (st .root))
-  pub apart : (x : ℕ) → hit x (st .root) + (named x (children (st .image) (st .root)) + count x (st .free)) ≤ inside n x
+  pub under : Under Pg (st .image) (heightIn Pg (st .image) (st .root)) 0 (suc topKey) (st .root)
+  -- "no leaf is empty unless it is the only one"
+  pub full : (length (leavesIn Pg (st .image) (heightIn Pg (st .image) (st .root)) (st .root)) ≡ 1)
+      ⊎ All (Nonempty Pg (st .image)) (leavesIn Pg (st .image) (heightIn Pg (st .image) (st .root)) (st .root))
+  pub apart : (x : ℕ) → count x (pagesIn Pg (st .image) (heightIn Pg (st .image) (st .root)) (st .root)) + count x (st .free) ≤ inside n x
+
+abbrev pub Good : ℕ → State → Type 0
+Good n st = GoodIn format1 n st

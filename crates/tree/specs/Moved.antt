@@ -11,12 +11,12 @@ use Rattle.codec.specs.Numbers.{bytesOf}
 use Rattle.page.specs.Layout.{pageSize, lineSize, leafKind, Rec, recOf, size, readHead}
 use Rattle.page.specs.Page.{records}
 use Rattle.page.specs.Operations.{sizes, pageOf, OnePage, TwoPages}
+use Rattle.page.specs.PageFormat.{Shows}
 use Rattle.image.specs.Image.{children, childOf, entrySize}
 use Rattle.image.specs.Route.{route}
 use Rattle.edit.specs.EditList.{Edit, insert, update, delete, keyOf}
 use Rattle.edit.specs.Ledger.{add, replace}
 use Rattle.tree.specs.State.{State}
-use Rattle.tree.specs.Good.{Shows}
 use Rattle.tree.specs.Reasons.{Full, NotFull}
 
 -- ---- from the state st to the state t, where c is the leaf's index record, pre and post those before and after it, and rs the leaf's records with the edit made

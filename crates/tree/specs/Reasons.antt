@@ -1,20 +1,26 @@
 -- The ground of an edit case by case, in document 01's words.
 -- Assumes nothing.
-use Prim.Native.Nat.{ℕ, _-_, _≤_, _<_}
+use Prim.Native.Nat.{ℕ, _+_, _-_, _*_, _≤_, _<_}
 use mathlib.Core.Path.{_≡_}
 use mathlib.Core.Logic.{_⊎_}
 use mathlib.Core.Bool.{Bool, true, false}
 use mathlib.Core.List.{List}
 use lib.ListN.{length}
+use lib.Dec.{ltb}
+use Rattle.codec.specs.Lists.{pick}
 use Rattle.page.specs.Layout.{lineSize, slotCount, Rec, recOf, size, readHead}
 use Rattle.page.specs.Page.{records}
-use Rattle.page.specs.Operations.{OnePage, TwoPages}
-use Rattle.image.specs.Image.{children}
+use Rattle.page.specs.Operations.{pageOf, OnePage, TwoPages}
+use Rattle.image.specs.Image.{entrySize, children}
 use Rattle.edit.specs.EditList.{Edit, insert, update, delete}
 use Rattle.edit.specs.Ledger.{add, replace}
 use Rattle.edit.specs.Keys.{Kept, Broken}
 use Rattle.tree.specs.State.{State}
-use Rattle.tree.specs.Grounds.{tableOf, leafOf, pagesFor}
+use Rattle.tree.specs.Grounds.{tableOf, leafOf}
+
+-- the new pages of an edit whose leaf needs n of them: one more where n index records have no room below the index's start
+unfoldable pub pagesFor : State → ℕ → ℕ
+pagesFor st n = n + pick (ltb (readHead (pageOf (st .image) (st .root)) .start - lineSize) (entrySize * n)) 1 0
 
 -- "If s exceeds start minus 64, or an insert finds 28 records": a record of size s has no room in the page p
 abbrev pub Full : Bool → ℕ → List ℕ → Type 0

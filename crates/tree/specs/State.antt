@@ -1,12 +1,11 @@
 -- The state of a transaction between two edits, and the pages that it may take (document 01, 'Edits').
 -- Assumes nothing.
 use Prim.Native.Nat.{ℕ, zero, suc, _-_}
-use mathlib.Core.Bool.{Bool, true, false}
 use mathlib.Core.List.{List, [], _∷_}
 use Rattle.codec.specs.Lists.{pick}
-use Rattle.device.specs.Calls.{pagesOut}
 use Rattle.page.specs.Layout.{Rec}
-use Rattle.page.specs.Operations.{pageOf, putPage, fill}
+use Rattle.page.specs.Operations.{pageOf, putPage}
+use Rattle.page.specs.PageFormat.{PageFormat}
 use Rattle.image.specs.PageZero.{pageCount, rootOf}
 use Rattle.image.specs.Image.{reached, among}
 
@@ -38,14 +37,14 @@ withPage p bytes st = record { image = putPage (st .image) p bytes; root = st .r
 abbrev pub withRoot : ℕ → State → State
 withRoot p st = record { image = st .image; root = p; free = st .free }
 
--- "A new page is the highest-numbered one neither reached before the transaction nor already taken in it"; "11 too few new pages"
-unfoldable pub takePage : List ℕ → State → (ℕ → State → Step) → Step
-takePage [] st k = refused pagesOut
-takePage (p ∷ ps) st k = k p (record { image = st .image; root = st .root; free = ps })
+-- "A new page is the highest-numbered one neither reached before the transaction nor already taken in it": what is done with it, or `out` where there is none
+unfoldable pub takePage : {A : Type 0} → A → List ℕ → State → (ℕ → State → A) → A
+takePage out [] st k = out
+takePage out (p ∷ ps) st k = k p (record { image = st .image; root = st .root; free = ps })
 
-unfoldable pub taken : State → (ℕ → State → Step) → Step
-taken st k = takePage (st .free) st k
+unfoldable pub taken : {A : Type 0} → A → State → (ℕ → State → A) → A
+taken out st k = takePage out (st .free) st k
 
 -- the state with the page p filled as a new page of this kind
-unfoldable pub filled : ℕ → ℕ → List Rec → State → State
-filled kind p rs st = withPage p (fill (pageOf (st .image) p) kind p rs) st
+unfoldable pub filled : PageFormat → ℕ → ℕ → List Rec → State → State
+filled Pg kind p rs st = withPage p (Pg .fill (pageOf (st .image) p) kind p rs) st

@@ -1,17 +1,18 @@
 -- A whole list of edits, and the edited image (document 01, 'Edits').
 -- Assumes nothing.
 use Prim.Native.Nat.{ℕ, zero, suc}
-use mathlib.Core.Bool.{Bool, true, false, _||_}
+use mathlib.Core.Bool.{Bool, _||_}
 use mathlib.Core.List.{List, [], _∷_, _++_}
 use lib.Dec.{eqb}
 use Rattle.codec.specs.Lists.{splice, pick}
 use Rattle.codec.specs.Numbers.{bytesOf}
 use Rattle.page.specs.Operations.{pageOf}
+use Rattle.page.specs.PageFormat.{PageFormat, format1}
 use Rattle.image.specs.PageZero.{pageCount}
 use Rattle.image.specs.Image.{reached, among}
 use Rattle.edit.specs.EditList.{Edit}
 use Rattle.tree.specs.State.{State, Step, done, refused, begin}
-use Rattle.tree.specs.Edits.{edited}
+use Rattle.tree.specs.Edits.{editedIn, noKeep}
 
 -- all edits made, or the refusal's number and the edit's
 pub data Outcome : Type 0 where
@@ -23,10 +24,13 @@ unfoldable pub onward : Step → ℕ → (State → Outcome) → Outcome
 onward (refused k) i next = stopped k i
 onward (done st) i next = next st
 
--- "Each edit sees those before it": the edits from edit i on
-unfoldable pub editsFrom : ℕ → List Edit → State → Outcome
-editsFrom i [] st = finished st
-editsFrom i (e ∷ es) st = onward (edited e st) i (λ s. editsFrom (suc i) es s)
+-- "Each edit sees those before it": the edits from edit i on, for any page format and for document 01's
+unfoldable pub editsFromIn : (Pg : PageFormat) → (ℕ → Pg .Keep) → ℕ → List Edit → State → Outcome
+editsFromIn Pg keep i [] st = finished st
+editsFromIn Pg keep i (e ∷ es) st = onward (editedIn Pg keep e st) i (λ s. editsFromIn Pg keep (suc i) es s)
+
+abbrev pub editsFrom : ℕ → List Edit → State → Outcome
+editsFrom i es st = editsFromIn format1 noKeep i es st
 
 -- of the n pages from p on: from w where `keep` says so, else from a
 unfoldable pub pagesFrom : (ℕ → Bool) → List ℕ → List ℕ → ℕ → ℕ → List ℕ

@@ -1,84 +1,55 @@
--- A record dropped from a leaf, and the leaf from the index if it is left empty and not the only one, as `dropped` says.
+-- A record dropped from a page, which then stays or, left empty and not the only one, goes, as `dropped` says.
 -- Assumes nothing.
-use Prim.Native.Nat.{ℕ, suc, _+_, _*_, _≤_, _<_}
-use mathlib.Core.Path.{_≡_, refl, sym, ap, _∙_, subst}
-use mathlib.Core.Bool.{Bool, true, false, _&&_}
+use Prim.Native.Nat.{ℕ, _+_, _*_, _≤_}
+use mathlib.Core.Path.{_≡_, refl, sym, ap, _∙_}
+use mathlib.Core.Bool.{Bool, true, false, _&&_, not}
 use mathlib.Core.List.{List}
-use native.Mathlib.Omega.{arith}
 use lib.ListN.{length}
-use lib.Dec.{eqb, ltb}
-use borrow.Author.Tests.{eq-eqb, ne-eqb, lt-ltb, le-ltb}
-use Rattle.page.specs.Layout.{pageSize, leafKind, readHead}
+use lib.Dec.{eqb}
+use borrow.Author.Tests.{eq-eqb, ne-eqb}
+use Rattle.codec.specs.Lists.{pick}
+use Rattle.page.specs.Layout.{pageSize}
 use Rattle.page.specs.Page.{records, laidOut}
 use Rattle.page.specs.Operations.{delete, pageOf, putPage}
-use Rattle.image.specs.Image.{children}
-use Rattle.tree.specs.State.{State, done}
-use Rattle.tree.specs.Edits.{dropped}
-use Rattle.tree.proofs.Pages.{laid-length, delete-shows}
-use Rattle.tree.proofs.States.{write-length, write-here, write-other}
-use Rattle.tree_edit.specs.Asked.{AtLeaf}
-use Rattle.tree_edit.specs.declared.Leaf.{Leaf}
-use Rattle.tree_edit.proofs.Places.{root-fits, root-ok, leaf-inside, leaf-fits, leaf-root, leaf-ok}
+use Rattle.page.specs.PageFormat.{format1}
+use Rattle.page.proofs.Images.{put-same}
+use Rattle.page.proofs.Placed.{laid-length, delete-shows}
+use Rattle.tree.specs.Edits.{now, kept, gone, dropped}
 
-module _ {n : ℕ} {st : State} {leaf : Leaf} (at : AtLeaf n st leaf) (j : ℕ) (w : List ℕ)
-    (x : w ≡ putPage (st .image) (leaf .page) (delete (pageOf (st .image) (leaf .page)) j)) where
+only-keeps : (b : Bool) → pick (b && not true) gone kept ≡ kept
+only-keeps true = refl
+only-keeps false = refl
+
+module _ (work : List ℕ) (page j : ℕ) (fits : pageSize * page + pageSize ≤ length work) (laid : laidOut (pageOf work page) ≡ true) (w : List ℕ)
+    (x : w ≡ putPage work page (delete (pageOf work page) j)) where
   abbrev left : List ℕ
-  left = delete (pageOf (st .image) (leaf .page)) j
+  left = delete (pageOf work page) j
 
   left-laid : laidOut left ≡ true
-  left-laid = delete-shows (pageOf (st .image) (leaf .page)) (leaf-ok at .laid) j .laid
+  left-laid = delete-shows (pageOf work page) laid j .laid
 
-  whole : length left ≡ pageSize
-  whole = laid-length left left-laid
+  here : pageOf w page ≡ left
+  here = ap (λ (i : List ℕ). pageOf i page) x ∙ put-same work left page (laid-length left left-laid) fits
 
-  long : length w ≡ length (st .image)
-  long = ap length x ∙ write-length n (st .image) (at .good .size) (leaf .page) (leaf-inside at) left whole
+  pub drop-only : (only : Bool) → only ≡ true → (root : ℕ) (f : List ℕ) →
+      now kept (record { image = w; root = root; free = f }) ≡ dropped format1 only j page (record { image = work; root = root; free = f })
+  unfolding dropped
+  drop-only only z root f = rw (z, only-keeps (eqb (length (records (delete (pageOf work page) j))) 0), ← x)
 
-  leaf-is : pageOf w (leaf .page) ≡ left
-  leaf-is = ap (λ (i : List ℕ). pageOf i (leaf .page)) x ∙ write-here n (st .image) (at .good .size) (leaf .page) (leaf-inside at) left whole
+  -- ---- the page y, with c records left
 
-  root-is : pageOf w (st .root) ≡ pageOf (st .image) (st .root)
-  root-is = ap (λ (i : List ℕ). pageOf i (st .root)) x ∙ write-other n (st .image) (at .good .size) (leaf .page) (leaf-inside at) left whole (st .root) (leaf-root at)
-
-  -- ---- what the tests that follow ask for
-
-  pub left-fits : pageSize * leaf .page + pageSize ≤ length w
-  left-fits = omega (arith, long, leaf-fits at)
-
-  pub index-fits : pageSize * st .root + pageSize ≤ length w
-  index-fits = omega (arith, long, root-fits (at .good))
-
-  pub index-ok : laidOut (pageOf w (st .root)) ≡ true
-  index-ok = rw root-is (root-ok (at .good) .laid)
-
-  pub slot-in : leaf .slot < length (records (pageOf w (st .root)))
-  unfolding children
-  slot-in = rw root-is (at .slot)
-
-  -- ---- the leaf y with c records left, and the index y2 with d
-
-  module _ (y : List ℕ) (page : y ≡ pageOf w (leaf .page)) where
+  module _ (y : List ℕ) (is : y ≡ pageOf w page) where
     pub left-ok : laidOut y ≡ true
-    left-ok = rw (page, leaf-is) left-laid
+    left-ok = rw (is, here) left-laid
 
-    module _ (c : ℕ) (some : c ≡ length (records y)) where
+    module _ (c : ℕ) (some : c ≡ length (records y)) (only : Bool) (z : only ≡ false) (root : ℕ) (f : List ℕ) where
       records-left : length (records left) ≡ c
-      records-left = sym (some ∙ ap (λ (p : List ℕ). length (records p)) (page ∙ leaf-is))
+      records-left = sym (some ∙ ap (λ (p : List ℕ). length (records p)) (is ∙ here))
 
-      pub drop-stays : (c ≡ 0 → ⊥) → (f : List ℕ) → done (record { image = w; root = st .root; free = f }) ≡ dropped (record { image = st .image; root = st .root; free = f }) (leaf .slot) (leaf .page) j
+      pub drop-goes : c ≡ 0 → now gone (record { image = w; root = root; free = f }) ≡ dropped format1 only j page (record { image = work; root = root; free = f })
       unfolding dropped
-      drop-stays ne f = rw (records-left, ne-eqb c 0 ne, ← x)
+      drop-goes e = rw (z, records-left, eq-eqb c 0 e, ← x)
 
-      module _ (z : c ≡ 0) (y2 : List ℕ) (page2 : y2 ≡ pageOf w (st .root)) (d : ℕ) (many : d ≡ length (records y2)) where
-        leaves : length (children (st .image) (st .root)) ≡ d
-        unfolding children
-        leaves = sym (many ∙ ap (λ (p : List ℕ). length (records p)) (page2 ∙ root-is))
-
-        pub drop-only : d ≤ 1 → (f : List ℕ) → done (record { image = w; root = st .root; free = f }) ≡ dropped (record { image = st .image; root = st .root; free = f }) (leaf .slot) (leaf .page) j
-        unfolding dropped
-        drop-only h f = rw (records-left, eq-eqb c 0 z, leaves, le-ltb 1 d h, ← x)
-
-        pub drop-goes : 1 < d → (w2 : List ℕ) → w2 ≡ putPage w (st .root) (delete (pageOf w (st .root)) (leaf .slot)) → (f : List ℕ) →
-            done (record { image = w2; root = st .root; free = f }) ≡ dropped (record { image = st .image; root = st .root; free = f }) (leaf .slot) (leaf .page) j
-        unfolding dropped
-        drop-goes h w2 e f = rw (records-left, eq-eqb c 0 z, leaves, lt-ltb 1 d h, ← x, ← e)
+      pub drop-stays : (c ≡ 0 → ⊥) → now kept (record { image = w; root = root; free = f }) ≡ dropped format1 only j page (record { image = work; root = root; free = f })
+      unfolding dropped
+      drop-stays e = rw (z, records-left, ne-eqb c 0 e, ← x)

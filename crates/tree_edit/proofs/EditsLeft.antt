@@ -1,25 +1,31 @@
 -- The edits of a list that are left to be made: what the head of the next one says, and what is left after it.
 -- Assumes nothing.
-use Prim.Native.Nat.{ℕ, suc, _+_, _-_, _≤_, _<_}
+use Prim.Native.Nat.{ℕ, zero, suc, _+_, _-_, _≤_, _<_}
 use mathlib.Core.Path.{_≡_, refl, sym, ap, _∙_, subst}
 use mathlib.Core.List.{List}
 use native.Mathlib.Omega.{arith}
 use native.Mathlib.Numerals.{add-one}
 use lib.ListN.{length, getD, take, drop}
-use Rattle.codec.specs.Lists.{part}
+use lib.Dec.{eqb}
+use Rattle.codec.specs.Lists.{part, pick}
 use Rattle.codec.specs.Numbers.{number}
+use Rattle.device.specs.Calls.{indexFull}
 use Rattle.edit.specs.EditList.{Edit, editsMost, editOf, listed, editList}
 use Rattle.edit.specs.Reads.{Proper}
+use Rattle.edit.specs.Keys.{keyRule}
 use Rattle.edit.proofs.Heads.{Ahead, Head, head, head-none, head-proper, head-rest, head-is}
 use Rattle.edit.proofs.Parsing.{list-whole}
+use Rattle.page.specs.PageFormat.{format1}
+use Rattle.page.proofs.Format1.{format1-rules}
 use Rattle.tree.specs.State.{State, Step, done, refused}
-use Rattle.tree.specs.Edits.{edited}
-use Rattle.tree.specs.Whole.{Outcome, finished, stopped, onward, editsFrom}
+use Rattle.tree.specs.Edits.{noKeep, edited}
+use Rattle.tree.specs.Grounds.{overflows}
+use Rattle.tree.specs.Whole.{Outcome, finished, stopped, onward, editsFrom, editsFromIn}
 use Rattle.tree.specs.Good.{Good}
-use Rattle.tree.proofs.Edits.{Made, edited-ends}
+use Rattle.tree.proofs.Height.{tableAt}
+use Rattle.tree.proofs.Root.{Ended, Made, edited-ended}
 use Rattle.tree_edit.specs.Steps.{stateOf}
 use Rattle.tree_edit.specs.declared.Tree.{Tree}
-use Rattle.tree_edit.proofs.Said.{ends-done}
 
 -- from the place `at` of the list and edit i on, with the tree t in work, the edits that are left come to `all`
 pub record Left (n : ℕ) (before list : List ℕ) (all : Outcome) (work : List ℕ) (t : Tree) (at i : ℕ) : Type 0 where
@@ -35,6 +41,18 @@ left-all n before list work t G low es e =
     let w = list-whole list es e in
     record { ahead = record { edits = es; reads = w .reads }; few = omega (arith, w .few); good = G; low = low; goes = refl }
 
+-- an edit that is made gives what its law says of it
+ended-done : (P : State → Type 0) (g : ℕ) (s : Step) (t : State) → done t ≡ s → Ended g P s → P t
+ended-done P zero s t e h = subst (Ended zero P) (sym e) h
+ended-done P (suc g) s t e h = absurd (apart (e ∙ h))
+  where
+    made : Step → ℕ
+    made (done u) = 0
+    made (refused k) = 1
+
+    apart : done t ≡ refused (suc g) → ⊥
+    apart z = omega (arith, ap made z)
+
 -- ---- the next edit
 
 module _ {n : ℕ} {before list : List ℕ} {all : Outcome} {work : List ℕ} {t : Tree} {at i : ℕ} (L : Left n before list all work t at i) where
@@ -42,7 +60,7 @@ module _ {n : ℕ} {before list : List ℕ} {all : Outcome} {work : List ℕ} {t
   st = stateOf before work t
 
   pub left-end : length list ≤ at → finished (stateOf before work t) ≡ all
-  unfolding editsFrom
+  unfolding editsFromIn
   left-end h = sym (ap (λ (es : List Edit). editsFrom i es st) (head-none (L .ahead) h)) ∙ L .goes
 
   module _ (more : at < length list) where
@@ -62,7 +80,7 @@ module _ {n : ℕ} {before list : List ℕ} {all : Outcome} {work : List ℕ} {t
 
       -- the edit e, and then the rest
       onward-is : onward (edited e st) i (λ (s : State). editsFrom (suc i) (H .rest) s) ≡ all
-      unfolding editsFrom
+      unfolding editsFromIn
       onward-is =
           ap (λ (x : Edit). onward (edited x st) i (λ (s : State). editsFrom (suc i) (H .rest) s)) (head-is (L .ahead) more m long k key)
           ∙ sym (ap (λ (es : List Edit). editsFrom i es st) (H .shape))
@@ -72,12 +90,17 @@ module _ {n : ℕ} {before list : List ℕ} {all : Outcome} {work : List ℕ} {t
       unfolding onward
       left-stop c q = ap (λ (x : Step). onward x i (λ (s : State). editsFrom (suc i) (H .rest) s)) q ∙ onward-is
 
+      left-made : (u : State) → done u ≡ edited e st → Made format1 noKeep n (st .free) e st u
+      left-made u q =
+          ended-done (Made format1 noKeep n (st .free) e st)
+          (let r = keyRule e (tableAt format1 st) in pick (eqb r 0) (pick (overflows format1 noKeep e st) indexFull 0) r) (edited e st) u q
+          (edited-ended format1 format1-rules noKeep n (st .free) st (L .good) (λ x. omega arith) e left-proper)
+
       pub left-next : (w : List ℕ) (u : Tree) → done (stateOf before w u) ≡ edited (editOf (getD list at 0) k (take (at + 10 + m - (at + 10)) (drop (at + 10) list))) (stateOf before work t) →
           u .top ≤ 64 → Left n before list all w u (at + 10 + m) (i + 1)
       unfolding onward
       left-next w u q low =
-          let M : Made n (st .free) e st (stateOf before w u) =
-          ends-done (Made n (st .free) e st) _ _ (stateOf before w u) q (edited-ends n (st .free) st (L .good) (λ x. omega arith) e left-proper) in
+          let M : Made format1 noKeep n (st .free) e st (stateOf before w u) = left-made (stateOf before w u) q in
           record {
             ahead = head-rest (L .ahead) more m long;
             few = omega (arith, L .few, ap (λ (es : List Edit). length es) (H .shape));

@@ -12,7 +12,7 @@ use borrow.Author.Tests.{eq-eqb, ne-eqb, eqb-true, eqb-false}
 use Rattle.codec.specs.Lists.{pick}
 use Rattle.image.specs.PageZero.{pageCount, rootOf}
 use Rattle.image.specs.Image.{reached}
-use Rattle.tree.specs.State.{State, Step, refused, others, begin, takePage, taken}
+use Rattle.tree.specs.State.{State, others, begin, takePage, taken}
 use Rattle.tree.specs.Good.{hit, count}
 use Rattle.tree.proofs.Counts.{hit-self}
 use Rattle.tree_edit.specs.Steps.{isMarked, Marks, unmarked, stateOf}
@@ -38,14 +38,14 @@ unmarked-none marks p h = let e : p - 1 ≡ 0 = omega arith in rw e
 pub free-some : (l : List ℕ) (p : ℕ) (f : List ℕ) → l ≡ pick (eqb p 0) [] (p ∷ f) → (p ≡ 0 → ⊥) → l ≡ p ∷ f
 free-some l p f e ne = e ∙ ap (λ (b : Bool). pick b [] (p ∷ f)) (ne-eqb p 0 ne)
 
-module _ (st : State) (p : ℕ) (f : List ℕ) (k : ℕ → State → Step) where
-  pub taken-none : st .free ≡ pick (eqb p 0) [] (p ∷ f) → p ≡ 0 → taken st k ≡ refused 11
+module _ {A : Type 0} (out : A) (st : State) (p : ℕ) (f : List ℕ) (k : ℕ → State → A) where
+  pub taken-none : st .free ≡ pick (eqb p 0) [] (p ∷ f) → p ≡ 0 → taken out st k ≡ out
   unfolding taken takePage
-  taken-none e z = ap (λ (l : List ℕ). takePage l st k) (e ∙ ap (λ (b : Bool). pick b [] (p ∷ f)) (eq-eqb p 0 z))
+  taken-none e z = ap (λ (l : List ℕ). takePage out l st k) (e ∙ ap (λ (b : Bool). pick b [] (p ∷ f)) (eq-eqb p 0 z))
 
-  pub taken-first : st .free ≡ p ∷ f → taken st k ≡ k p (record { image = st .image; root = st .root; free = f })
+  pub taken-first : st .free ≡ p ∷ f → taken out st k ≡ k p (record { image = st .image; root = st .root; free = f })
   unfolding taken takePage
-  taken-first e = ap (λ (l : List ℕ). takePage l st k) e
+  taken-first e = ap (λ (l : List ℕ). takePage out l st k) e
 
 -- ---- a page that is not marked is one of them
 

@@ -2,13 +2,13 @@ pub mod Free
 pub mod Room
 pub mod Sized
 pub mod Said
-pub mod Index
-pub mod IndexTwo
-pub mod Places
 pub mod Copied
-pub mod SplitOver
+pub mod Halved
 pub mod Moved
 pub mod Dropped
+pub mod Absorbed
+pub mod Places
+pub mod Above
 pub mod Routed
 pub mod EditsLeft
 pub mod Marked

@@ -18,14 +18,14 @@ use Rattle.page.specs.Operations.{pageOf}
 use Rattle.image.specs.PageZero.{isPage}
 use Rattle.image.specs.Image.{childOf, children, reached, among, IsEntry}
 use Rattle.image.proofs.Zero.{isPage-true}
+use Rattle.image.proofs.OneHeight.{reached-one}
 use Rattle.image.proofs.CodePages.{All-at, drop-next}
 use Rattle.tree.specs.State.{State}
 use Rattle.tree.specs.Good.{Good}
 use Rattle.tree.proofs.Counts.{inside-pages}
-use Rattle.tree.proofs.Tree.{good-entries}
 use Rattle.tree_edit.specs.Steps.{isMarked, Marks}
 use Rattle.tree_edit.specs.Asked.{CanMark}
-use Rattle.tree_edit.proofs.Places.{root-fits, root-ok}
+use Rattle.tree_edit.proofs.Places.{root-fits, root-ok, root-entries}
 
 -- ---- one page marked
 
@@ -57,17 +57,19 @@ module _ (img : List ℕ) (root : ℕ) (can : CanMark img root) (x : List ℕ) (
   unfolding children
   same = ap records e
 
+  small : All (λ (p : ℕ). p < 64) (root ∷ map childOf (children img root))
+  small = rw (reached-one img root) at (can .small)
+
   pub root-low : root < 64
-  unfolding reached
-  root-low = can .small .0
+  root-low = small .0
 
   pub mark-root : Marking (set (replicate 64 0) root 1) (drop 0 (records x)) (reached img root)
-  unfolding reached among
+  unfolding among
   mark-root p =
       let long : root < length {A = ℕ} (replicate 64 0) = rw (length-replicate {A = ℕ} 64 0) root-low in
       let one : isMarked (set (replicate 64 0) root 1) p ≡ eqb p root =
       marked-set (replicate 64 0) root long p ∙ ap (λ (b : Bool). eqb p root || b) (unmarked-zeros 64 p) ∙ or-false (eqb p root) in
-      ap₂ (λ (a : Bool) (cs : List Rec). a || among p (map childOf cs)) one same
+      ap₂ (λ (a : Bool) (cs : List Rec). a || among p (map childOf cs)) one same ∙ sym (ap (among p) (reached-one img root))
 
   -- the page that the i-th record names
   module _ (i : ℕ) (less : i < length (records x)) where
@@ -75,8 +77,7 @@ module _ (img : List ℕ) (root : ℕ) (can : CanMark img root) (x : List ℕ) (
     child-two = All-at IsEntry (records x) i (recOf 0 []) (rw same (can .entries)) less
 
     pub child-low : (q : ℕ) → q ≡ childOf (getD (records x) i (recOf 0 [])) → q < 64
-    unfolding reached
-    child-low q z = omega (arith, z, go (records x) i less (rw same (can .small .1)))
+    child-low q z = omega (arith, z, go (records x) i less (rw same (small .1)))
       where
         go : (l : List Rec) (i : ℕ) → i < length l → All (λ (p : ℕ). p < 64) (map childOf l) → childOf (getD l i (recOf 0 [])) < 64
         go [] i h a = absurd (not-suc-le-zero h)
@@ -119,12 +120,12 @@ ones-set (m ∷ marks) (suc q) h (suc p) = ones-set marks q (λ r. h (suc r)) p
 -- ---- in a sound tree
 
 pub good-marks : (n : ℕ) (st : State) → Good n st → CanMark (st .image) (st .root)
-unfolding reached
+unfolding children reached
 good-marks n st G =
     record {
       fits = root-fits G;
       laid = root-ok G .laid;
-      entries = good-entries n st G;
+      entries = root-entries G;
       small =
           All-map (λ (p : ℕ). isPage n p ≡ true) (λ (p : ℕ). p < 64) (λ p h. omega (arith, isPage-true n p h, G .few)) (reached (st .image) (st .root))
           (inside-pages n (reached (st .image) (st .root)) (λ x. omega (arith, G .apart x)));

@@ -1,4 +1,4 @@
--- The sizes of a page's records with a change made: one by one, their sum, and where they are split.
+-- The sizes of a page's records with a new one put in: one by one, their sum, and where they are split.
 -- Assumes nothing.
 use Prim.Native.Nat.{ℕ, zero, suc, _+_, _-_, _*_, _≤_, _<_}
 use mathlib.Core.Path.{_≡_, refl, sym, ap, _∙_}
@@ -21,14 +21,14 @@ use Rattle.image.proofs.CodePages.{drop-next}
 use Rattle.tree.specs.Edits.{splitFrom, splitPoint}
 use Rattle.tree_edit.specs.Steps.{recBy, madeBy}
 use Rattle.tree_edit.specs.Asked.{CanPut}
-use Rattle.tree_edit.specs.declared.Change.{Change}
+use Rattle.tree_edit.specs.declared.Put.{Put}
 
 abbrev none : Rec
 none = recOf 0 []
 
--- ---- with the change made
+-- ---- with the new one put in
 
-module _ {p : List ℕ} {new : Change} {v : List ℕ} (can : CanPut p new v) where
+module _ {p : List ℕ} {new : Put} {v : List ℕ} (can : CanPut p new v) where
   abbrev l : List Rec
   l = madeBy new v p
 

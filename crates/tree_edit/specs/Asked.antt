@@ -2,62 +2,70 @@
 -- Assumes nothing.
 use Prim.Native.Nat.{ℕ, _+_, _*_, _≤_, _<_}
 use mathlib.Core.Path.{_≡_}
-use mathlib.Core.Bool.{Bool, true, false}
+use mathlib.Core.Bool.{true, false}
 use mathlib.Core.List.{List}
 use lib.ListN.{length, take, drop}
 use Rattle.codec.specs.Lists.{All}
-use Rattle.page.specs.Layout.{pageSize, slotCount, indexKind, topKey, Rec, readHead}
+use Rattle.codec.specs.Numbers.{bytesOf}
+use Rattle.page.specs.Layout.{pageSize, topKey, Rec}
 use Rattle.page.specs.Page.{records, laidOut, RecOk}
-use Rattle.page.specs.Operations.{made, pageOf}
+use Rattle.page.specs.Operations.{pageOf}
+use Rattle.page.specs.PageFormat.{Lists, format1}
 use Rattle.image.specs.PageZero.{pageCount}
-use Rattle.image.specs.Image.{children, reached, indexRec, Entries}
+use Rattle.image.specs.Image.{children, reached, Entries}
 use Rattle.tree.specs.State.{State}
 use Rattle.tree.specs.Edits.{splitPoint}
-use Rattle.tree.specs.Good.{hit, count, inside, Fits, Shows, Good}
-use Rattle.tree_edit.specs.Steps.{isMarked, leafAt, recBy, madeBy}
-use Rattle.tree_edit.specs.declared.Leaf.{Leaf}
-use Rattle.tree_edit.specs.declared.Change.{Change}
+use Rattle.tree.specs.Good.{hit, count, inside, Fits, Good}
+use Rattle.tree_edit.specs.Steps.{isMarked, stateOf, childAt, recBy, madeBy}
+use Rattle.tree_edit.specs.declared.Child.{Child}
+use Rattle.tree_edit.specs.declared.Put.{Put}
+use Rattle.tree_edit.specs.declared.Turned.{Turned}
+use Rattle.tree_edit.specs.declared.Turned.the-variants.{Kept, Gone, One, Two}
 
--- the record r can be put into the page p, if there is room
-pub record CanPut (p : List ℕ) (new : Change) (v : List ℕ) : Type 0 where
+-- the new record can be put into the page p, if there is room
+pub record CanPut (p : List ℕ) (new : Put) (v : List ℕ) : Type 0 where
   pub ok : laidOut p ≡ true
   pub good : RecOk (recBy new v)
   pub place : new .at < length (madeBy new v p)
 
--- the leaf is one of a sound tree's
-pub record AtLeaf (n : ℕ) (st : State) (leaf : Leaf) : Type 0 where
-  pub good : Good n st
-  pub slot : leaf .slot < length (children (st .image) (st .root))
-  pub is : leaf ≡ leafAt (st .image) (st .root) (leaf .slot)
-
--- and its records can take the change
-pub record CanChange (n : ℕ) (st : State) (leaf : Leaf) (new : Change) (v : List ℕ) : Type 0 where
-  pub here : AtLeaf n st leaf
-  pub put : CanPut (pageOf (st .image) (leaf .page)) new v
+-- and into page q of a state, or with its records into pages that are free
+pub record CanTake (n : ℕ) (st : State) (q : ℕ) (new : Put) (v : List ℕ) : Type 0 where
+  pub few : n ≤ 64
+  pub long : length (st .image) ≡ pageSize * n
+  pub apart : (x : ℕ) → hit x q + count x (st .free) ≤ inside n x
+  pub put : CanPut (pageOf (st .image) q) new v
 
 -- the records rs fit two pages
 pub record CanSplit (rs : List Rec) : Type 0 where
   pub left : Fits (take (splitPoint rs) rs)
   pub right : Fits (drop (splitPoint rs) rs)
 
--- the index of a state can take the record of a page, inserted as the i-th or in place of it
-pub record CanIndex (n : ℕ) (st : State) (ins : Bool) (i sep p : ℕ) : Type 0 where
+-- what stands for a page can take the record of the page `named`
+pub record CanThen (n : ℕ) (before work : List ℕ) (root page : ℕ) (new : Put) (named : ℕ) (first : Turned) : Type 0 where
+  pub stays : (top : ℕ) → first ≡ Kept top → CanTake n (stateOf before work (record { root = root; top = top })) page new (bytesOf 2 named)
+  pub moves : (x top : ℕ) → first ≡ One x top → CanTake n (stateOf before work (record { root = root; top = top })) x new (bytesOf 2 named)
+
+-- page q of a state, of a kind above a leaf's, whose record in the slot of c can be changed
+pub record IndexAt (n : ℕ) (st : State) (kind q : ℕ) (c : Child) : Type 0 where
   pub few : n ≤ 64
   pub long : length (st .image) ≡ pageSize * n
-  pub index : Shows (pageOf (st .image) (st .root)) indexKind (st .root) (readHead (pageOf (st .image) (st .root)) .start) (records (pageOf (st .image) (st .root)))
-  pub entries : Entries (records (pageOf (st .image) (st .root)))
-  pub apart : (x : ℕ) → hit x (st .root) + count x (st .free) ≤ inside n x
-  pub place : i < length (made ins i (indexRec sep p) (records (pageOf (st .image) (st .root))))
-  pub slots : length (made ins i (indexRec sep p) (records (pageOf (st .image) (st .root)))) ≤ slotCount
-  pub sepFits : sep ≤ topKey
+  pub apart : (x : ℕ) → hit x q + count x (st .free) ≤ inside n x
+  pub lists : Lists format1 (pageOf (st .image) q) kind q (records (pageOf (st .image) q))
+  pub entries : Entries (records (pageOf (st .image) q))
+  pub slot : c .slot < length (records (pageOf (st .image) q))
+  pub low : c .low ≤ topKey
 
--- the index of a state can take the records of two pages, the right one with its smallest key
-pub record CanIndexTwo (n : ℕ) (st : State) (i sep p q : ℕ) : Type 0 where
-  pub first : CanIndex n st false i sep p
-  pub more : length (records (pageOf (st .image) (st .root))) < slotCount
-  pub fits : pageSize * q + pageSize ≤ length (st .image)
-  pub laid : laidOut (pageOf (st .image) q) ≡ true
-  pub some : 1 ≤ length (records (pageOf (st .image) q))
+-- it can take what stands for the page under it
+pub record CanAbsorb (n : ℕ) (before work : List ℕ) (root kind page : ℕ) (c : Child) (below : Turned) : Type 0 where
+  pub gone : (top : ℕ) → below ≡ Gone top → IndexAt n (stateOf before work (record { root = root; top = top })) kind page c
+  pub one : (p top : ℕ) → below ≡ One p top → IndexAt n (stateOf before work (record { root = root; top = top })) kind page c
+  pub two : (p k q top : ℕ) → below ≡ Two p k q top → IndexAt n (stateOf before work (record { root = root; top = top })) kind page c × (k ≤ topKey)
+
+-- the page c is one of those that the root of a sound tree names
+pub record AtChild (n : ℕ) (st : State) (c : Child) : Type 0 where
+  pub good : Good n st
+  pub slot : c .slot < length (records (pageOf (st .image) (st .root)))
+  pub is : c ≡ childAt (st .image) (st .root) (c .slot)
 
 -- the pages that an index names are below 64
 pub record CanMark (img : List ℕ) (root : ℕ) : Type 0 where

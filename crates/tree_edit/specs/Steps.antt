@@ -1,24 +1,27 @@
--- The code's tree, leaf, change and answers, and what of the definitions they stand for.
+-- The code's tree, page under the root, record to be put and answers, and what of the definitions they stand for.
 -- Assumes nothing.
-use Prim.Native.Nat.{ℕ, zero, suc, _+_, _-_, _≤_}
+use Prim.Native.Nat.{ℕ, zero, suc, _-_, _≤_}
 use mathlib.Core.Path.{_≡_}
-use mathlib.Core.Bool.{Bool, true, false, not}
+use mathlib.Core.Bool.{Bool, not}
 use mathlib.Core.List.{List, [], _∷_}
-use lib.ListN.{length, getD, take, drop}
+use lib.ListN.{getD}
 use lib.Dec.{eqb}
 use Rattle.codec.specs.Lists.{pick}
-use Rattle.page.specs.Layout.{leafKind, Rec, recOf}
+use Rattle.page.specs.Layout.{indexKind, Rec, recOf}
 use Rattle.page.specs.Page.{records}
-use Rattle.page.specs.Operations.{made}
-use Rattle.image.specs.Image.{children, childOf, among, indexRec}
-use Rattle.tree.specs.State.{State, Step, done, refused, filled}
-use Rattle.tree.specs.Edits.{indexed, keptSep, splitPoint, firstKey}
+use Rattle.page.specs.Operations.{made, pageOf}
+use Rattle.page.specs.PageFormat.{format1}
+use Rattle.image.specs.Image.{childOf, among, tallest}
+use Rattle.tree.specs.State.{State, Step, done, refused}
+use Rattle.tree.specs.Edits.{PageStep, now, stops, kept, gone, one, two, noKeep, absorbed, onto, lowOf, rooted}
 use Rattle.tree.specs.Whole as whole
 use Rattle.tree_edit.specs.declared.Tree.{Tree}
-use Rattle.tree_edit.specs.declared.Leaf.{Leaf}
-use Rattle.tree_edit.specs.declared.Change.{Change}
+use Rattle.tree_edit.specs.declared.Child.{Child}
+use Rattle.tree_edit.specs.declared.Put.{Put}
 use Rattle.tree_edit.specs.declared.Stepped.{Stepped}
 use Rattle.tree_edit.specs.declared.Stepped.the-variants.{Done, Refused}
+use Rattle.tree_edit.specs.declared.Turned.{Turned}
+use Rattle.tree_edit.specs.declared.Turned.the-variants as turned
 use Rattle.tree_edit.specs.declared.Outcome.{Outcome}
 use Rattle.tree_edit.specs.declared.Outcome.the-variants.{Finished, Stopped}
 
@@ -60,28 +63,45 @@ pub record Says (before work : List ℕ) (r : Stepped) (s : Step) : Type 0 where
   pub same : stepOf before work r ≡ s
   pub low : topOf r ≤ 64
 
--- ---- the steps of a split, once its pages are taken
+-- ---- what an edit under a page comes to
 
--- the index takes the records of two pages, left first
-abbrev pub indexTwo : State → ℕ → ℕ → ℕ → ℕ → ℕ → Step
-indexTwo st i sep p key q = indexed false i (indexRec sep p) st (λ x. indexed true (suc i) (indexRec key q) x done)
+abbrev pub turnOf : List ℕ → List ℕ → ℕ → Turned → PageStep
+turnOf before work root (turned.Kept top) = now kept (stateOf before work (record { root = root; top = top }))
+turnOf before work root (turned.Gone top) = now gone (stateOf before work (record { root = root; top = top }))
+turnOf before work root (turned.One p top) = now (one p) (stateOf before work (record { root = root; top = top }))
+turnOf before work root (turned.Two p k q top) = now (two p k q) (stateOf before work (record { root = root; top = top }))
+turnOf before work root (turned.Stopped k) = stops k
 
--- the records rs of the i-th leaf go to the pages p and q
-abbrev pub splitOver : State → ℕ → ℕ → List Rec → ℕ → ℕ → Step
-splitOver st i sep rs p q =
-    let m = splitPoint rs in
-    indexTwo (filled leafKind q (drop m rs) (filled leafKind p (take m rs) st)) i (keptSep i sep) p (firstKey (drop m rs)) q
+abbrev pub topAfter : Turned → ℕ
+topAfter (turned.Kept top) = top
+topAfter (turned.Gone top) = top
+topAfter (turned.One p top) = top
+topAfter (turned.Two p k q top) = top
+topAfter (turned.Stopped k) = 0
 
--- ---- leaves and changes
+-- the answer r, with work as it is left, is what the step s comes to
+pub record Turns (before work : List ℕ) (root : ℕ) (r : Turned) (s : PageStep) : Type 0 where
+  pub same : turnOf before work root r ≡ s
+  pub low : topAfter r ≤ 64
 
--- the leaf of the i-th index record
-abbrev pub leafAt : List ℕ → ℕ → ℕ → Leaf
-leafAt img root i = let c = getD (children img root) i (recOf 0 []) in record { slot = i; sep = c .key; page = childOf c }
+-- not two pages
+abbrev pub NotTwo : Turned → Type 0
+NotTwo r = (p k q top : ℕ) → r ≡ turned.Two p k q top → ⊥
+
+-- ---- pages under the root, and records
+
+-- the page of the i-th record of the root
+abbrev pub childAt : List ℕ → ℕ → ℕ → Child
+childAt img root i = let c = getD (records (pageOf img root)) i (recOf 0 []) in record { slot = i; low = lowOf i 0 (c .key); page = childOf c }
+
+-- what the tree comes to once s is made under its page c
+abbrev pub upward : ℕ → Child → PageStep → Step
+upward root c s = rooted format1 tallest (onto s (λ x u. absorbed format1 noKeep indexKind (c .slot) (c .low) root x u))
 
 -- the new record
-abbrev pub recBy : Change → List ℕ → Rec
+abbrev pub recBy : Put → List ℕ → Rec
 recBy new v = recOf (new .key) v
 
--- the records of the page p with the change made
-abbrev pub madeBy : Change → List ℕ → List ℕ → List Rec
+-- the records of the page p with the new one put in
+abbrev pub madeBy : Put → List ℕ → List ℕ → List Rec
 madeBy new v p = made (new .ins) (new .at) (recBy new v) (records p)

@@ -1,43 +1,91 @@
 // The edits of a list, one by one.
-use crate::Change;
-use crate::Leaf;
+use crate::Child;
 use crate::Outcome;
+use crate::Put;
 use crate::Stepped;
 use crate::Tree;
-use crate::leaves::drop_record;
-use crate::leaves::put_record;
+use crate::turns::absorb;
+use crate::turns::drop_record;
+use crate::turns::put_record;
+use crate::turns::root_step;
 use device::Refusal;
 use image::descent::route;
 use image::pages::child_at;
+use image::pages::count;
 use image::pages::key_at;
 use image::pages::page_of;
 use page::Search;
 use page::find;
 ghost use mathlib.Core.Path.{_≡_};
-ghost use mathlib.Core.List.{List, []};
-ghost use Prim.Native.Nat.{ℕ, _≤_};
+ghost use mathlib.Core.List.{[]};
+ghost use Prim.Native.Nat.{_≤_, _<_};
+ghost use lib.ListN.{length};
+ghost use lib.Dec.{eqb, leb};
+ghost use Rattle.page.specs.Layout.{slotCount, leafKind};
+ghost use Rattle.page.specs.Page.{records};
+ghost use Rattle.page.specs.Operations.{pageOf};
+ghost use Rattle.page.specs.PageFormat.{format1};
 ghost use Rattle.image.specs.PageZero.{pageCount};
-ghost use Rattle.image.specs.Image.{children};
 ghost use Rattle.image.specs.Route.{route};
 ghost use Rattle.edit.specs.EditList.{insert, update, delete, editOf, listed, editsOf, editList};
 ghost use Rattle.edit.specs.Reads.{Proper};
-ghost use Rattle.tree.specs.Edits.{edited};
+ghost use Rattle.tree.specs.Edits.{noKeep, put, dropped, edited};
 ghost use Rattle.tree.specs.Whole.{editsFrom};
 ghost use Rattle.tree.specs.Good.{Good};
-ghost use Rattle.tree_edit.specs.Steps.{stateOf, outcomeOf, Says, leafAt};
+ghost use Rattle.tree_edit.specs.Steps.{stateOf, outcomeOf, Says, childAt, recBy, upward};
+ghost use Rattle.tree_edit.specs.Asked.{AtChild, CanPut};
 
-// The leaf that a key belongs to.
-pub(crate) fn leaf_of(work: &[u8], root: usize, key: u64) -> Leaf
+// The page under the root that a key belongs to: "keeps its separator, or takes 0 if first".
+pub(crate) fn child_of(work: &[u8], root: usize, key: u64) -> Child
     requires { ⌜ Good (pageCount (now work)) (record { image = now work; root = root; free = [] }) ⌝ }
-    ensures { λ r. ⌜ r ≡ leafAt (now (work .entry)) root (route key (children (now (work .entry)) root)) ⌝ }
+    ensures { λ r. ⌜ r ≡ childAt (now (work .entry)) root (route key (records (pageOf (now (work .entry)) root))) ⌝ }
 {
     let index = page_of(work, root);
     let slot = route(index, key);
-    Leaf {
-        slot,
-        sep: key_at(index, slot),
-        page: child_at(index, slot),
+    let page = child_at(index, slot);
+    if slot == 0 {
+        return Child { slot, low: 0, page };
     }
+    Child {
+        slot,
+        low: key_at(index, slot),
+        page,
+    }
+}
+
+// Puts a record into a page under the root, and gives the root what it takes of it.
+pub(crate) fn put_under(
+    work: &mut [u8],
+    before: &[u8; 64],
+    t: Tree,
+    under: Child,
+    new: Put,
+    value: &[u8],
+) -> Stepped
+    requires { ⌜ AtChild (pageCount (now work)) (stateOf (now before) (now work) t) under × CanPut (pageOf (now work) (under .page)) new (now value) × (t .top ≤ 64) ⌝ }
+    ensures { λ r. ⌜ Says (now (before .entry)) (now (work .exit)) r (upward (t .root) under (put format1 noKeep leafKind (leb slotCount (length (records (pageOf (now (work .entry)) (t .root))))) (new .ins) (new .at) (recBy new (now (value .entry))) (under .page) (stateOf (now (before .entry)) (now (work .entry)) t))) ⌝ }
+{
+    let full = 28 <= count(page_of(work, t.root));
+    let below = put_record(work, before, t, 1, full, under.page, new, value);
+    let above = absorb(work, before, t.root, 2, t.root, under, below);
+    root_step(t.root, above)
+}
+
+// Drops the j-th record of a page under the root, and gives the root what it takes of it.
+pub(crate) fn drop_under(
+    work: &mut [u8],
+    before: &[u8; 64],
+    t: Tree,
+    under: Child,
+    j: usize,
+) -> Stepped
+    requires { ⌜ AtChild (pageCount (now work)) (stateOf (now before) (now work) t) under × (j < length (records (pageOf (now work) (under .page)))) × (t .top ≤ 64) ⌝ }
+    ensures { λ r. ⌜ Says (now (before .entry)) (now (work .exit)) r (upward (t .root) under (dropped format1 (eqb (length (records (pageOf (now (work .entry)) (t .root)))) 1) j (under .page) (stateOf (now (before .entry)) (now (work .entry)) t))) ⌝ }
+{
+    let only = count(page_of(work, t.root)) == 1;
+    let below = drop_record(work, t, under.page, only, j);
+    let above = absorb(work, before, t.root, 2, t.root, under, below);
+    root_step(t.root, above)
 }
 
 // Inserts a key that is missing.
@@ -51,17 +99,10 @@ pub(crate) fn insert_edit(
     requires { ⌜ Good (pageCount (now work)) (stateOf (now before) (now work) t) × (t .top ≤ 64) × Proper (insert key (now value)) ⌝ }
     ensures { λ r. ⌜ Says (now (before .entry)) (now (work .exit)) r (edited (insert key (now (value .entry))) (stateOf (now (before .entry)) (now (work .entry)) t)) ⌝ }
 {
-    let leaf = leaf_of(work, t.root, key);
-    match find(page_of(work, leaf.page), key) {
+    let under = child_of(work, t.root, key);
+    match find(page_of(work, under.page), key) {
         Search::At(_) => Stepped::Refused(Refusal::KEY_PRESENT),
-        Search::Missing(at) => put_record(
-            work,
-            before,
-            t,
-            leaf,
-            Change { ins: true, at, key },
-            value,
-        ),
+        Search::Missing(at) => put_under(work, before, t, under, Put { ins: true, at, key }, value),
     }
 }
 
@@ -76,16 +117,16 @@ pub(crate) fn update_edit(
     requires { ⌜ Good (pageCount (now work)) (stateOf (now before) (now work) t) × (t .top ≤ 64) × Proper (update key (now value)) ⌝ }
     ensures { λ r. ⌜ Says (now (before .entry)) (now (work .exit)) r (edited (update key (now (value .entry))) (stateOf (now (before .entry)) (now (work .entry)) t)) ⌝ }
 {
-    let leaf = leaf_of(work, t.root, key);
-    let Search::At(at) = find(page_of(work, leaf.page), key) else {
+    let under = child_of(work, t.root, key);
+    let Search::At(at) = find(page_of(work, under.page), key) else {
         return Stepped::Refused(Refusal::KEY_MISSING);
     };
-    put_record(
+    put_under(
         work,
         before,
         t,
-        leaf,
-        Change {
+        under,
+        Put {
             ins: false,
             at,
             key,
@@ -95,16 +136,15 @@ pub(crate) fn update_edit(
 }
 
 // Drops a key that is there.
-pub(crate) fn delete_edit(work: &mut [u8], t: Tree, key: u64) -> Stepped
-    requires { ⌜ Good (pageCount (now work)) (record { image = now work; root = t .root; free = [] }) × (t .top ≤ 64) ⌝ }
-    ensures { λ r. ⌜ ((before : List ℕ) → Says before (now (work .exit)) r (edited (delete key) (stateOf before (now (work .entry)) t))) ⌝ }
+pub(crate) fn delete_edit(work: &mut [u8], before: &[u8; 64], t: Tree, key: u64) -> Stepped
+    requires { ⌜ Good (pageCount (now work)) (stateOf (now before) (now work) t) × (t .top ≤ 64) ⌝ }
+    ensures { λ r. ⌜ Says (now (before .entry)) (now (work .exit)) r (edited (delete key) (stateOf (now (before .entry)) (now (work .entry)) t)) ⌝ }
 {
-    let leaf = leaf_of(work, t.root, key);
-    let Search::At(at) = find(page_of(work, leaf.page), key) else {
+    let under = child_of(work, t.root, key);
+    let Search::At(at) = find(page_of(work, under.page), key) else {
         return Stepped::Refused(Refusal::KEY_MISSING);
     };
-    drop_record(work, t.root, leaf, at);
-    Stepped::Done(t)
+    drop_under(work, before, t, under, at)
 }
 
 // Makes one edit: kind 1 inserts, 2 updates, 3 deletes.
@@ -122,7 +162,7 @@ pub fn edit(
     match kind {
         1 => insert_edit(work, before, t, key, value),
         2 => update_edit(work, before, t, key, value),
-        _ => delete_edit(work, t, key),
+        _ => delete_edit(work, before, t, key),
     }
 }
 

@@ -1,7 +1,6 @@
 // New pages, and the records of a page of the work image.
-use crate::Change;
+use crate::Put;
 use image::pages::count;
-use image::pages::page_of;
 use page_edit::delete_record;
 use page_edit::fill_made;
 use page_edit::insert_record;
@@ -15,9 +14,10 @@ ghost use lib.Dec.{eqb};
 ghost use Rattle.codec.specs.Lists.{pick};
 ghost use Rattle.page.specs.Layout.{pageSize, size};
 ghost use Rattle.page.specs.Page.{laidOut, records};
-ghost use Rattle.page.specs.Operations.{fill, delete, between, pageOf, putPage};
+ghost use Rattle.page.specs.Operations.{fill, delete, inPlace, between, pageOf, putPage};
+ghost use Rattle.page.specs.PageFormat.{format1};
 ghost use Rattle.page_edit.specs.Filling.{CanFill};
-ghost use Rattle.tree.specs.Edits.{isFull, inPlace};
+ghost use Rattle.tree.specs.Edits.{isFull};
 ghost use Rattle.tree_edit.specs.Steps.{unmarked, recBy, madeBy};
 ghost use Rattle.tree_edit.specs.Asked.{CanPut};
 
@@ -40,7 +40,7 @@ pub(crate) fn free_below(before: &[u8; 64], top: usize) -> usize
 // Whether a page has no room for a record of s bytes: "If s exceeds start minus 64, or an insert finds 28 records".
 pub(crate) fn is_full(page: &[u8], ins: bool, s: usize) -> bool
     requires { ⌜ laidOut (now page) ≡ true ⌝ }
-    ensures { λ r. ⌜ r ≡ isFull ins s (now (page .entry)) ⌝ }
+    ensures { λ r. ⌜ r ≡ isFull format1 tt ins s (now (page .entry)) ⌝ }
 {
     if codec::number_at(page, 2) - 64 < s {
         return true;
@@ -51,7 +51,7 @@ pub(crate) fn is_full(page: &[u8], ins: bool, s: usize) -> bool
     false
 }
 
-// How many records a page lists once the change is made.
+// How many records a page lists once the new one is put in.
 pub(crate) fn made_count(page: &[u8], ins: bool) -> usize
     requires { ⌜ laidOut (now page) ≡ true ⌝ }
     ensures { λ r. ⌜ r ≡ pick ins (suc (length (records (now (page .entry))))) (length (records (now (page .entry)))) ⌝ }
@@ -63,9 +63,9 @@ pub(crate) fn made_count(page: &[u8], ins: bool) -> usize
 }
 
 // Puts a record into page p, which has room for it.
-pub(crate) fn put_in_place(work: &mut [u8], p: usize, new: Change, value: &[u8])
+pub(crate) fn put_in_place(work: &mut [u8], p: usize, new: Put, value: &[u8])
     requires { ⌜ (pageSize * p + pageSize ≤ length (now work)) × CanPut (pageOf (now work) p) new (now value) ⌝ }
-    requires { ⌜ isFull (new .ins) (size (recBy new (now value))) (pageOf (now work) p) ≡ false ⌝ }
+    requires { ⌜ isFull format1 tt (new .ins) (size (recBy new (now value))) (pageOf (now work) p) ≡ false ⌝ }
     ensures { λ _. ⌜ now (work .exit) ≡ putPage (now (work .entry)) p (inPlace (new .ins) (new .at) (recBy new (now (value .entry))) (pageOf (now (work .entry)) p)) ⌝ }
 {
     let a = 1024 * p;
@@ -87,14 +87,14 @@ pub(crate) fn delete_at(work: &mut [u8], p: usize, i: usize)
     delete_record(&mut work[a..e], i);
 }
 
-// Fills page `to` with the records `first` to `last` of page `from` once the change is made. The old page is copied first, since two
+// Fills page `to` with the records `first` to `last` of page `from` once the new one is put in. The old page is copied first, since two
 // parts of work cannot be lent at a time.
 pub(crate) fn copy_made(
     work: &mut [u8],
     from: usize,
     to: usize,
     kind: u8,
-    new: Change,
+    new: Put,
     value: &[u8],
     first: usize,
     last: usize,

@@ -1,5 +1,5 @@
-// Where the records of a full leaf are split.
-use crate::Change;
+// Where the records of a full page are split.
+use crate::Put;
 use crate::pages::made_count;
 use image::pages::size_at;
 use image::pages::size_of;
@@ -13,8 +13,8 @@ ghost use Rattle.tree.specs.Edits.{splitPoint};
 ghost use Rattle.tree_edit.specs.Steps.{madeBy};
 ghost use Rattle.tree_edit.specs.Asked.{CanPut};
 
-// The size of the k-th record once the change is made.
-pub(crate) fn size_made(page: &[u8], new: Change, value: &[u8], k: usize) -> usize
+// The size of the k-th record once the new one is put in.
+pub(crate) fn size_made(page: &[u8], new: Put, value: &[u8], k: usize) -> usize
     requires { ⌜ CanPut (now page) new (now value) × (k < length (madeBy new (now value) (now page))) ⌝ }
     ensures { λ r. ⌜ r ≡ size (getD (madeBy new (now (value .entry)) (now (page .entry))) k (recOf 0 [])) ⌝ }
 {
@@ -30,8 +30,8 @@ pub(crate) fn size_made(page: &[u8], new: Change, value: &[u8], k: usize) -> usi
     size_at(page, k)
 }
 
-// The sum of the records' sizes once the change is made.
-pub(crate) fn total_made(page: &[u8], new: Change, value: &[u8]) -> usize
+// The sum of the records' sizes once the new one is put in.
+pub(crate) fn total_made(page: &[u8], new: Put, value: &[u8]) -> usize
     requires { ⌜ CanPut (now page) new (now value) ⌝ }
     ensures { λ r. ⌜ r ≡ sizes (madeBy new (now (value .entry)) (now (page .entry))) ⌝ }
 {
@@ -45,8 +45,8 @@ pub(crate) fn total_made(page: &[u8], new: Change, value: &[u8]) -> usize
     sum
 }
 
-// Whether the records fit one page once the change is made: "If they are at most 28 and at most 960 bytes".
-pub(crate) fn fits_one(page: &[u8], new: Change, value: &[u8]) -> bool
+// Whether the records fit one page once the new one is put in: "If they are at most 28 and at most 960 bytes".
+pub(crate) fn fits_one(page: &[u8], new: Put, value: &[u8]) -> bool
     requires { ⌜ CanPut (now page) new (now value) ⌝ }
     ensures { λ r. ⌜ r ≡ fitsPage (madeBy new (now (value .entry)) (now (page .entry))) ⌝ }
 {
@@ -57,7 +57,7 @@ pub(crate) fn fits_one(page: &[u8], new: Change, value: &[u8]) -> bool
 }
 
 // How many records the left page takes: "m smallest with twice their bytes at least the total".
-pub(crate) fn split_point(page: &[u8], new: Change, value: &[u8]) -> usize
+pub(crate) fn split_point(page: &[u8], new: Put, value: &[u8]) -> usize
     requires { ⌜ CanPut (now page) new (now value) ⌝ }
     ensures { λ r. ⌜ r ≡ splitPoint (madeBy new (now (value .entry)) (now (page .entry))) ⌝ }
 {

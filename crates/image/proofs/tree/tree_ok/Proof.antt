@@ -22,8 +22,9 @@ leaves-ok-requires c κs =
 
 returns-2 : tie.Need-returns-2
 returns-2 c =
-    let a = c .before .before .before .before .args in
-    c .leaves-ok .ensures ∙ sym (tree-index (a .image .now) (a .root) (sym (c .before .before .index-ok .ensures) ∙ not-false _ (c .before .if1 .left)))
+    let s = c .before .before .before .before in
+    let a = s .args in
+    c .leaves-ok .ensures ∙ sym (tree-index (a .image .now) (a .root) (s .pre .1) (sym (c .before .before .index-ok .ensures) ∙ not-false _ (c .before .if1 .left)))
 
 pub tree-ok-spec : {M : Type 1} → statement M
 tree-ok-spec = tie.close (tie.spec index-ok-requires returns leaves-ok-requires returns-2)

@@ -1,13 +1,13 @@
 -- `begin_book`: the leaves from the first on have the whole table.
 -- Assumes nothing.
 use Prim.Native.Nat.{_<_}
-use mathlib.Core.Path.{_≡_, ap, _∙_}
+use mathlib.Core.Path.{_≡_, sym, ap, _∙_}
 use native.Mathlib.Omega.{arith}
 use lib.ListN.{length}
 use Rattle.page.specs.Page.{records}
 use Rattle.page.specs.Operations.{pageOf}
 use Rattle.image.specs.PageZero.{rootOf}
-use Rattle.image.specs.Table.{table}
+use Rattle.image.proofs.OneHeight.{table-one}
 use Rattle.merge.proofs.Standing.{root-read, root-fits, some-leaf, leaf-count, child-asked, child-leaf}
 use Rattle.merge.proofs.books.begin_book.Statement.{statement}
 use Rattle.merge.proofs.books.begin_book.Tie as tie
@@ -34,8 +34,9 @@ on-leaf-requires c κs =
     (f .isSound, f .less, f .page)
 
 returns : tie.Need-returns
-unfolding table
-returns c = c .on-leaf .ensures
+returns c =
+    let e = c .on-leaf .ensures in
+    (e .0, e .1 ∙ sym (table-one (c .before .before .before .before .before .args .image .now)))
 
 pub begin-book-spec : {M : Type 1} → statement M
 begin-book-spec = tie.close (tie.spec root-of-requires page-of-requires child-at-requires on-leaf-requires returns)

@@ -6,7 +6,6 @@ use Rattle.edit.specs.Reads.{Proper}
 use Rattle.tree.specs.Edits.{edited}
 use Rattle.tree_edit.specs.Steps.{stateOf}
 use Rattle.tree_edit.proofs.Said.{says-same}
-use Rattle.tree_edit.proofs.Places.{good-none}
 use Rattle.tree_edit.proofs.Routed.{kind-insert, kind-update, kind-delete}
 use borrow.Author.Needs.{needs}
 use Rattle.tree_edit.proofs.edits.edit.Statement.{statement}
@@ -25,7 +24,7 @@ update-edit-requires c κs =
 delete-edit-requires : tie.Need-delete-edit-requires
 delete-edit-requires c κs =
     let s = c .before .before .before .before in
-    (good-none (s .pre .0), s .pre .1)
+    (s .pre .0, s .pre .1)
 
 same-length : tie.Need-same-length
 same-length c = search needs
@@ -50,7 +49,7 @@ returns-3 : tie.Need-returns-3
 returns-3 c =
     let match = c .before .before .before .before .match in
     let s = c .before .before .before .before .before .before .before in
-    says-same (c .before .before .delete-edit .ensures (s .args .before .now)) _ (ap (λ (e : Edit). edited e (stateOf (s .args .before .now) (s .args .work .now) (s .args .t))) (sym (kind-delete _ (s .args .key) (s .args .value .now) (match .rest .0 .1) (match .rest .1))))
+    says-same (c .before .before .delete-edit .ensures) _ (ap (λ (e : Edit). edited e (stateOf (s .args .before .now) (s .args .work .now) (s .args .t))) (sym (kind-delete _ (s .args .key) (s .args .value .now) (match .rest .0 .1) (match .rest .1))))
 
 pub edit-spec : {M : Type 1} → statement M
 edit-spec =

@@ -1,4 +1,4 @@
--- Today's one height: the root is an index over leaves, whatever its kind byte says, so that what lies under it is what its records name.
+-- One height: the root is an index over leaves, whatever its kind byte says, so that what lies under it is what its records name.
 -- Assumes nothing.
 use Prim.Native.Nat.{ℕ, _-_}
 use mathlib.Core.Path.{_≡_, refl, ap, _∙_}

@@ -1,4 +1,4 @@
--- Today's one height: an edit is made in the leaf that its key belongs to, and the index, which is the root, takes what the leaf asks for.
+-- One height: an edit is made in the leaf that its key belongs to, and the index, which is the root, takes what the leaf asks for.
 -- Assumes nothing.
 use Prim.Native.Nat.{ℕ, suc}
 use mathlib.Core.Path.{_≡_, sym, ap, ap₂, _∙_}

@@ -38,11 +38,11 @@ taken-ends P st need k h = go (st .free) refl
     go (p ∷ f) z = ends-suc P p (p ∷ f) _ need (takePage (stops pagesOut) (p ∷ f) st k) (h p _ (search z)) search
 
 -- how many records the page above then takes
-abbrev pub weigh : Change → ℕ
-weigh kept = 0
-weigh gone = 0
-weigh (one a) = 1
-weigh (two a k b) = 2
+abbrev pub raised : Change → ℕ
+raised kept = 0
+raised gone = 0
+raised (one a) = 1
+raised (two a k b) = 2
 
 -- the pages that stand for it
 abbrev pub standing : ℕ → Change → List ℕ

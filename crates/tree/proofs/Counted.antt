@@ -21,10 +21,10 @@ use Rattle.image.proofs.IndexRecords.{index-entry, index-ok, size-entry, sizes-
 use Rattle.edit.proofs.General.{all-right, by-test}
 use Rattle.tree.specs.Edits.{Change, PageStep, absorbed, copied, copyThen, gone, isFull, kept, moved, now, one, put, stops, thenInto, two}
 use Rattle.tree.specs.Good.{count, hit, inside}
-use Rattle.tree.specs.Grounds.{firstTakes, roomAfter, secondTakes, takes, takesAbove, weightAbove}
+use Rattle.tree.specs.Grounds.{firstTakes, roomAfter, secondTakes, takes, takesAbove, raisedAbove}
 use Rattle.tree.specs.State.{State, filled, withPage}
 use Rattle.tree.proofs.Absorb.{first-out, new-entries, same-length, small-enough}
-use Rattle.tree.proofs.Change.{Holds, Out, SepsOk, out-ends, taken-ends, weigh}
+use Rattle.tree.proofs.Change.{Holds, Out, SepsOk, out-ends, taken-ends, raised}
 use Rattle.tree.proofs.Counts.{hit-self}
 use Rattle.tree.proofs.General.{inserted-seam, made-seam}
 use Rattle.tree.proofs.Puts.{Puts, dropped-is, update-room}
@@ -39,9 +39,9 @@ entry-sizes [] e = refl
 entry-sizes (c ∷ cs) e = rw (size-entry c (e .0), entry-sizes cs (e .1)) refl
 
 module _ (Pg : PageFormat) (rules : Rules Pg) (keep : ℕ → Pg .Keep) where
-  first-light : (x : Pg .Room) → firstTakes Pg x ≤ 1
+  first-one : (x : Pg .Room) → firstTakes Pg x ≤ 1
   unfolding firstTakes
-  first-light x = go (Pg .fits x entrySize)
+  first-one x = go (Pg .fits x entrySize)
     where
       go : (b : Bool) → pick b 0 1 ≤ 1
       go true = omega arith
@@ -183,8 +183,8 @@ module _ (Pg : PageFormat) (rules : Rules Pg) (keep : ℕ → Pg .Keep) where
             Out (Rooms (roomAfter Pg s (length pre) m)) (put Pg keep kind false i1 j1 r1 q st) → Out (Puts Pg keep F st q kind (pre ++ indexRec low a ∷ post)) (put Pg keep kind false i1 j1 r1 q st) →
             ((t : State) (z : ℕ) (j : Pg .Room) → Holds Pg (t .image) kind z (pre ++ indexRec low a ∷ post) → Pg .room (keep z) (pageOf (t .image) z) ≡ j →
             Counted (secondTakes Pg j m) (secondTakes Pg j m) (t .free) (put Pg keep kind false i2 j2 r2 z t)) →
-            Counted (takesAbove Pg s (length pre) m 2) (weightAbove Pg s (length pre) m 2) (st .free) (thenInto (put Pg keep kind false i1 j1 r1 q st) q (λ z t. put Pg keep kind false i2 j2 r2 z t))
-        unfolding takesAbove weightAbove thenInto copyThen
+            Counted (takesAbove Pg s (length pre) m 2) (raisedAbove Pg s (length pre) m 2) (st .free) (thenInto (put Pg keep kind false i1 j1 r1 q st) q (λ z t. put Pg keep kind false i2 j2 r2 z t))
+        unfolding takesAbove raisedAbove thenInto copyThen
         both-counted i1 j1 r1 i2 j2 r2 counts rooms puts second = go (put Pg keep kind false i1 j1 r1 q st) counts rooms (put-stays Pg keep kind i1 j1 r1 q st) puts
           where
             sec : ℕ
@@ -203,7 +203,7 @@ module _ (Pg : PageFormat) (rules : Rules Pg) (keep : ℕ → Pg .Keep) where
             after-kept : (t : State) → firstTakes Pg s ≡ 0 → length (st .free) ≡ firstTakes Pg s + length (t .free) → (y : PageStep) → Counted sec sec (t .free) y →
                 Counted (firstTakes Pg s + sec) (pick (eqb sec 0) (firstTakes Pg s) sec) (st .free) y
             after-kept t z l (stops v) h = omega (arith, h)
-            after-kept t z l (now g u) h = (same sec (firstTakes Pg s) (weigh g) z (h .0), omega (arith, h .1))
+            after-kept t z l (now g u) h = (same sec (firstTakes Pg s) (raised g) z (h .0), omega (arith, h .1))
 
             after-copy : (x : ℕ) (t : State) → firstTakes Pg s ≡ 1 → length (st .free) ≡ firstTakes Pg s + length (t .free) → (y : PageStep) → NotGone y → Counted sec sec (t .free) y →
                 Counted (firstTakes Pg s + sec) (pick (eqb sec 0) (firstTakes Pg s) sec) (st .free) (thenInto (now (one x) t) q (λ w v. y))
@@ -220,12 +220,12 @@ module _ (Pg : PageFormat) (rules : Rules Pg) (keep : ℕ → Pg .Keep) where
             go (now gone t) h i g o = absurd g
             go (now (one x) t) h i g o =
                 after-copy x t (sym (h .0)) (h .1) (put Pg keep kind false i2 j2 r2 x t) (put-stays Pg keep kind i2 j2 r2 x t) (second t x (roomAfter Pg s (length pre) m) (o .held) i)
-            go (now (two x v y) t) h i g o = absurd (omega (arith, h .0, first-light s))
+            go (now (two x v y) t) h i g o = absurd (omega (arith, h .0, first-one s))
 
     pub absorbed-counted : (low : ℕ) (ch : Change) → SepsOk low ch →
-        Counted (takesAbove Pg s (length pre) m (weigh ch)) (weightAbove Pg s (length pre) m (weigh ch)) (st .free)
+        Counted (takesAbove Pg s (length pre) m (raised ch)) (raisedAbove Pg s (length pre) m (raised ch)) (st .free)
         (absorbed Pg keep kind (length pre) low q ch st)
-    unfolding absorbed takesAbove weightAbove
+    unfolding absorbed takesAbove raisedAbove
     absorbed-counted low kept o = (refl, omega arith)
     absorbed-counted low gone o = dropped-is Pg (Counted 0 0 (st .free)) false (length pre) q st (refl, omega arith) (refl, omega arith)
     absorbed-counted low (one a) o = first-counted low a o

@@ -24,7 +24,7 @@ use Rattle.tree.specs.Edits.{PageStep, absorbed, editIn, now, onto, stop
 use Rattle.tree.specs.Grounds.{fullIn, leafTakes, leafUnder, nextPage, nextSlot}
 use Rattle.tree.specs.State.{State}
 use Rattle.tree.proofs.Child.{Here, Parts, parts}
-use Rattle.tree.proofs.Leaf.{Fate, leaf-fate}
+use Rattle.tree.proofs.Leaf.{EndedAt, leaf-ended}
 use Rattle.tree.proofs.Node.{Altered, node-out}
 use Rattle.tree.proofs.Routes.{Down, down}
 
@@ -51,29 +51,29 @@ module _ (Pg : PageFormat) (keep : ℕ → Pg .Keep) where
 
 module _ (Pg : PageFormat) (rules : Rules Pg) (keep : ℕ → Pg .Keep) (n : ℕ) (F : List ℕ) (only : Bool) (st : State) where
   -- what is said of an edit under a page of height h
-  abbrev pub Fated : Edit → ℕ → ℕ → ℕ → Rec → Type 0
-  Fated e h lo hi c =
-      Fate (keyRule e (tableIn Pg (st .image) h (childOf c)))
+  abbrev pub EndedUnder : Edit → ℕ → ℕ → ℕ → Rec → Type 0
+  EndedUnder e h lo hi c =
+      EndedAt (keyRule e (tableIn Pg (st .image) h (childOf c)))
       (Altered Pg keep n F only st h lo hi c (applyEdit e (tableIn Pg (st .image) h (childOf c))) (Splits Pg keep e (st .image) h (childOf c)))
       (editIn Pg keep only false e h lo (childOf c) st)
 
-  edit-leaf : (lo hi : ℕ) (c : Rec) → Here Pg n F only st 0 lo hi c → (e : Edit) → Proper e → lo ≤ keyOf e → keyOf e < hi → Fated e 0 lo hi c
+  edit-leaf : (lo hi : ℕ) (c : Rec) → Here Pg n F only st 0 lo hi c → (e : Edit) → Proper e → lo ≤ keyOf e → keyOf e < hi → EndedUnder e 0 lo hi c
   unfolding editIn tableIn gathered
-  edit-leaf lo hi c H e P low high = leaf-fate Pg rules keep n F only st lo hi c H e P low high (searched (keyOf e) 0 (recordsAt Pg (st .image) (childOf c))) refl
+  edit-leaf lo hi c H e P low high = leaf-ended Pg rules keep n F only st lo hi c H e P low high (searched (keyOf e) 0 (recordsAt Pg (st .image) (childOf c))) refl
 
   module _ (h lo hi : ℕ) (small : suc (suc h) < 256) (c : Rec) (H : Here Pg n F only st (suc h) lo hi c) where
-    node-fate : (pre : List Rec) (d : Rec) (post : List Rec) → Parts Pg n F only st h lo hi c pre d post → (g : ℕ) (rs : List Rec) (W : Type 0) (s : PageStep) →
-        Fate g (Altered Pg keep n F only st h (startOf pre lo (d .key)) (firstKey post hi) d rs W) s →
-        Fate g
+    node-ended : (pre : List Rec) (d : Rec) (post : List Rec) → Parts Pg n F only st h lo hi c pre d post → (g : ℕ) (rs : List Rec) (W : Type 0) (s : PageStep) →
+        EndedAt g (Altered Pg keep n F only st h (startOf pre lo (d .key)) (firstKey post hi) d rs W) s →
+        EndedAt g
         (Altered Pg keep n F only st (suc h) lo hi c (joined (λ x. tableIn Pg (st .image) h x) pre ++ (rs ++ joined (λ x. tableIn Pg (st .image) h x) post))
         ((Pg .cap ≤ length (recordsAt Pg (st .image) (childOf c))) × W))
         (onto s (λ x t. absorbed Pg keep (suc (suc h)) (length pre) (startOf pre lo (d .key)) (childOf c) x t))
     unfolding onto
-    node-fate pre d post K zero rs W (stops m) o = o
-    node-fate pre d post K zero rs W (now ch t) M = node-out Pg rules keep n F only st h lo hi c H pre d post K rs W ch t M small
-    node-fate pre d post K (suc g) rs W s o = rw o refl
+    node-ended pre d post K zero rs W (stops m) o = o
+    node-ended pre d post K zero rs W (now ch t) M = node-out Pg rules keep n F only st h lo hi c H pre d post K rs W ch t M small
+    node-ended pre d post K (suc g) rs W s o = rw o refl
 
-    edit-node : (e : Edit) (D : Down Pg (st .image) h lo hi (childOf c) e) → Fated e h (startOf (D .pre) lo (D .here .key)) (firstKey (D .post) hi) (D .here) → Fated e (suc h) lo hi c
+    edit-node : (e : Edit) (D : Down Pg (st .image) h lo hi (childOf c) e) → EndedUnder e h (startOf (D .pre) lo (D .here .key)) (firstKey (D .post) hi) (D .here) → EndedUnder e (suc h) lo hi c
     unfolding editIn nextSlot
     edit-node e D rest =
         let q = childOf c in
@@ -83,16 +83,16 @@ module _ (Pg : PageFormat) (rules : Rules Pg) (keep : ℕ → Pg .Keep) (n : ℕ
         let K = parts Pg rules n F only st h lo hi c H (D .pre) (D .here) (D .post) (D .shape) in
         rw (D .rule, D .makes, slot, D .is, D .start)
         (subst (λ (x : ℕ).
-        Fate (keyRule e k)
+        EndedAt (keyRule e k)
         (Altered Pg keep n F only st (suc h) lo hi c (joined (λ x. tableIn Pg (st .image) h x) (D .pre) ++ (applyEdit e k ++ joined (λ x. tableIn Pg (st .image) h x) (D .post)))
         ((Pg .cap ≤ length (recordsAt Pg (st .image) q)) × Splits Pg keep e (st .image) h x))
         (onto (editIn Pg keep only false e h low (childOf (D .here)) st) (λ x s. absorbed Pg keep (suc (suc h)) (length (D .pre)) low q x s)))
         (sym (D .next))
-        (node-fate (D .pre) (D .here) (D .post) K (keyRule e k) (applyEdit e k) (Splits Pg keep e (st .image) h (childOf (D .here))) (editIn Pg keep only false e h low (childOf (D .here)) st) rest))
+        (node-ended (D .pre) (D .here) (D .post) K (keyRule e k) (applyEdit e k) (Splits Pg keep e (st .image) h (childOf (D .here))) (editIn Pg keep only false e h low (childOf (D .here)) st) rest))
 
-  pub edit-fate : (h : ℕ) → suc h < 256 → (lo hi : ℕ) (c : Rec) → Here Pg n F only st h lo hi c → (e : Edit) → Proper e → lo ≤ keyOf e → keyOf e < hi → Fated e h lo hi c
-  edit-fate zero small lo hi c H e P low high = edit-leaf lo hi c H e P low high
-  edit-fate (suc h) small lo hi c H e P low high =
+  pub edit-ended : (h : ℕ) → suc h < 256 → (lo hi : ℕ) (c : Rec) → Here Pg n F only st h lo hi c → (e : Edit) → Proper e → lo ≤ keyOf e → keyOf e < hi → EndedUnder e h lo hi c
+  edit-ended zero small lo hi c H e P low high = edit-leaf lo hi c H e P low high
+  edit-ended (suc h) small lo hi c H e P low high =
       let D = down Pg (st .image) h lo hi (childOf c) (H .under) e low high in
       let K = parts Pg rules n F only st h lo hi c H (D .pre) (D .here) (D .post) (D .shape) in
-      edit-node h lo hi small c H e D (edit-fate h (omega arith) (startOf (D .pre) lo (D .here .key)) (firstKey (D .post) hi) (D .here) (K .child) e P (D .low) (D .high))
+      edit-node h lo hi small c H e D (edit-ended h (omega arith) (startOf (D .pre) lo (D .here .key)) (firstKey (D .post) hi) (D .here) (K .child) e P (D .low) (D .high))

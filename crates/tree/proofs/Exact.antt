@@ -33,15 +33,15 @@ use Rattle.edit.proofs.Ledger.{lacks-find}
 use Rattle.edit.proofs.Places.{search-missing, search-there}
 use Rattle.tree.specs.Edits.{Change, PageStep, absorbed, editIn, editLeaf, editedIn, gone, kept, now, one, onlyLeaf, onto, rooted, stops, two}
 use Rattle.tree.specs.Good.{GoodIn, count}
-use Rattle.tree.specs.Grounds.{groundIn, leafTakes, nextSlot, overflows, placingIn, takesAbove, takesEdit, takesIn, weightAbove, weightIn}
+use Rattle.tree.specs.Grounds.{groundIn, leafTakes, nextSlot, overflows, placingIn, takesAbove, takesEdit, takesIn, raisedAbove, raisedIn}
 use Rattle.tree.specs.State.{State, Step, done, filled, refused, takePage, taken, withRoot}
-use Rattle.tree.proofs.Change.{Out, weigh}
+use Rattle.tree.proofs.Change.{Out, raised}
 use Rattle.tree.proofs.Child.{Here, Parts, parts}
 use Rattle.tree.proofs.Counted.{absorbed-counted}
-use Rattle.tree.proofs.Descent.{Fated, Splits, edit-fate, splitsAll}
+use Rattle.tree.proofs.Descent.{EndedUnder, Splits, edit-ended, splitsAll}
 use Rattle.tree.proofs.Flag.{edit-flag}
 use Rattle.tree.proofs.Height.{height-range, tallest-kind}
-use Rattle.tree.proofs.Leaf.{Fate}
+use Rattle.tree.proofs.Leaf.{EndedAt}
 use Rattle.tree.proofs.Node.{Altered, lists-own, no-more, own-same}
 use Rattle.tree.proofs.Puts.{dropped-is}
 use Rattle.tree.proofs.Root.{here, names-root}
@@ -85,10 +85,10 @@ module _ (Pg : PageFormat) (rules : Rules Pg) (keep : ℕ → Pg .Keep) (n : ℕ
 
   -- what is said of an edit under a page of height h
   abbrev CountedIn : Edit → ℕ → ℕ → ℕ → Type 0
-  CountedIn e h lo q = Counted (takesIn Pg keep e (st .image) h q) (weightIn Pg keep e (st .image) h q) (st .free) (editIn Pg keep only false e h lo q st)
+  CountedIn e h lo q = Counted (takesIn Pg keep e (st .image) h q) (raisedIn Pg keep e (st .image) h q) (st .free) (editIn Pg keep only false e h lo q st)
 
   counted-leaf : (lo hi q : ℕ) → Under Pg (st .image) 0 lo hi q → (e : Edit) → keyRule e (tableIn Pg (st .image) 0 q) ≡ 0 → CountedIn e 0 lo q
-  unfolding editIn tableIn gathered takesIn weightIn
+  unfolding editIn tableIn gathered takesIn raisedIn
   counted-leaf lo hi q u e g = leaf-counted lo hi q (u .rising) e (searched (keyOf e) 0 (recordsAt Pg (st .image) q)) refl g
 
   module _ (h lo hi : ℕ) (small : suc (suc h) < 256) (c : Rec) (H : Here Pg n F only st (suc h) lo hi c) where
@@ -101,7 +101,7 @@ module _ (Pg : PageFormat) (rules : Rules Pg) (keep : ℕ → Pg .Keep) (n : ℕ
     node-counted : (pre : List Rec) (d : Rec) (post : List Rec) → Parts Pg n F only st h lo hi c pre d post → (a w : ℕ) (rs : List Rec) (W : Type 0) (s : PageStep) → Counted a w (st .free) s →
         Out (Altered Pg keep n F only st h (startOf pre lo (d .key)) (firstKey post hi) d rs W) s →
         Counted (a + takesAbove Pg (Pg .room (keep (childOf c)) (pageOf (st .image) (childOf c))) (length pre) (length (pre ++ d ∷ post)) w)
-        (weightAbove Pg (Pg .room (keep (childOf c)) (pageOf (st .image) (childOf c))) (length pre) (length (pre ++ d ∷ post)) w) (st .free)
+        (raisedAbove Pg (Pg .room (keep (childOf c)) (pageOf (st .image) (childOf c))) (length pre) (length (pre ++ d ∷ post)) w) (st .free)
         (onto s (λ x t. absorbed Pg keep (suc (suc h)) (length pre) (startOf pre lo (d .key)) (childOf c) x t))
     unfolding onto
     node-counted pre d post K a w rs W (stops m) k o = omega arith
@@ -114,48 +114,48 @@ module _ (Pg : PageFormat) (rules : Rules Pg) (keep : ℕ → Pg .Keep) (n : ℕ
         absorbed-counted Pg rules keep n (H .few) F t (M .leads .long ∙ H .long) q (suc (suc h)) small pre d post (lists-own Pg rules keep n F only st h lo hi c H pre d post K rs W ch t M) (K .entries)
         (λ x. omega (arith, no-more Pg rules keep n F only st h lo hi c H pre d post K rs W ch t M x, H .apart x))
         (λ x. omega (arith, H .sub x, leads-free Pg keep F st t (M .leads) x)) clear low ch (M .seps-ok) in
-        let B : Counted (takesAbove Pg room (length pre) m (weigh ch)) (weightAbove Pg room (length pre) m (weigh ch)) (t .free) above =
-        subst (λ (g : List ℕ). Counted (takesAbove Pg (Pg .room (keep q) g) (length pre) m (weigh ch)) (weightAbove Pg (Pg .room (keep q) g) (length pre) m (weigh ch)) (t .free) above) same A in
-        go above (takesAbove Pg room (length pre) m w) (weightAbove Pg room (length pre) m w)
-        (subst (λ (v : ℕ). Counted (takesAbove Pg room (length pre) m v) (weightAbove Pg room (length pre) m v) (t .free) above) (k .0) B) (k .1)
+        let B : Counted (takesAbove Pg room (length pre) m (raised ch)) (raisedAbove Pg room (length pre) m (raised ch)) (t .free) above =
+        subst (λ (g : List ℕ). Counted (takesAbove Pg (Pg .room (keep q) g) (length pre) m (raised ch)) (raisedAbove Pg (Pg .room (keep q) g) (length pre) m (raised ch)) (t .free) above) same A in
+        go above (takesAbove Pg room (length pre) m w) (raisedAbove Pg room (length pre) m w)
+        (subst (λ (v : ℕ). Counted (takesAbove Pg room (length pre) m v) (raisedAbove Pg room (length pre) m v) (t .free) above) (k .0) B) (k .1)
       where
         go : (s : PageStep) (b v : ℕ) → Counted b v (t .free) s → length (st .free) ≡ a + length (t .free) → Counted (a + b) v (st .free) s
         go (stops m) b v h l = omega arith
         go (now d u) b v h l = (h .0, omega (arith, h .1))
 
-    fate-zero : (g : ℕ) (P : Change → State → Type 0) (s : PageStep) → g ≡ 0 → Fate g P s → Out P s
-    fate-zero zero P s z f = f
-    fate-zero (suc g) P s z f = absurd (omega arith)
+    ended-zero : (g : ℕ) (P : Change → State → Type 0) (s : PageStep) → g ≡ 0 → EndedAt g P s → Out P s
+    ended-zero zero P s z f = f
+    ended-zero (suc g) P s z f = absurd (omega arith)
 
     counted-node : (e : Edit) (D : Down Pg (st .image) h lo hi (childOf c) e) → keyRule e (tableIn Pg (st .image) h (childOf (D .here))) ≡ 0 →
-        Fated Pg rules keep n F only st e h (startOf (D .pre) lo (D .here .key)) (firstKey (D .post) hi) (D .here) →
+        EndedUnder Pg rules keep n F only st e h (startOf (D .pre) lo (D .here .key)) (firstKey (D .post) hi) (D .here) →
         CountedIn e h (startOf (D .pre) lo (D .here .key)) (childOf (D .here)) → CountedIn e (suc h) lo (childOf c)
-    unfolding editIn nextSlot takesIn weightIn
-    counted-node e D z fate rest =
+    unfolding editIn nextSlot takesIn raisedIn
+    counted-node e D z ends rest =
         let slot : route (keyOf e) (recordsAt Pg (st .image) q) ≡ length (D .pre) = D .slot in
         let K = parts Pg rules n F only st h lo hi c H (D .pre) (D .here) (D .post) (D .shape) in
         let k = tableIn Pg (st .image) h (childOf (D .here)) in
         let low = startOf (D .pre) lo (D .here .key) in
         let W : Type 0 = Splits Pg keep e (st .image) h (childOf (D .here)) in
         let s = editIn Pg keep only false e h low (childOf (D .here)) st in
-        let o = fate-zero (keyRule e k) (Altered Pg keep n F only st h low (firstKey (D .post) hi) (D .here) (applyEdit e k) W) s z fate in
+        let o = ended-zero (keyRule e k) (Altered Pg keep n F only st h low (firstKey (D .post) hi) (D .here) (applyEdit e k) W) s z ends in
         rw (D .next, slot, D .is, D .start)
         (subst (λ (m : ℕ).
-        Counted (takesIn Pg keep e (st .image) h (childOf (D .here)) + takesAbove Pg room (length (D .pre)) m (weightIn Pg keep e (st .image) h (childOf (D .here))))
-        (weightAbove Pg room (length (D .pre)) m (weightIn Pg keep e (st .image) h (childOf (D .here)))) (st .free)
+        Counted (takesIn Pg keep e (st .image) h (childOf (D .here)) + takesAbove Pg room (length (D .pre)) m (raisedIn Pg keep e (st .image) h (childOf (D .here))))
+        (raisedAbove Pg room (length (D .pre)) m (raisedIn Pg keep e (st .image) h (childOf (D .here)))) (st .free)
         (onto s (λ x t. absorbed Pg keep (suc (suc h)) (length (D .pre)) low q x t))) (sym (ap length (D .shape)))
-        (node-counted (D .pre) (D .here) (D .post) K (takesIn Pg keep e (st .image) h (childOf (D .here))) (weightIn Pg keep e (st .image) h (childOf (D .here))) (applyEdit e k) W s rest o))
+        (node-counted (D .pre) (D .here) (D .post) K (takesIn Pg keep e (st .image) h (childOf (D .here))) (raisedIn Pg keep e (st .image) h (childOf (D .here))) (applyEdit e k) W s rest o))
 
   pub edit-counted : (h : ℕ) → suc h < 256 → (lo hi : ℕ) (c : Rec) → Here Pg n F only st h lo hi c → (e : Edit) → Proper e → lo ≤ keyOf e → keyOf e < hi →
       keyRule e (tableIn Pg (st .image) h (childOf c)) ≡ 0 →
-      Counted (takesIn Pg keep e (st .image) h (childOf c)) (weightIn Pg keep e (st .image) h (childOf c)) (st .free) (editIn Pg keep only false e h lo (childOf c) st)
+      Counted (takesIn Pg keep e (st .image) h (childOf c)) (raisedIn Pg keep e (st .image) h (childOf c)) (st .free) (editIn Pg keep only false e h lo (childOf c) st)
   edit-counted zero small lo hi c H e P low high z = counted-leaf lo hi (childOf c) (H .under) e z
   edit-counted (suc h) small lo hi c H e P low high z =
       let D = down Pg (st .image) h lo hi (childOf c) (H .under) e low high in
       let K = parts Pg rules n F only st h lo hi c H (D .pre) (D .here) (D .post) (D .shape) in
       let y : keyRule e (tableIn Pg (st .image) h (childOf (D .here))) ≡ 0 = sym (D .rule) ∙ z in
       let start = startOf (D .pre) lo (D .here .key) in
-      counted-node h lo hi small c H e D y (edit-fate Pg rules keep n F only st h (omega arith) start (firstKey (D .post) hi) (D .here) (K .child) e P (D .low) (D .high))
+      counted-node h lo hi small c H e D y (edit-ended Pg rules keep n F only st h (omega arith) start (firstKey (D .post) hi) (D .here) (K .child) e P (D .low) (D .high))
       (edit-counted h (omega arith) start (firstKey (D .post) hi) (D .here) (K .child) e P (D .low) (D .high) y)
 
 -- ---- the root
@@ -170,29 +170,29 @@ short-yes need f h = rw (lt-ltb (length f) need h) refl
 short-no : (need : ℕ) (f : List ℕ) → need ≤ length f → shortBy need f ≡ 0
 short-no need f h = rw (le-ltb (length f) need h) refl
 
-light : (w : ℕ) → w ≤ 1 → _≡_ {A = ℕ} (pick (eqb w 2) 1 0) 0
-light w h = rw (ne-eqb w 2 (λ e. omega arith)) refl
+not-two : (w : ℕ) → w ≤ 1 → _≡_ {A = ℕ} (pick (eqb w 2) 1 0) 0
+not-two w h = rw (ne-eqb w 2 (λ e. omega arith)) refl
 
 module _ (Pg : PageFormat) (h : ℕ) where
   -- with a new page where the root is split
   rooted-code : (f : List ℕ) (need w : ℕ) (P : Change → State → Type 0) (s : PageStep) → Counted need w f s → Out P s → code (rooted Pg h s) ≡ shortBy (need + pick (eqb w 2) 1 0) f
   unfolding rooted taken takePage
   rooted-code f need w P (stops k) h o = o ∙ sym (short-yes (need + pick (eqb w 2) 1 0) f (omega arith))
-  rooted-code f need w P (now kept t) h o = sym (short-no (need + pick (eqb w 2) 1 0) f (omega (arith, h .1, light w (omega (arith, h .0)))))
-  rooted-code f need w P (now gone t) h o = sym (short-no (need + pick (eqb w 2) 1 0) f (omega (arith, h .1, light w (omega (arith, h .0)))))
-  rooted-code f need w P (now (one a) t) h o = sym (short-no (need + pick (eqb w 2) 1 0) f (omega (arith, h .1, light w (omega (arith, h .0)))))
+  rooted-code f need w P (now kept t) h o = sym (short-no (need + pick (eqb w 2) 1 0) f (omega (arith, h .1, not-two w (omega (arith, h .0)))))
+  rooted-code f need w P (now gone t) h o = sym (short-no (need + pick (eqb w 2) 1 0) f (omega (arith, h .1, not-two w (omega (arith, h .0)))))
+  rooted-code f need w P (now (one a) t) h o = sym (short-no (need + pick (eqb w 2) 1 0) f (omega (arith, h .1, not-two w (omega (arith, h .0)))))
   rooted-code f need w P (now (two a k b) t) c o = go (t .free) (c .1)
     where
-      heavy : _≡_ {A = ℕ} (pick (eqb w 2) 1 0) 1
-      heavy = rw (eq-eqb w 2 (sym (c .0))) refl
+      raises-two : _≡_ {A = ℕ} (pick (eqb w 2) 1 0) 1
+      raises-two = rw (eq-eqb w 2 (sym (c .0))) refl
 
       go : (g : List ℕ) → length f ≡ need + length g →
           code (takePage (refused pagesOut) g t (λ r u. done (withRoot r (filled Pg (suc (suc h)) r (indexRec 0 a ∷ indexRec k b ∷ []) u)))) ≡ shortBy (need + pick (eqb w 2) 1 0) f
-      go [] l = sym (short-yes (need + pick (eqb w 2) 1 0) f (omega (arith, l, heavy)))
-      go (r ∷ g) l = sym (short-no (need + pick (eqb w 2) 1 0) f (omega (arith, l, heavy)))
+      go [] l = sym (short-yes (need + pick (eqb w 2) 1 0) f (omega (arith, l, raises-two)))
+      go (r ∷ g) l = sym (short-no (need + pick (eqb w 2) 1 0) f (omega (arith, l, raises-two)))
 
   -- the key rule, then 10, then 11
-  ground-code : (f : List ℕ) (need w : ℕ) (P : Change → State → Type 0) (r : ℕ) (x y : Bool) (s : PageStep) → (r ≡ 0 → Counted need w f s) → Fate r P s →
+  ground-code : (f : List ℕ) (need w : ℕ) (P : Change → State → Type 0) (r : ℕ) (x y : Bool) (s : PageStep) → (r ≡ 0 → Counted need w f s) → EndedAt r P s →
       code (rooted Pg h (pick (x && (eqb r 0 && y)) (stops indexFull) s)) ≡ pick (eqb r 0) (pick (x && y) indexFull (shortBy (need + pick (eqb w 2) 1 0) f)) r
   unfolding rooted
   ground-code f need w P zero true true s c o = refl
@@ -247,14 +247,14 @@ edit-exact-in Pg rules keep n st G clear e P =
     let H = here Pg rules keep n F st G (λ x. omega arith) in
     let N = names-root Pg rules keep n F st G (λ x. omega arith) in
     let flag = edit-flag Pg keep only st (eqb h tallest) h 0 (suc topKey) (st .root) (G .under) e (omega arith) (omega (arith, P .high)) in
-    let A : keyRule e (tableIn Pg (st .image) h (childOf c)) ≡ 0 → Counted (takesIn Pg keep e (st .image) h (childOf c)) (weightIn Pg keep e (st .image) h (childOf c)) F (editIn Pg keep only false e h 0 (childOf c) st) =
+    let A : keyRule e (tableIn Pg (st .image) h (childOf c)) ≡ 0 → Counted (takesIn Pg keep e (st .image) h (childOf c)) (raisedIn Pg keep e (st .image) h (childOf c)) F (editIn Pg keep only false e h 0 (childOf c) st) =
     edit-counted Pg rules keep n F clear only st h kind 0 (suc topKey) c H e P (omega arith) (omega (arith, P .high)) in
-    let B = edit-fate Pg rules keep n F only st h kind 0 (suc topKey) c H e P (omega arith) (omega (arith, P .high)) in
+    let B = edit-ended Pg rules keep n F only st h kind 0 (suc topKey) c H e P (omega arith) (omega (arith, P .high)) in
     ap (λ (s : PageStep). code (rooted Pg h s)) flag
     ∙ subst (λ (x : ℕ).
     code (rooted Pg h (pick (eqb h tallest && (eqb (keyRule e (tableIn Pg (st .image) h x)) 0 && splitsAll Pg keep e (st .image) h x)) (stops indexFull) (editIn Pg keep only false e h 0 x st)))
     ≡ pick (eqb (keyRule e (tableIn Pg (st .image) h x)) 0) (pick (eqb h tallest && splitsAll Pg keep e (st .image) h x) indexFull
-    (shortBy (takesIn Pg keep e (st .image) h x + pick (eqb (weightIn Pg keep e (st .image) h x) 2) 1 0) F)) (keyRule e (tableIn Pg (st .image) h x))) N
-    (ground-code Pg h F (takesIn Pg keep e (st .image) h (childOf c)) (weightIn Pg keep e (st .image) h (childOf c)) _ (keyRule e (tableIn Pg (st .image) h (childOf c))) (eqb h tallest)
+    (shortBy (takesIn Pg keep e (st .image) h x + pick (eqb (raisedIn Pg keep e (st .image) h x) 2) 1 0) F)) (keyRule e (tableIn Pg (st .image) h x))) N
+    (ground-code Pg h F (takesIn Pg keep e (st .image) h (childOf c)) (raisedIn Pg keep e (st .image) h (childOf c)) _ (keyRule e (tableIn Pg (st .image) h (childOf c))) (eqb h tallest)
     (splitsAll Pg keep e (st .image) h (childOf c)) (editIn Pg keep only false e h 0 (childOf c) st) A B)
     ∙ sym (ground-is Pg keep st e)

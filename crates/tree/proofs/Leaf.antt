@@ -36,7 +36,7 @@ use Rattle.tree.specs.Edits.{Change, PageStep, dropped, editLeaf, gone, 
 use Rattle.tree.specs.Good.{count, hit}
 use Rattle.tree.specs.Grounds.{leafTakes, takes}
 use Rattle.tree.specs.State.{State, withPage}
-use Rattle.tree.proofs.Change.{Held, Holds, Out, lists-sound, nothing, out-ends, out-map, standing, weigh}
+use Rattle.tree.proofs.Change.{Held, Holds, Out, lists-sound, nothing, out-ends, out-map, standing, raised}
 use Rattle.tree.proofs.Child.{Here}
 use Rattle.tree.proofs.Node.{Altered}
 use Rattle.tree.proofs.Puts.{Puts, dropped-gone, dropped-only, dropped-puts, dropped-some, put-ends}
@@ -44,9 +44,9 @@ use Rattle.tree.proofs.Settle.{InnerFor, settled}
 use Rattle.tree.proofs.Takes.{out-counted, put-counted}
 
 -- stopped with g, or if g is 0 stopped with 11 or made with P
-abbrev pub Fate : ℕ → (Change → State → Type 0) → PageStep → Type 0
-Fate zero P s = Out P s
-Fate (suc g) P s = s ≡ stops (suc g)
+abbrev pub EndedAt : ℕ → (Change → State → Type 0) → PageStep → Type 0
+EndedAt zero P s = Out P s
+EndedAt (suc g) P s = s ≡ stops (suc g)
 
 module _ (Pg : PageFormat) (rules : Rules Pg) (keep : ℕ → Pg .Keep) where
   -- ---- a leaf
@@ -112,9 +112,9 @@ module _ (Pg : PageFormat) (rules : Rules Pg) (keep : ℕ → Pg .Keep) where
     unfolding leavesIn gathered
     one-leaf = refl
 
-    leaf-made : (rs : List Rec) (W : Type 0) → Rising lo rs hi → From 1 rs → (ch : Change) (t : State) → Fills ch rs → (weigh ch ≡ 2 → W) →
+    leaf-made : (rs : List Rec) (W : Type 0) → Rising lo rs hi → From 1 rs → (ch : Change) (t : State) → Fills ch rs → (raised ch ≡ 2 → W) →
         Puts Pg keep F st q leafKind rs ch t → Altered Pg keep n F only st 0 lo hi c rs W ch t
-    leaf-made rs W up keys ch t fills heavy P =
+    leaf-made rs W up keys ch t fills raises-two P =
         let S = settled Pg rules n (H .few) (t .image) 0 lo hi (H .high) c (H .entry) (H .low) (H .below) rs
         (All-map (λ (r : Rec). 1 ≤ r .key) (λ (r : Rec). formOk leafKind r ≡ true) form-leaf rs keys) up ch (P .held)
         (λ x. omega (arith, P .pages x, H .apart x, pages-one x)) (inner-none ch (t .image) rs) in
@@ -133,7 +133,7 @@ module _ (Pg : PageFormat) (rules : Rules Pg) (keep : ℕ → Pg .Keep) where
               subst (λ (l : List ℕ). All (Nonempty Pg (t .image)) l ⊎ ((only ≡ true) × (length l ≡ 1))) (sym (S .leaves)) (leaf-filled ch t rs (P .held) fills);
           lost = omega (arith, one-leaf);
           stays = leaf-stays ch rs fills;
-          heavy = heavy;
+          raises-two = raises-two;
         }
 
     put-leaf : (ins : Bool) (j : ℕ) (r : Rec) → RecOk r → 1 ≤ r .key → (rs : List Rec) → made ins j r (Pg .recs p) ≡ rs → 1 ≤ length rs → Rising lo rs hi →
@@ -144,7 +144,7 @@ module _ (Pg : PageFormat) (rules : Rules Pg) (keep : ℕ → Pg .Keep) where
         let P : Change → State → Type 0 = Puts Pg keep F st q leafKind new in
         let s = put Pg keep leafKind false ins j r q st in
         subst (λ (l : List Rec). Out (Altered Pg keep n F only st 0 lo hi c l (takes Pg (keep q) ins (size r) p l ≡ 2)) s) e
-        (out-map (λ ch t. P ch t × (weigh ch ≡ takes Pg (keep q) ins (size r) p new)) (Altered Pg keep n F only st 0 lo hi c new W) s
+        (out-map (λ ch t. P ch t × (raised ch ≡ takes Pg (keep q) ins (size r) p new)) (Altered Pg keep n F only st 0 lo hi c new W) s
         (λ ch t A.
         leaf-made new W (rw e up) (All-made (λ (x : Rec). 1 ≤ x .key) ins j r (Pg .recs p) key leaf-keys) ch t (fills-any ch t new (A .0 .held) (rw e some)) (λ z. sym (A .1) ∙ z) (A .0))
         (out-counted P (takes Pg (keep q) ins (size r) p new) (takes Pg (keep q) ins (size r) p new) (st .free) s (put-counted Pg keep leafKind ins j r q st new refl)
@@ -186,25 +186,25 @@ module _ (Pg : PageFormat) (rules : Rules Pg) (keep : ℕ → Pg .Keep) where
               fresh = tt;
             }))
 
-    pub leaf-fate : (e : Edit) → Proper e → lo ≤ keyOf e → keyOf e < hi → (s : Search) → searched (keyOf e) 0 (Pg .recs p) ≡ s →
-        Fate (keyRule e (Pg .recs p)) (Altered Pg keep n F only st 0 lo hi c (applyEdit e (Pg .recs p)) (leafTakes Pg (keep q) e p ≡ 2)) (editLeaf Pg keep only false e q st s)
+    pub leaf-ended : (e : Edit) → Proper e → lo ≤ keyOf e → keyOf e < hi → (s : Search) → searched (keyOf e) 0 (Pg .recs p) ≡ s →
+        EndedAt (keyRule e (Pg .recs p)) (Altered Pg keep n F only st 0 lo hi c (applyEdit e (Pg .recs p)) (leafTakes Pg (keep q) e p ≡ 2)) (editLeaf Pg keep only false e q st s)
     unfolding editLeaf keyRule holds applyEdit made leafTakes
-    leaf-fate (edits.insert k v) P low high (At j) z =
+    leaf-ended (edits.insert k v) P low high (At j) z =
         let T = search-there k lo (Pg .recs p) hi (H .under .rising) j z in rw (found-some (find k (Pg .recs p)) (T .found)) refl
-    leaf-fate (edits.insert k v) P low high (Missing j) z =
+    leaf-ended (edits.insert k v) P low high (Missing j) z =
         let T = search-missing k lo (Pg .recs p) hi (H .under .rising) j z in
         rw (lacks-find k (Pg .recs p) (T .lacks))
         (put-leaf true j (recOf k v) (record { low = P .high; few = P .short }) (P .low) (add k v (Pg .recs p)) (T .inserted v)
         (omega (arith, ap length (T .inserted v), length-insertAt j (recOf k v) (Pg .recs p)))
         (rising-add k v lo (Pg .recs p) hi (H .under .rising) low high (T .lacks)))
-    leaf-fate (edits.update k v) P low high (At j) z =
+    leaf-ended (edits.update k v) P low high (At j) z =
         let T = search-there k lo (Pg .recs p) hi (H .under .rising) j z in
         rw (found-some (find k (Pg .recs p)) (T .found))
         (put-leaf false j (recOf k v) (record { low = P .high; few = P .short }) (P .low) (replace k v (Pg .recs p)) (T .updated v)
         (omega (arith, ap length (T .updated v), length-set (Pg .recs p) j (recOf k v), T .inside))
         (rising-replace k v lo (Pg .recs p) hi (H .under .rising)))
-    leaf-fate (edits.update k v) P low high (Missing j) z = let T = search-missing k lo (Pg .recs p) hi (H .under .rising) j z in rw (lacks-find k (Pg .recs p) (T .lacks)) refl
-    leaf-fate (edits.delete k) P low high (At j) z =
+    leaf-ended (edits.update k v) P low high (Missing j) z = let T = search-missing k lo (Pg .recs p) hi (H .under .rising) j z in rw (lacks-find k (Pg .recs p) (T .lacks)) refl
+    leaf-ended (edits.delete k) P low high (At j) z =
         let T = search-there k lo (Pg .recs p) hi (H .under .rising) j z in
         rw (found-some (find k (Pg .recs p)) (T .found)) (drop-leaf _ j (T .inside) (without k (Pg .recs p)) (T .deleted) (rising-without k lo (Pg .recs p) hi (H .under .rising)))
-    leaf-fate (edits.delete k) P low high (Missing j) z = let T = search-missing k lo (Pg .recs p) hi (H .under .rising) j z in rw (lacks-find k (Pg .recs p) (T .lacks)) refl
+    leaf-ended (edits.delete k) P low high (Missing j) z = let T = search-missing k lo (Pg .recs p) hi (H .under .rising) j z in rw (lacks-find k (Pg .recs p) (T .lacks)) refl

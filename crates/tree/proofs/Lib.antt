@@ -36,7 +36,7 @@ pub mod LeafCopy
 pub mod LeafSplit
 pub mod AtLeaf
 pub mod Moves
-pub mod Weights
+pub mod PagesTaken
 pub mod Reasons
 pub mod Numbers
 pub mod Keys

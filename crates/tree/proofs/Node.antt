@@ -27,7 +27,7 @@ use Rattle.tree.specs.Edits.{Change, absorbed, gone, kept, one, two}
 use Rattle.tree.specs.Good.{count, hit}
 use Rattle.tree.specs.State.{State}
 use Rattle.tree.proofs.Absorb.{absorbed-out, newer}
-use Rattle.tree.proofs.Change.{Held, Holds, NewIn, Out, SepsOk, Some, lists-sound, out-map, stand, weigh}
+use Rattle.tree.proofs.Change.{Held, Holds, NewIn, Out, SepsOk, Some, lists-sound, out-map, stand, raised}
 use Rattle.tree.proofs.Child.{Here, Parts, entry-forms}
 use Rattle.tree.proofs.Counts.{among-count, count-joined, hit-self, inside-most}
 use Rattle.tree.proofs.Puts.{Puts}
@@ -41,7 +41,7 @@ stand-most c low gone = omega arith
 stand-most c low (one a) = omega arith
 stand-most c low (two a k b) = omega arith
 
-stand-two : (c : Rec) (low : ℕ) (ch : Change) → 2 ≤ length (stand c low ch) → weigh ch ≡ 2
+stand-two : (c : Rec) (low : ℕ) (ch : Change) → 2 ≤ length (stand c low ch) → raised ch ≡ 2
 stand-two c low kept h = absurd (omega arith)
 stand-two c low gone h = absurd (omega arith)
 stand-two c low (one a) h = absurd (omega arith)
@@ -65,7 +65,7 @@ module _ (Pg : PageFormat) (keep : ℕ → Pg .Keep) where
     pub lost : length (leavesIn Pg (st .image) h (childOf c)) ≤ suc (length (joined (λ y. leavesIn Pg (t .image) h y) (stand c lo ch)))
     pub stays : only ≡ true → ch ≡ gone → ⊥
     -- two pages stand for it only if W holds
-    pub heavy : weigh ch ≡ 2 → W
+    pub raises-two : raised ch ≡ 2 → W
 
 module _ (Pg : PageFormat) (rules : Rules Pg) (keep : ℕ → Pg .Keep) where
   -- index records that have no room in one page are more than a page lists
@@ -247,11 +247,11 @@ module _ (Pg : PageFormat) (rules : Rules Pg) (keep : ℕ → Pg .Keep) where
             full = full-above (S .leaves) A new-full;
             lost = omega (arith, ap length (S .leaves), ap length (A .leaves), new-length, K .leaves, M .lost);
             stays = λ z y. M .stays z (gone-child (held-gone d u (P .held) y));
-            heavy = λ z.
+            raises-two = λ z.
                 let over = entries-over (pre ++ (ds ++ post)) new-entries (P .split-over z) in
                 let long : length (pre ++ (ds ++ post)) ≡ length pre + (length ds + length post) = length-append pre (ds ++ post) ∙ omega (arith, length-append ds post) in (
                   omega (arith, long, over, length-append pre (c ∷ post), stand-most c low ch, ap length (K .shape)),
-                  M .heavy (stand-two c low ch (omega (arith, long, over, length-append pre (c ∷ post), K .most))),
+                  M .raises-two (stand-two c low ch (omega (arith, long, over, length-append pre (c ∷ post), K .most))),
                 );
           }
 

@@ -23,7 +23,7 @@ use Rattle.tree.specs.Edits.{Change, PageStep, copied, dropped, gone, is
 use Rattle.tree.specs.Good.{FitsIn, count, hit, inside}
 use Rattle.tree.specs.Grounds.{takes}
 use Rattle.tree.specs.State.{State, filled, withPage}
-use Rattle.tree.proofs.Change.{Ends, Held, Holds, NewIn, standing, taken-ends, weigh}
+use Rattle.tree.proofs.Change.{Ends, Held, Holds, NewIn, standing, taken-ends, raised}
 use Rattle.tree.proofs.Counts.{hit-apart, hit-self, inside-most}
 use Rattle.tree.proofs.Split.{halves-in}
 use Rattle.tree.proofs.States.{Filled, Leads, filled-facts, leads-take, leads-trans, leads-write, write-here, write-other}
@@ -96,7 +96,7 @@ dropped-is Pg P only j q st a b = by-test (λ d. P (now d (withPage q (Pg .remov
 module _ (Pg : PageFormat) (keep : ℕ → Pg .Keep) where
   -- what a put of one record into page q leaves: the change c, and the state t
   pub record Puts (F : List ℕ) (s : State) (q kind : ℕ) (rs : List Rec) (c : Change) (t : State) : Type 0 where
-    pub split-over : weigh c ≡ 2 → fitsIn (Pg .cap) rs ≡ false
+    pub split-over : raised c ≡ 2 → fitsIn (Pg .cap) rs ≡ false
     pub leads : Leads Pg keep F s t
     pub root : t .root ≡ s .root
     pub other : (x : ℕ) → hit x q + count x (s .free) ≡ 0 → pageOf (t .image) x ≡ pageOf (s .image) x

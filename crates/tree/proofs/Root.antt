@@ -31,10 +31,10 @@ use Rattle.tree.specs.State.{State, Step, done, filled, refused, takePag
 use Rattle.tree.proofs.Change.{Holds, Out, stand}
 use Rattle.tree.proofs.Child.{Here, entry-forms}
 use Rattle.tree.proofs.Counts.{among-count, count-append, hit-self, inside-most, inside-range}
-use Rattle.tree.proofs.Descent.{Splits, edit-fate, splits-all, splitsAll}
+use Rattle.tree.proofs.Descent.{Splits, edit-ended, splits-all, splitsAll}
 use Rattle.tree.proofs.Flag.{edit-flag}
 use Rattle.tree.proofs.Height.{good-from, height-is, height-range, pagesAt, tableAt, tallest-kind}
-use Rattle.tree.proofs.Leaf.{Fate}
+use Rattle.tree.proofs.Leaf.{EndedAt}
 use Rattle.tree.proofs.Node.{Altered}
 use Rattle.tree.proofs.Settle.{PageUnder, lists-under}
 use Rattle.tree.proofs.States.{Filled, Leads, filled-facts, leads-free, leads-root, leads-take, leads-trans}
@@ -148,9 +148,9 @@ module _ (Pg : PageFormat) (rules : Rules Pg) (keep : ℕ → Pg .Keep) where
         full-two v B (inl a) = inr (B .full a)
         full-two v B (inr z) = inl (ap length (B .leaves) ∙ z .1)
 
-        topped : (r : ℕ) (f : List ℕ) → t .free ≡ r ∷ f → Made Pg keep n F e st (withRoot r (filled Pg (suc (suc h)) r (indexRec 0 a ∷ indexRec k b ∷ []) (record { image = t .image; root = t .root; free = f })))
+        root-over : (r : ℕ) (f : List ℕ) → t .free ≡ r ∷ f → Made Pg keep n F e st (withRoot r (filled Pg (suc (suc h)) r (indexRec 0 a ∷ indexRec k b ∷ []) (record { image = t .image; root = t .root; free = f })))
         unfolding filled
-        topped r f z =
+        root-over r f z =
             let u : State = record { image = t .image; root = t .root; free = f } in
             let v = filled Pg (suc (suc h)) r ds u in
             let w = withRoot r v in
@@ -189,13 +189,13 @@ module _ (Pg : PageFormat) (rules : Rules Pg) (keep : ℕ → Pg .Keep) where
               leads = leads;
             }
 
-        new-top : Ended 0 (Made Pg keep n F e st) (rooted Pg h (now (two a k b) t))
+        root-above : Ended 0 (Made Pg keep n F e st) (rooted Pg h (now (two a k b) t))
         unfolding rooted taken takePage
-        new-top = go (t .free) refl
+        root-above = go (t .free) refl
           where
             go : (f : List ℕ) → t .free ≡ f → Ended 0 (Made Pg keep n F e st) (takePage (refused pagesOut) f t (λ r u. done (withRoot r (filled Pg (suc (suc h)) r (indexRec 0 a ∷ indexRec k b ∷ []) u))))
             go [] z = refl
-            go (r ∷ f) z = topped r _ (search z)
+            go (r ∷ f) z = root-over r _ (search z)
 
       abbrev rule : ℕ
       rule = keyRule e (tableIn Pg (st .image) h (st .root))
@@ -215,10 +215,10 @@ module _ (Pg : PageFormat) (rules : Rules Pg) (keep : ℕ → Pg .Keep) where
           same-height (one a) t (withRoot a t) (indexRec 0 a) M refl refl refl (sym (index-child 0 a (omega (arith, inside-range n a page, G .few))))
           (leads-trans Pg rules keep F st t (withRoot a t) (M .leads) (leads-root Pg rules keep F t a (omega (arith, sub a))))
       made-root (now (two a k b) t) M spare =
-          new-top (spare (subst (λ (x : ℕ). splitsAll Pg keep e (st .image) h x ≡ true) names-root (splits-all Pg keep e (st .image) h (childOf c) (M .heavy refl)))) a k b t M
+          root-above (spare (subst (λ (x : ℕ). splitsAll Pg keep e (st .image) h x ≡ true) names-root (splits-all Pg keep e (st .image) h (childOf c) (M .raises-two refl)))) a k b t M
 
       -- the key rule, 10, 11, or made
-      ended : (r : ℕ) (x y : Bool) (s : PageStep) → eqb h tallest ≡ x → splitsAll Pg keep e (st .image) h (st .root) ≡ y → Fate r P s →
+      ended : (r : ℕ) (x y : Bool) (s : PageStep) → eqb h tallest ≡ x → splitsAll Pg keep e (st .image) h (st .root) ≡ y → EndedAt r P s →
           Ended (pick (eqb r 0) (pick (x && y) indexFull 0) r) (Made Pg keep n F e st) (rooted Pg h (pick (x && (eqb r 0 && y)) (stops indexFull) s))
       unfolding rooted
       ended zero true true s f g o = refl
@@ -230,10 +230,10 @@ module _ (Pg : PageFormat) (rules : Rules Pg) (keep : ℕ → Pg .Keep) where
           Ended (pick (eqb (keyRule e (tableAt Pg st)) 0) (pick (overflows Pg keep e st) indexFull 0) (keyRule e (tableAt Pg st))) (Made Pg keep n F e st) (editedIn Pg keep e st)
       unfolding editedIn overflows
       edited-ended proper =
-          let a = edit-fate Pg rules keep n F only st h (omega (arith, range .1, tallest-kind)) 0 (suc topKey) c here e proper (omega arith) (omega (arith, proper .high)) in
-          let b : Fate rule P (editIn Pg keep only false e h 0 (st .root) st) =
+          let a = edit-ended Pg rules keep n F only st h (omega (arith, range .1, tallest-kind)) 0 (suc topKey) c here e proper (omega arith) (omega (arith, proper .high)) in
+          let b : EndedAt rule P (editIn Pg keep only false e h 0 (st .root) st) =
           subst (λ (x : ℕ).
-          Fate (keyRule e (tableIn Pg (st .image) h x))
+          EndedAt (keyRule e (tableIn Pg (st .image) h x))
           (Altered Pg keep n F only st h 0 (suc topKey) c (applyEdit e (tableIn Pg (st .image) h x)) (Splits Pg keep e (st .image) h (childOf c)))
           (editIn Pg keep only false e h 0 x st)) names-root a in
           let flag = edit-flag Pg keep only st (eqb h tallest) h 0 (suc topKey) (st .root) (G .under) e (omega arith) (omega (arith, proper .high)) in

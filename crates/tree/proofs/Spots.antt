@@ -1,4 +1,4 @@
--- A leaf of a good state and its place in the index: what both show, and that their pages are neither each other nor free. Today's one height.
+-- A leaf of a good state and its place in the index: what both show, and that their pages are neither each other nor free. One height.
 -- Assumes nothing.
 use Prim.Native.Nat.{ℕ, suc, _+_, _*_, _≤_, _<_}
 use mathlib.Core.Path.{_≡_, refl, ap, _∙_, subst}

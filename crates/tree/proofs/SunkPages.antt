@@ -26,9 +26,9 @@ use Rattle.tree.specs.Good.{count, inside}
 use Rattle.tree.specs.Grounds.{nextSlot}
 use Rattle.tree.specs.State.{State}
 use Rattle.tree.proofs.Child.{Here, Parts, parts}
-use Rattle.tree.proofs.Descent.{Splits, edit-fate}
+use Rattle.tree.proofs.Descent.{Splits, edit-ended}
 use Rattle.tree.proofs.SameTree.{own-page}
-use Rattle.tree.proofs.Leaf.{Fate}
+use Rattle.tree.proofs.Leaf.{EndedAt}
 use Rattle.tree.proofs.Node.{Altered, lists-own, no-more, own-same}
 use Rattle.tree.proofs.Routes.{down}
 use Rattle.tree.proofs.Sinks.{After, Sinks, absorbed-sinks, dropped-sinks, put-sinks}
@@ -46,11 +46,11 @@ not-kept : (d : Change) → isChange d ≡ 1 → d ≡ kept → ⊥
 not-kept d m e = omega (arith, ap isChange e)
 
 -- what is known of a step that is made
-pub fate-after : (g : ℕ) (P : Change → State → Type 0) (s : PageStep) → Fate g P s → After P s
-fate-after zero P (now c t) o = o
-fate-after zero P (stops k) o = tt
-fate-after (suc g) P (now c t) o = let z : _≡_ {A = ℕ} 0 1 = cc in absurd (omega arith)
-fate-after (suc g) P (stops k) o = tt
+pub ended-after : (g : ℕ) (P : Change → State → Type 0) (s : PageStep) → EndedAt g P s → After P s
+ended-after zero P (now c t) o = o
+ended-after zero P (stops k) o = tt
+ended-after (suc g) P (now c t) o = let z : _≡_ {A = ℕ} 0 1 = cc in absurd (omega arith)
+ended-after (suc g) P (stops k) o = tt
 
 module _ (Pg : PageFormat) (sinking : Sinking Pg) where
   -- a page under page q of height h has sunk
@@ -147,5 +147,5 @@ module _ (Pg : PageFormat) (rules : Rules Pg) (keep : ℕ → Pg .Keep) (sinking
       rw (slot, D .is, D .start)
       (node-sinks n F only st h lo hi c H (D .pre) (D .here) (D .post) K small (applyEdit e t) W step
       (edit-sinks h (omega arith) n F only st from to (D .here) (K .child) e P (D .low) (D .high))
-      (fate-after (keyRule e t) (Altered Pg keep n F only st h from to (D .here) (applyEdit e t) W) step
-      (edit-fate Pg rules keep n F only st h (omega arith) from to (D .here) (K .child) e P (D .low) (D .high))))
+      (ended-after (keyRule e t) (Altered Pg keep n F only st h from to (D .here) (applyEdit e t) W) step
+      (edit-ended Pg rules keep n F only st h (omega arith) from to (D .here) (K .child) e P (D .low) (D .high))))

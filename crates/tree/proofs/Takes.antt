@@ -14,15 +14,15 @@ use Rattle.edit.proofs.General.{by-test, by-tests}
 use Rattle.tree.specs.Edits.{Change, PageStep, copied, gone, isFull, kept, moved, now, one, put, split, stops, two}
 use Rattle.tree.specs.Grounds.{takes}
 use Rattle.tree.specs.State.{State, filled}
-use Rattle.tree.proofs.Change.{Ends, Out, taken-ends, weigh}
+use Rattle.tree.proofs.Change.{Ends, Out, taken-ends, raised}
 
 -- `need` pages are taken and the page above takes w records; or fewer are free
 abbrev pub Counted : ℕ → ℕ → List ℕ → PageStep → Type 0
-Counted need w f (now c t) = (weigh c ≡ w) × (length f ≡ need + length (t .free))
+Counted need w f (now c t) = (raised c ≡ w) × (length f ≡ need + length (t .free))
 Counted need w f (stops k) = length f < need
 
--- a step that is made with P weighs w
-pub out-counted : (P : Change → State → Type 0) (need w : ℕ) (f : List ℕ) (s : PageStep) → Counted need w f s → Out P s → Out (λ c t. P c t × (weigh c ≡ w)) s
+-- a step that is made with P raises w
+pub out-counted : (P : Change → State → Type 0) (need w : ℕ) (f : List ℕ) (s : PageStep) → Counted need w f s → Out P s → Out (λ c t. P c t × (raised c ≡ w)) s
 out-counted P need w f (now c t) h o = (o, h .0)
 out-counted P need w f (stops k) h o = o
 
@@ -37,19 +37,19 @@ NotGone (stops k) = Unit {0}
 module _ (Pg : PageFormat) (keep : ℕ → Pg .Keep) where
   -- ---- one record put
 
-  ends-counted : (need w : ℕ) (f : List ℕ) (s : PageStep) → Ends (λ c t. weigh c ≡ w) f need s → Counted need w f s
+  ends-counted : (need w : ℕ) (f : List ℕ) (s : PageStep) → Ends (λ c t. raised c ≡ w) f need s → Counted need w f s
   ends-counted need w f (now c t) h = h
   ends-counted need w f (stops k) h = h .1
 
   copied-counted : (kind : ℕ) (rs : List Rec) (st : State) → Counted 1 1 (st .free) (copied Pg kind rs st)
   unfolding copied filled
-  copied-counted kind rs st = ends-counted 1 1 (st .free) (copied Pg kind rs st) (taken-ends (λ c t. weigh c ≡ 1) st 0 _ (λ p f e. (refl, omega arith)))
+  copied-counted kind rs st = ends-counted 1 1 (st .free) (copied Pg kind rs st) (taken-ends (λ c t. raised c ≡ 1) st 0 _ (λ p f e. (refl, omega arith)))
 
   split-counted : (kind : ℕ) (rs : List Rec) (st : State) → Counted 2 2 (st .free) (split Pg kind rs st)
   unfolding split filled
   split-counted kind rs st =
       ends-counted 2 2 (st .free) (split Pg kind rs st)
-      (taken-ends (λ c t. weigh c ≡ 2) st 1 _ (λ p f e. taken-ends (λ c t. weigh c ≡ 2) (record { image = st .image; root = st .root; free = f }) 0 _ (λ q g d. (refl, omega arith))))
+      (taken-ends (λ c t. raised c ≡ 2) st 1 _ (λ p f e. taken-ends (λ c t. raised c ≡ 2) (record { image = st .image; root = st .root; free = f }) 0 _ (λ q g d. (refl, omega arith))))
 
   -- the records that are moved
   moved-counted : (kind : ℕ) (st : State) (rs l : List Rec) → l ≡ rs → Counted (pick (fitsIn (Pg .cap) rs) 1 2) (pick (fitsIn (Pg .cap) rs) 1 2) (st .free) (moved Pg kind false l st)

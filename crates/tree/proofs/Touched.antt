@@ -29,10 +29,10 @@ use Rattle.tree.specs.Grounds.{overflows}
 use Rattle.tree.specs.State.{State, Step, begin, done, filled, refused, takePage, taken, withRoot}
 use Rattle.tree.specs.Whole.{editsOn, finished, onward, editsFromIn}
 use Rattle.tree.proofs.Counts.{hit-self, inside-most}
-use Rattle.tree.proofs.Descent.{Splits, edit-fate, splitsAll}
+use Rattle.tree.proofs.Descent.{Splits, edit-ended, splitsAll}
 use Rattle.tree.proofs.Flag.{edit-flag}
 use Rattle.tree.proofs.Height.{height-range, pagesAt, tableAt, tallest-kind}
-use Rattle.tree.proofs.SunkPages.{SinksUnder, Sunk, edit-sinks, fate-after}
+use Rattle.tree.proofs.SunkPages.{SinksUnder, Sunk, edit-sinks, ended-after}
 use Rattle.tree.proofs.Node.{Altered}
 use Rattle.tree.proofs.Outcomes.{OutcomesIn, RunIn, outcomes-in}
 use Rattle.tree.proofs.Root.{Ended, Made, edited-ended, here, names-root}
@@ -94,8 +94,8 @@ module _ (Pg : PageFormat) (rules : Rules Pg) (keep : ℕ → Pg .Keep) (sinking
         let step = editIn Pg keep only false e h 0 (childOf c) st in
         let made : Touched Pg sinking F st (rooted Pg h step) =
         rooted-touches (applyEdit e t) W step (edit-sinks Pg rules keep sinking h small n F only st 0 (suc topKey) c H e P (omega arith) (omega (arith, P .high)))
-        (fate-after (keyRule e t) (Altered Pg keep n F only st h 0 (suc topKey) c (applyEdit e t) W) step
-        (edit-fate Pg rules keep n F only st h small 0 (suc topKey) c H e P (omega arith) (omega (arith, P .high)))) in
+        (ended-after (keyRule e t) (Altered Pg keep n F only st h 0 (suc topKey) c (applyEdit e t) W) step
+        (edit-ended Pg rules keep n F only st h small 0 (suc topKey) c H e P (omega arith) (omega (arith, P .high)))) in
         flagged (eqb h tallest) (subst (λ (x : ℕ). Touched Pg sinking F st (rooted Pg h (editIn Pg keep only false e h 0 x st))) is-root made) P
       where
         stopped : (b : Bool) (s : PageStep) → Touched Pg sinking F st (rooted Pg h s) → Touched Pg sinking F st (rooted Pg h (pick b (stops indexFull) s))

@@ -73,28 +73,28 @@ takesAbove Pg x i m zero = 0
 takesAbove Pg x i m (suc zero) = firstTakes Pg x
 takesAbove Pg x i m (suc (suc w)) = firstTakes Pg x + secondTakes Pg (roomAfter Pg x i m) m
 
-unfoldable pub weightAbove : (Pg : PageFormat) → Pg .Room → ℕ → ℕ → ℕ → ℕ
-weightAbove Pg x i m zero = 0
-weightAbove Pg x i m (suc zero) = firstTakes Pg x
-weightAbove Pg x i m (suc (suc w)) = let s = secondTakes Pg (roomAfter Pg x i m) m in pick (eqb s 0) (firstTakes Pg x) s
+unfoldable pub raisedAbove : (Pg : PageFormat) → Pg .Room → ℕ → ℕ → ℕ → ℕ
+raisedAbove Pg x i m zero = 0
+raisedAbove Pg x i m (suc zero) = firstTakes Pg x
+raisedAbove Pg x i m (suc (suc w)) = let s = secondTakes Pg (roomAfter Pg x i m) m in pick (eqb s 0) (firstTakes Pg x) s
 
 -- the new records that the page above q takes, and the pages taken at q and under it
-unfoldable pub weightIn : (Pg : PageFormat) → (ℕ → Pg .Keep) → Edit → List ℕ → ℕ → ℕ → ℕ
-weightIn Pg keep e img zero q = leafTakes Pg (keep q) e (pageOf img q)
-weightIn Pg keep e img (suc h) q =
-    weightAbove Pg (Pg .room (keep q) (pageOf img q)) (nextSlot Pg (keyOf e) img q) (length (recordsAt Pg img q)) (weightIn Pg keep e img h (nextPage Pg (keyOf e) img q))
+unfoldable pub raisedIn : (Pg : PageFormat) → (ℕ → Pg .Keep) → Edit → List ℕ → ℕ → ℕ → ℕ
+raisedIn Pg keep e img zero q = leafTakes Pg (keep q) e (pageOf img q)
+raisedIn Pg keep e img (suc h) q =
+    raisedAbove Pg (Pg .room (keep q) (pageOf img q)) (nextSlot Pg (keyOf e) img q) (length (recordsAt Pg img q)) (raisedIn Pg keep e img h (nextPage Pg (keyOf e) img q))
 
 unfoldable pub takesIn : (Pg : PageFormat) → (ℕ → Pg .Keep) → Edit → List ℕ → ℕ → ℕ → ℕ
 takesIn Pg keep e img zero q = leafTakes Pg (keep q) e (pageOf img q)
 takesIn Pg keep e img (suc h) q =
     takesIn Pg keep e img h (nextPage Pg (keyOf e) img q)
-    + takesAbove Pg (Pg .room (keep q) (pageOf img q)) (nextSlot Pg (keyOf e) img q) (length (recordsAt Pg img q)) (weightIn Pg keep e img h (nextPage Pg (keyOf e) img q))
+    + takesAbove Pg (Pg .room (keep q) (pageOf img q)) (nextSlot Pg (keyOf e) img q) (length (recordsAt Pg img q)) (raisedIn Pg keep e img h (nextPage Pg (keyOf e) img q))
 
 -- and one more where the root is split
 unfoldable pub takesEdit : (Pg : PageFormat) → (ℕ → Pg .Keep) → Edit → State → ℕ
 takesEdit Pg keep e st =
     let h = heightIn Pg (st .image) (st .root) in
-    takesIn Pg keep e (st .image) h (st .root) + pick (eqb (weightIn Pg keep e (st .image) h (st .root)) 2) 1 0
+    takesIn Pg keep e (st .image) h (st .root) + pick (eqb (raisedIn Pg keep e (st .image) h (st .root)) 2) 1 0
 
 -- ---- the ground
 

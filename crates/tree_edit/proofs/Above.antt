@@ -28,7 +28,7 @@ use Rattle.tree.specs.Edits.{Change, PageStep, now, stops, kept, gone, one, two
 use Rattle.tree.specs.Good.{count}
 use Rattle.tree.proofs.Counts.{hit-self, inside-most}
 use Rattle.tree.proofs.States.{leads-free}
-use Rattle.tree.proofs.Change.{Out, Holds, Halves, weigh, stand, SepsOk, out-ends}
+use Rattle.tree.proofs.Change.{Out, Holds, Halves, raised, stand, SepsOk, out-ends}
 use Rattle.tree.proofs.Puts.{Puts, put-ends, dropped-puts}
 use Rattle.tree.proofs.Absorb.{absorbed-out}
 use Rattle.tree_edit.specs.Steps.{stateOf, turnOf, NotTwo, upward, recBy, madeBy}
@@ -55,10 +55,10 @@ made-out P Q (now c t) f h = f c t h
 made-out P Q (stops k) f h = tt
 
 -- where a split is refused, what is made is not one
-not-split : (P : Change → State → Type 0) (a b : Bool) (copy over : PageStep) (s : State) → ((c : Change) (t : State) → P c t → weigh c ≡ 2 → b ≡ false) →
-    Made P (pick a (pick b copy over) (now kept s)) → Made (λ c t. P c t × (weigh c ≡ 2 → ⊥)) (pick a (pick b copy (stops 10)) (now kept s))
+not-split : (P : Change → State → Type 0) (a b : Bool) (copy over : PageStep) (s : State) → ((c : Change) (t : State) → P c t → raised c ≡ 2 → b ≡ false) →
+    Made P (pick a (pick b copy over) (now kept s)) → Made (λ c t. P c t × (raised c ≡ 2 → ⊥)) (pick a (pick b copy (stops 10)) (now kept s))
 not-split P false b copy over s h m = (m, λ z. omega arith)
-not-split P true true copy over s h m = made-map P (λ c t. P c t × (weigh c ≡ 2 → ⊥)) copy (λ c t p. (p, λ z. true≢false (h c t p z))) m
+not-split P true true copy over s h m = made-map P (λ c t. P c t × (raised c ≡ 2 → ⊥)) copy (λ c t p. (p, λ z. true≢false (h c t p z))) m
 not-split P true false copy over s h m = tt
 
 -- ---- what an edit of a page under the root leaves
@@ -76,7 +76,7 @@ pub record After (st : State) (ch : Change) (t : State) : Type 0 where
   pub same : pageOf (t .image) (st .root) ≡ pageOf (st .image) (st .root)
   pub free : (x : ℕ) → count x (t .free) ≤ count x (st .free)
   pub seps : SepFits ch
-  pub spare : weigh ch ≡ 2 → length (records (pageOf (st .image) (st .root))) < slotCount
+  pub spare : raised ch ≡ 2 → length (records (pageOf (st .image) (st .root))) < slotCount
 
 first-fits : (l : List Rec) → All RecOk l → firstKey l 0 ≤ topKey
 first-fits [] h = omega arith
@@ -104,7 +104,7 @@ module _ {n : ℕ} {st : State} {c : Child} (at : AtChild n st c) where
       let L : Lists format1 (pageOf (t .image) b) leafKind b (H .right) = H .right-page .lists in
       omega (arith, H .sep, first-fits (H .right) (subst (All RecOk) (L .recs) (records-ok (pageOf (t .image) b) (L .laid))))
 
-  puts-after : (ch : Change) (t : State) (rs : List Rec) → Puts format1 noKeep (st .free) st q leafKind rs ch t → (weigh ch ≡ 2 → length cs < slotCount) → After st ch t
+  puts-after : (ch : Change) (t : State) (rs : List Rec) → Puts format1 noKeep (st .free) st q leafKind rs ch t → (raised ch ≡ 2 → length cs < slotCount) → After st ch t
   puts-after ch t rs P spare =
       record {
         long = P .leads .long;
@@ -129,7 +129,7 @@ module _ {n : ℕ} {st : State} {c : Child} (at : AtChild n st c) where
         (put-ends format1 format1-rules noKeep n (at .good .few) (st .free) st (at .good .size) q leafKind (omega arith) old holds (λ x. omega (arith, child-apart at x)) (λ x. omega arith)
         (new .ins) (new .at) (recBy new v) (can .good) (omega (arith, can .place)))
 
-    refuses : Made (λ ch t. P ch t × (weigh ch ≡ 2 → ⊥)) (put format1 noKeep leafKind true (new .ins) (new .at) (recBy new v) q st)
+    refuses : Made (λ ch t. P ch t × (raised ch ≡ 2 → ⊥)) (put format1 noKeep leafKind true (new .ins) (new .at) (recBy new v) q st)
     unfolding put moved
     refuses =
         not-split P (isFull format1 tt (new .ins) (size (recBy new v)) (pageOf (st .image) q)) (fitsIn slotCount rs) (copied format1 leafKind rs st) (split format1 leafKind rs st)
@@ -148,7 +148,7 @@ module _ {n : ℕ} {st : State} {c : Child} (at : AtChild n st c) where
     put-after false e =
         made-out P (After st) (put format1 noKeep leafKind false (new .ins) (new .at) (recBy new v) q st) (λ ch t p. puts-after ch t rs p (λ y. leb-false slotCount (length cs) (sym e))) out
     put-after true e =
-        made-map (λ ch t. P ch t × (weigh ch ≡ 2 → ⊥)) (After st) (put format1 noKeep leafKind true (new .ins) (new .at) (recBy new v) q st)
+        made-map (λ ch t. P ch t × (raised ch ≡ 2 → ⊥)) (After st) (put format1 noKeep leafKind true (new .ins) (new .at) (recBy new v) q st)
         (λ ch t p. puts-after ch t rs (p .0) (λ y. absurd (p .1 y))) refuses
 
   -- ---- a record dropped from it
@@ -213,7 +213,7 @@ module _ {n : ℕ} {st : State} {c : Child} (at : AtChild n st c) where
     stand-entries (one a) = (index-entry (c .low) a, tt)
     stand-entries (two a k b) = (index-entry (c .low) a, (index-entry k b, tt))
 
-    stand-few : (ch : Change) → (weigh ch ≡ 2 → length cs < slotCount) → length pre + (length (stand d (c .low) ch) + length post) ≤ slotCount
+    stand-few : (ch : Change) → (raised ch ≡ 2 → length cs < slotCount) → length pre + (length (stand d (c .low) ch) + length post) ≤ slotCount
     stand-few kept h = omega (arith, few, length-append pre (d ∷ post))
     stand-few gone h = omega (arith, few, length-append pre (d ∷ post))
     stand-few (one a) h = omega (arith, few, length-append pre (d ∷ post))
@@ -236,14 +236,14 @@ module _ {n : ℕ} {st : State} {c : Child} (at : AtChild n st c) where
     seps-ok (one a) h = root-index at .low
     seps-ok (two a k b) h = (root-index at .low, h)
 
-    root-few : Made (λ e u. weigh e ≡ 2 → ⊥) (absorbed format1 noKeep indexKind (c .slot) (c .low) (st .root) ch t)
+    root-few : Made (λ e u. raised e ≡ 2 → ⊥) (absorbed format1 noKeep indexKind (c .slot) (c .low) (st .root) ch t)
     root-few =
         let I = index-after ch t a in
         let long : length pre ≡ c .slot = omega (arith, length-take (c .slot) cs, at .slot) in
         let L : Holds format1 (t .image) indexKind (st .root) (pre ++ d ∷ post) =
         record { lists = record { laid = I .lists .laid; kind = I .lists .kind; own = I .lists .own; recs = ap records (a .same) ∙ shape } } in
-        subst (λ (i : ℕ). Made (λ e u. weigh e ≡ 2 → ⊥) (absorbed format1 noKeep indexKind i (c .low) (st .root) ch t)) long
-        (made-out _ (λ e u. weigh e ≡ 2 → ⊥) (absorbed format1 noKeep indexKind (length pre) (c .low) (st .root) ch t) (λ e u p z. true≢false (sym new-fits ∙ p .0 .split-over z))
+        subst (λ (i : ℕ). Made (λ e u. raised e ≡ 2 → ⊥) (absorbed format1 noKeep indexKind i (c .low) (st .root) ch t)) long
+        (made-out _ (λ e u. raised e ≡ 2 → ⊥) (absorbed format1 noKeep indexKind (length pre) (c .low) (st .root) ch t) (λ e u p z. true≢false (sym new-fits ∙ p .0 .split-over z))
         (absorbed-out format1 format1-rules noKeep n (I .few) (t .free) t (I .long) (st .root) indexKind (omega arith) pre d post L all (I .apart) (λ x. omega arith) (c .low) ch (seps-ok ch (a .seps))))
 
   module _ (before w : List ℕ) (r : Turned) (s : PageStep) (turn : turnOf before w (st .root) r ≡ s) (m : Made (After st) s) where
@@ -269,9 +269,9 @@ module _ {n : ℕ} {st : State} {c : Child} (at : AtChild n st c) where
         turnOf before w2 (st .root) above ≡ onto (turnOf before w (st .root) r) (λ x u. absorbed format1 noKeep indexKind (c .slot) (c .low) (st .root) x u) → NotTwo above
     unfolding onto
     root-stays w2 above e p k b top z =
-        subst (Made (λ d u. weigh d ≡ 2 → ⊥)) (sym e ∙ ap (turnOf before w2 (st .root)) z) (onward (turnOf before w (st .root) r) (subst (Made (After st)) (sym turn) m)) refl
+        subst (Made (λ d u. raised d ≡ 2 → ⊥)) (sym e ∙ ap (turnOf before w2 (st .root)) z) (onward (turnOf before w (st .root) r) (subst (Made (After st)) (sym turn) m)) refl
       where
-        onward : (y : PageStep) → Made (After st) y → Made (λ d u. weigh d ≡ 2 → ⊥) (onto y (λ x u. absorbed format1 noKeep indexKind (c .slot) (c .low) (st .root) x u))
+        onward : (y : PageStep) → Made (After st) y → Made (λ d u. raised d ≡ 2 → ⊥) (onto y (λ x u. absorbed format1 noKeep indexKind (c .slot) (c .low) (st .root) x u))
         onward (stops k) a = tt
         onward (now ch t) a = root-few ch t a
 

@@ -1,4 +1,4 @@
--- The pages that an edit takes, at today's one height: those of its leaf, and one more where the index has no room for their records; and when a 29th index record is refused.
+-- The pages that an edit takes, at one height: those of its leaf, and one more where the index has no room for their records; and when a 29th index record is refused.
 -- Assumes nothing.
 use Prim.Native.Nat.{ℕ, zero, suc, _+_, _-_, _*_, _≤_, _<_}
 use mathlib.Core.Path.{_≡_, refl, sym, ap, _∙_}
@@ -18,7 +18,7 @@ use Rattle.edit.specs.EditList.{Edit, insert, update, delete, keyOf}
 use Rattle.edit.proofs.General.{by-test}
 use Rattle.tree.specs.State.{State}
 use Rattle.tree.specs.Edits.{isFull, noKeep}
-use Rattle.tree.specs.Grounds.{nextSlot, nextPage, leafUnder, fullIn, takes, leafTakes, firstTakes, roomAfter, secondTakes, takesAbove, weightAbove, weightIn, takesIn, takesEdit, overflows, leafOf}
+use Rattle.tree.specs.Grounds.{nextSlot, nextPage, leafUnder, fullIn, takes, leafTakes, firstTakes, roomAfter, secondTakes, takesAbove, raisedAbove, raisedIn, takesIn, takesEdit, overflows, leafOf}
 use Rattle.tree.specs.Reasons.{pagesFor}
 
 -- ---- a leaf takes at most two
@@ -42,17 +42,17 @@ total-entries zero = refl
 total-entries (suc m) = omega (arith, total-entries m)
 
 abbrev above : ℕ → ℕ → ℕ → ℕ → ℕ
-above x i m w = w + takesAbove format1 x i m w + pick (eqb (weightAbove format1 x i m w) 2) 1 0
+above x i m w = w + takesAbove format1 x i m w + pick (eqb (raisedAbove format1 x i m w) 2) 1 0
 
 abbrev wanted : ℕ → ℕ → ℕ
 wanted x w = w + pick (ltb (x - lineSize) (entrySize * w)) 1 0
 
 above-none : (x i m : ℕ) → above x i m 0 ≡ wanted x 0
-unfolding takesAbove weightAbove
+unfolding takesAbove raisedAbove
 above-none x i m = rw (le-ltb (x - lineSize) 0 (omega arith))
 
 above-one : (x i m : ℕ) → above x i m 1 ≡ wanted x 1
-unfolding takesAbove weightAbove firstTakes
+unfolding takesAbove raisedAbove firstTakes
 above-one x i m = go (leb entrySize (x - lineSize)) refl
   where
     go : (a : Bool) → leb entrySize (x - lineSize) ≡ a → 1 + pick a 0 1 + pick (eqb (pick a 0 1) 2) 1 0 ≡ wanted x 1
@@ -61,7 +61,7 @@ above-one x i m = go (leb entrySize (x - lineSize)) refl
 
 -- "one where they have no room together, and never more"
 above-two : (x i m : ℕ) → m < slotCount → above x i m 2 ≡ wanted x 2
-unfolding takesAbove weightAbove firstTakes secondTakes roomAfter
+unfolding takesAbove raisedAbove firstTakes secondTakes roomAfter
 above-two x i m few = rw (lt-leb slotCount m few, total-entries m) (go (leb entrySize (x - lineSize)) refl)
   where
     sum : Bool → ℕ
@@ -87,9 +87,9 @@ module _ (st : State) (e : Edit) where
   listed = length (children (st .image) (st .root))
 
   taken-above : takesEdit format1 noKeep e st ≡ above (readHead (pageOf (st .image) (st .root)) .start) (nextSlot format1 (keyOf e) (st .image) (st .root)) listed needs
-  unfolding takesEdit takesIn weightIn leafOf leafUnder children
+  unfolding takesEdit takesIn raisedIn leafOf leafUnder children
   taken-above =
-      ap (λ (h : ℕ). takesIn format1 noKeep e (st .image) h (st .root) + pick (eqb (weightIn format1 noKeep e (st .image) h (st .root)) 2) 1 0) (height-one (st .image) (st .root))
+      ap (λ (h : ℕ). takesIn format1 noKeep e (st .image) h (st .root) + pick (eqb (raisedIn format1 noKeep e (st .image) h (st .root)) 2) 1 0) (height-one (st .image) (st .root))
       ∙ ap (above (readHead (pageOf (st .image) (st .root)) .start) (nextSlot format1 (keyOf e) (st .image) (st .root)) listed) leaf
     where
       leaf : leafTakes format1 tt e (pageOf (st .image) (nextPage format1 (keyOf e) (st .image) (st .root))) ≡ needs

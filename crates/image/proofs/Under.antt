@@ -37,7 +37,7 @@ module _ (Pg : PageFormat) where
         record {
           page = t .0;
           filled = some (either empty (leb 1 (length rs)) (t .1 .0));
-          rising = rise-rising lo rs hi le from (rules .rise kind own p (t .0)) below;
+          rising = rise-rising lo rs hi le from (rules .ok-true kind own p (t .0) .rise) below;
         }
       where
         some : (empty ≡ true) ⊎ (leb 1 (length (Pg .recs p)) ≡ true) → (empty ≡ true) ⊎ (1 ≤ length (Pg .recs p))

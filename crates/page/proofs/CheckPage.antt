@@ -14,7 +14,8 @@ use Rattle.codec.specs.Lists.{part, All, pick}
 use Rattle.codec.specs.Numbers.{number}
 use Rattle.codec.proofs.Tests.{first, second, both, All-map}
 use Rattle.page.specs.Layout.{leafKind, Rec, up8, size, recordAt, readHead}
-use Rattle.page.specs.Page.{Entry, entryAt, recs, entries, records, formOk, startsAt, keysRise, pageOk, Held, Off, Apart, PageOk}
+use Rattle.page.specs.Page.{Entry, entryAt, recs, entries, records, formOk, startsAt, keysRise, pageOk, Held, Off, Apart}
+use Rattle.page.specs.PageFormat.{PageOk}
 use Rattle.page.proofs.Records.{size-even, size-least}
 use Rattle.page.proofs.Listed.{entries-next}
 use Rattle.page.proofs.Facts.{length-entries, length-records, at-entries, recs-entries, is-ok, ok-is, true-pageOk, not-pageOk}

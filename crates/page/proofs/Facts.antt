@@ -36,8 +36,8 @@ use Rattle.page.specs.Page.{
   Apart,
   Is,
   Page,
-  PageOk,
 }
+use Rattle.page.specs.PageFormat.{PageOk}
 use Rattle.page.proofs.Records.{record-at}
 use Rattle.page.proofs.Headers.{Small, head-back}
 

@@ -24,7 +24,7 @@ total-sizes (r ∷ rs) = omega (arith, total-sizes rs)
 -- ---- what is read of a page
 
 pub format1-reads : ReadRules format1
-format1-reads = record { kind = λ k n p h. pageOk-true k n p h .kind; rise = λ k n p h. pageOk-true k n p h .rise }
+format1-reads = record { ok-true = pageOk-true }
 
 -- ---- what is written
 
@@ -50,8 +50,7 @@ format1-rules =
       reads = format1-reads;
       cap-least = omega arith;
       cap-most = omega arith;
-      ok-true = λ k n p h. let t = pageOk-true k n p h in record { laid = t .laid; kind = t .kind; own = t .own; forms = t .forms; rise = t .rise };
-      true-ok = λ k n p t. true-pageOk k n p (record { laid = t .laid; kind = t .kind; own = t .own; forms = t .forms; rise = t .rise });
+      true-ok = true-pageOk;
       whole = laid-length;
       oks = records-ok;
       few = few-listed;

@@ -175,7 +175,7 @@ fill-shows p kind own rs whole k o good room few =
     record { laid = s .laid; kind = s .kind ∙ fill-kind h rs; own = s .own ∙ fill-own h rs; start = s .start ∙ fill-start h rs; recs = s .recs }
 
 -- where its records lie
-pub fill-slots : (p : List ℕ) (kind own : ℕ) (rs : List Rec) → length p ≡ pageSize → kind < 256 → own < 65536 → All RecOk rs → lineSize + sizes rs ≤ pageSize → length rs ≤ slotCount →
+pub fill-offsets : (p : List ℕ) (kind own : ℕ) (rs : List Rec) → length p ≡ pageSize → kind < 256 → own < 65536 → All RecOk rs → lineSize + sizes rs ≤ pageSize → length rs ≤ slotCount →
     readHead (fill p kind own rs) .slots ≡ map (λ (e : Entry). e .at) (placed pageSize rs)
-fill-slots p kind own rs whole k o good room few =
+fill-offsets p kind own rs whole k o good room few =
     ap (λ (h : Head). h .slots) (fill-page p kind own rs whole k o good room few .head) ∙ fill-is p kind own rs whole k o good room few .body .listed

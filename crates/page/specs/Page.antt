@@ -155,11 +155,3 @@ pub record Page (q : List ℕ) (h : Head) (rs : List Rec) : Type 0 where
   pub ok : laidOut q ≡ true
   pub head : readHead q ≡ h
   pub recs : records q ≡ rs
-
--- p is sound by itself, as a page of the kind k with the number n
-pub record PageOk (k n : ℕ) (p : List ℕ) : Type 0 where
-  pub laid : laidOut p ≡ true
-  pub kind : readHead p .kind ≡ k
-  pub own : readHead p .own ≡ n
-  pub forms : All (λ (r : Rec). formOk k r ≡ true) (records p)
-  pub rise : keysRise (records p) ≡ true

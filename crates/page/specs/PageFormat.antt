@@ -25,10 +25,9 @@ pub record PageFormat : Type 1 where
   pub ownOf : List ℕ → ℕ
   pub recs : List ℕ → List Rec
   -- ---- what must be kept, and the room beside it
-  -- what a transaction must not write in a page: nothing in one that was not reached before it, or what a page listed before it
+  -- what a transaction must not write in a page, and nothing, in one that was not reached before it
   pub Keep : Type 0
   pub none : Keep
-  pub before : List ℕ → Keep
   -- the room of a page; whether a record of a size fits; the room after it was put in, as the i-th or in place of the i-th; the room of a new page, by the sizes of its records
   pub Room : Type 0
   pub room : Keep → List ℕ → Room
@@ -55,8 +54,7 @@ pub record SoundAs (Pg : PageFormat) (k n : ℕ) (p : List ℕ) : Type 0 where
 
 -- what is read of a page
 pub record ReadRules (Pg : PageFormat) : Type 0 where
-  pub kind : (k n : ℕ) (p : List ℕ) → Pg .ok k n p ≡ true → Pg .kindOf p ≡ k
-  pub rise : (k n : ℕ) (p : List ℕ) → Pg .ok k n p ≡ true → keysRise (Pg .recs p) ≡ true
+  pub ok-true : (k n : ℕ) (p : List ℕ) → Pg .ok k n p ≡ true → SoundAs Pg k n p
 
 -- g is laid out, of kind k and with the number n and the records rs
 pub record Lists (Pg : PageFormat) (g : List ℕ) (k n : ℕ) (rs : List Rec) : Type 0 where
@@ -86,7 +84,6 @@ pub record Rules (Pg : PageFormat) : Type 0 where
   pub reads : ReadRules Pg
   pub cap-least : 28 ≤ Pg .cap
   pub cap-most : Pg .cap ≤ 40
-  pub ok-true : (k n : ℕ) (p : List ℕ) → Pg .ok k n p ≡ true → SoundAs Pg k n p
   pub true-ok : (k n : ℕ) (p : List ℕ) → SoundAs Pg k n p → Pg .ok k n p ≡ true
   -- a page that is laid out
   pub whole : (p : List ℕ) → Pg .laid p ≡ true → length p ≡ pageSize
@@ -134,7 +131,6 @@ format1 =
       recs = records;
       Keep = Unit {0};
       none = tt;
-      before = λ p. tt;
       Room = ℕ;
       room = λ k p. readHead p .start;
       fits = λ start s. leb s (start - lineSize);
@@ -145,6 +141,10 @@ format1 =
       fill = λ p kind own rs. fill p kind own rs;
       Old = λ k p q. OldPage p q;
     }
+
+-- `pageOk`: p is sound by itself, as a page of the kind k with the number n
+abbrev pub PageOk : ℕ → ℕ → List ℕ → Type 0
+PageOk k n p = SoundAs format1 k n p
 
 -- g is laid out, of kind k and with the number n, the content start s and the records rs
 pub record Shows (g : List ℕ) (k n s : ℕ) (rs : List Rec) : Type 0 where

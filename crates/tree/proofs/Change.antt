@@ -72,6 +72,19 @@ pub out-map : (P Q : Change → State → Type 0) (s : PageStep) → ((c : Chang
 out-map P Q (now c t) g h = g c t h
 out-map P Q (stops k) g h = h
 
+-- P of what a step makes, if it does not stop
+abbrev pub IfMade : (Change → State → Type 0) → PageStep → Type 0
+IfMade P (now c t) = P c t
+IfMade P (stops k) = Unit {0}
+
+pub if-made-map : (P Q : Change → State → Type 0) (s : PageStep) → ((c : Change) (t : State) → P c t → Q c t) → IfMade P s → IfMade Q s
+if-made-map P Q (now c t) g h = g c t h
+if-made-map P Q (stops k) g h = tt
+
+pub if-made-out : (P Q : Change → State → Type 0) (s : PageStep) → ((c : Change) (t : State) → P c t → Q c t) → Out P s → IfMade Q s
+if-made-out P Q (now c t) g h = g c t h
+if-made-out P Q (stops k) g h = tt
+
 -- the index records that stand for the page of c, whose range starts at low
 abbrev pub stand : Rec → ℕ → Change → List Rec
 stand c low kept = c ∷ []
@@ -130,4 +143,4 @@ module _ (Pg : PageFormat) where
 
 -- a sound page lists its records
 pub lists-sound : (Pg : PageFormat) → Rules Pg → (kind own : ℕ) (p : List ℕ) → Pg .ok kind own p ≡ true → Lists Pg p kind own (Pg .recs p)
-lists-sound Pg rules kind own p h = let k = rules .ok-true kind own p h in record { laid = k .laid; kind = k .kind; own = k .own; recs = refl }
+lists-sound Pg rules kind own p h = let k = rules .reads .ok-true kind own p h in record { laid = k .laid; kind = k .kind; own = k .own; recs = refl }

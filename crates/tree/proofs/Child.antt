@@ -137,7 +137,7 @@ module _ (Pg : PageFormat) (rules : Rules Pg) where
 
     entries-here : Entries (pre ++ c ∷ post)
     entries-here =
-        form-entries h (pre ++ c ∷ post) (subst (Forms (suc h)) shape (rules .ok-true (suc (suc h)) q (pageOf (st .image) q) (H .under .0 .page) .forms))
+        form-entries h (pre ++ c ∷ post) (subst (Forms (suc h)) shape (rules .reads .ok-true (suc (suc h)) q (pageOf (st .image) q) (H .under .0 .page) .forms))
 
     child-full : All (Nonempty Pg (st .image)) (leavesIn Pg (st .image) (suc h) (childOf c₀)) ⊎ (only ≡ true) → All (Nonempty Pg (st .image)) (leavesIn Pg (st .image) h (childOf c)) ⊎ (only ≡ true)
     child-full (inl a) =
@@ -184,7 +184,7 @@ module _ (Pg : PageFormat) (rules : Rules Pg) where
         )
 
     most-here : length (pre ++ c ∷ post) ≤ Pg .cap
-    most-here = omega (arith, ap length shape, rules .few (pageOf (st .image) q) (rules .ok-true (suc (suc h)) q (pageOf (st .image) q) (H .under .0 .page) .laid))
+    most-here = omega (arith, ap length shape, rules .few (pageOf (st .image) q) (rules .reads .ok-true (suc (suc h)) q (pageOf (st .image) q) (H .under .0 .page) .laid))
 
     pub parts : Parts Pg n F only st h lo hi c₀ pre c post
     parts =

@@ -53,7 +53,7 @@ module _ (Pg : PageFormat) where
   unfolding heightIn
   height-is reads img zero lo hi q least most u = absurd (omega arith)
   height-is reads img (suc h) lo hi q least most u =
-      let e : Pg .kindOf (pageOf img q) - 1 ≡ suc h = omega (arith, reads .kind (suc (suc h)) q (pageOf img q) (u .0 .page)) in
+      let e : Pg .kindOf (pageOf img q) - 1 ≡ suc h = omega (arith, reads .ok-true (suc (suc h)) q (pageOf img q) (u .0 .page) .kind) in
       rw (e, le-leb 1 (suc h) least, le-leb (suc h) tallest most)
 
   -- a state with a root of height h

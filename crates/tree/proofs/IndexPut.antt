@@ -17,7 +17,7 @@ use Rattle.page.proofs.Made.{All-made}
 use Rattle.page.proofs.Facts.{records-ok}
 use Rattle.page.proofs.Totals.{page-one}
 use Rattle.page.proofs.Operations.{fill-stays}
-use Rattle.page.proofs.Placed.{shows-as, laid-length, laid-start, slotMade, place-shows, place-slots, fill-shows, fill-slots}
+use Rattle.page.proofs.Placed.{shows-as, laid-length, laid-start, slotMade, place-shows, place-slots, fill-shows, fill-offsets}
 use Rattle.image.specs.Image.{entrySize, IsEntry, Entries}
 use Rattle.image.proofs.IndexRecords.{size-entry, sizes-entries}
 use Rattle.edit.proofs.General.{by-test}
@@ -119,7 +119,7 @@ fills n few st long q page kind small rs good room slots =
       shows = subst (λ (p : List ℕ). Shows p kind q (pageSize - sizes rs) rs) (sym here) shown;
       other = write-other n (st .image) long q page g whole;
       stays = λ i low high. ap (λ (p : List ℕ). getD p i 0) here ∙ fill-stays (pageOf (st .image) q) kind q rs before small own good room slots i low (omega (arith, shown .start));
-      slots = ap (λ (p : List ℕ). readHead p .slots) here ∙ fill-slots (pageOf (st .image) q) kind q rs before small own good room slots;
+      slots = ap (λ (p : List ℕ). readHead p .slots) here ∙ fill-offsets (pageOf (st .image) q) kind q rs before small own good room slots;
       long = write-length n (st .image) long q page g whole;
     }
 

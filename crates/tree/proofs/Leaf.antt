@@ -72,7 +72,7 @@ module _ (Pg : PageFormat) (rules : Rules Pg) (keep : ℕ → Pg .Keep) where
     inner-none (two a k b) img rs = tt
 
     leaf-keys : From 1 (Pg .recs p)
-    leaf-keys = All-map (λ (r : Rec). formOk leafKind r ≡ true) (λ (r : Rec). 1 ≤ r .key) leaf-form (Pg .recs p) (rules .ok-true leafKind q p (H .under .page) .forms)
+    leaf-keys = All-map (λ (r : Rec). formOk leafKind r ≡ true) (λ (r : Rec). 1 ≤ r .key) leaf-form (Pg .recs p) (rules .reads .ok-true leafKind q p (H .under .page) .forms)
 
     -- what stands for a leaf that lists a record has no empty leaf
     leaf-full : (ch : Change) (t : State) (rs : List Rec) → 1 ≤ length rs → Held Pg (t .image) leafKind q ch rs → All (Nonempty Pg (t .image)) (standing q ch)
@@ -160,7 +160,7 @@ module _ (Pg : PageFormat) (rules : Rules Pg) (keep : ℕ → Pg .Keep) where
         put-back = dropped-puts Pg rules keep n (H .few) F st (H .long) q leafKind (omega arith) (Pg .recs p) own (λ x. omega (arith, H .apart x, pages-one x)) (H .sub) j inn
 
         listed : (Pg .recs) (Pg .remove p j) ≡ removeAt j (Pg .recs p)
-        listed = rules .remove-lists p j (rules .ok-true leafKind q p (H .under .page) .laid) .recs
+        listed = rules .remove-lists p j (rules .reads .ok-true leafKind q p (H .under .page) .laid) .recs
 
         Left : PageStep → Type 0
         Left = Out (Altered Pg keep n F only st 0 lo hi c (removeAt j (Pg .recs p)) W)

@@ -1,7 +1,7 @@
 -- A list of edits on pages of any format: accepted, the tree stays sound and its table is the ledger's; refused, the edits before are made and the number is the ground of the one that
 -- is not. A sound tree with the pages that it does not reach is a state to begin with, and what a state reaches is a sound tree.
 -- Assumes nothing.
-use Prim.Native.Nat.{ℕ, zero, suc, _+_, _-_, _*_, _≤_}
+use Prim.Native.Nat.{ℕ, suc, _+_, _-_, _*_, _≤_}
 use mathlib.Core.Path.{_≡_, refl, sym, ap, _∙_}
 use mathlib.Core.List.{List, [], _∷_, _++_}
 use native.Mathlib.Omega.{arith}
@@ -27,7 +27,7 @@ use Rattle.tree.proofs.Counts.{count-distinct, count-inside, inside-mos
 use Rattle.tree.proofs.Exact.{code, edit-exact-in}
 use Rattle.tree.proofs.Free.{others-apart}
 use Rattle.tree.proofs.Height.{pagesAt, tableAt}
-use Rattle.tree.proofs.Root.{Ended, Made, edited-ended}
+use Rattle.tree.proofs.Root.{Ended, Made, edited-ended, ended-made}
 use Rattle.tree.proofs.States.{Leads, leads-free, leads-refl, leads-trans}
 
 -- ---- the beginning and the end
@@ -98,10 +98,6 @@ module _ (Pg : PageFormat) (rules : Rules Pg) (keep : ℕ → Pg .Keep) (n : ℕ
         leads = leads-trans Pg rules keep F s t u (M .leads) (R .leads);
       }
 
-  made-of : (g : ℕ) (e : Edit) (s t : State) → Ended g (Made Pg keep n F e s) (done t) → Made Pg keep n F e s t
-  made-of zero e s t h = h
-  made-of (suc g) e s t h = let y : _≡_ {A = ℕ} 0 1 = cc in absurd (omega arith)
-
   pub outcomes-in : (i : ℕ) (es : List Edit) (s : State) → GoodIn Pg n s → ((x : ℕ) → count x (s .free) ≤ count x F) → All Proper es → OutcomesIn Pg keep n F i es s (editsFromIn Pg keep i es s)
   unfolding editsFromIn onward
   outcomes-in i [] s G sub P = run-none s G
@@ -141,5 +137,5 @@ module _ (Pg : PageFormat) (rules : Rules Pg) (keep : ℕ → Pg .Keep) (n : ℕ
             because = sym (ap code q) ∙ edit-exact-in Pg rules keep n s G (λ x k. clear x (omega (arith, sub x))) e (P .0);
           }
       go (done t) q h f =
-          let M = made-of g e s t h in
+          let M = ended-made (Made Pg keep n F e s) g t h in
           on t q M (editsFromIn Pg keep (suc i) es t) (f t (M .good) (λ x. omega (arith, sub x, leads-free Pg keep F s t (M .leads) x)))

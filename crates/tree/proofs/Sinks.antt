@@ -17,15 +17,10 @@ use Rattle.tree.specs.Edits.{Change, PageStep, absorbed, copied, copyThe
 use Rattle.tree.specs.Good.{count, hit, inside}
 use Rattle.tree.specs.State.{State, filled}
 use Rattle.tree.proofs.Absorb.{TwoPuts, first-put, two-puts}
-use Rattle.tree.proofs.Change.{Ends, Holds, Out, SepsOk, taken-ends}
+use Rattle.tree.proofs.Change.{Ends, Holds, Out, SepsOk, taken-ends, IfMade}
 use Rattle.tree.proofs.Counts.{hit-self}
 use Rattle.tree.proofs.Puts.{Puts, dropped-is, place-room}
 use Rattle.tree.proofs.States.{write-here}
-
--- P where a step is made
-abbrev pub After : (Change → State → Type 0) → PageStep → Type 0
-After P (now c t) = P c t
-After P (stops k) = Unit {0}
 
 module _ (Pg : PageFormat) (sinking : Sinking Pg) where
   -- a page that stays has sunk
@@ -42,28 +37,28 @@ module _ (Pg : PageFormat) (rules : Rules Pg) (keep : ℕ → Pg .Keep) (sinking
     abbrev p : List ℕ
     p = pageOf (st .image) q
 
-    ends-after : (need : ℕ) (s : PageStep) → Ends (Sinks Pg sinking st q) (st .free) need s → After (Sinks Pg sinking st q) s
+    ends-after : (need : ℕ) (s : PageStep) → Ends (Sinks Pg sinking st q) (st .free) need s → IfMade (Sinks Pg sinking st q) s
     ends-after need (now c t) h = h .0
     ends-after need (stops k) h = tt
 
-    moved-sinks : (kind : ℕ) (full : Bool) (l : List Rec) → After (Sinks Pg sinking st q) (moved Pg kind full l st)
+    moved-sinks : (kind : ℕ) (full : Bool) (l : List Rec) → IfMade (Sinks Pg sinking st q) (moved Pg kind full l st)
     unfolding moved copied split filled
     moved-sinks kind full l =
-        by-test (After (Sinks Pg sinking st q)) (fitsIn (Pg .cap) l) (λ e. ends-after 1 (copied Pg kind l st) (taken-ends (Sinks Pg sinking st q) st 0 _ (λ x f z. (tt, omega arith))))
-        (λ e. by-test (After (Sinks Pg sinking st q)) full (λ z. tt)
+        by-test (IfMade (Sinks Pg sinking st q)) (fitsIn (Pg .cap) l) (λ e. ends-after 1 (copied Pg kind l st) (taken-ends (Sinks Pg sinking st q) st 0 _ (λ x f z. (tt, omega arith))))
+        (λ e. by-test (IfMade (Sinks Pg sinking st q)) full (λ z. tt)
         (λ z. ends-after 2 (split Pg kind l st) (taken-ends (Sinks Pg sinking st q) st 1 _ (λ x f z. taken-ends (Sinks Pg sinking st q) (record { image = st .image; root = st .root; free = f }) 0 _ (λ y g d. (tt, omega arith))))))
 
-    pub put-sinks : (kind : ℕ) (full ins : Bool) (i : ℕ) (r : Rec) → RecOk r → After (Sinks Pg sinking st q) (put Pg keep kind full ins i r q st)
+    pub put-sinks : (kind : ℕ) (full ins : Bool) (i : ℕ) (r : Rec) → RecOk r → IfMade (Sinks Pg sinking st q) (put Pg keep kind full ins i r q st)
     unfolding put
     put-sinks kind full ins i r ok =
-        by-test (After (Sinks Pg sinking st q)) (isFull Pg (keep q) ins (size r) p) (λ e. moved-sinks kind full _) (λ e.
+        by-test (IfMade (Sinks Pg sinking st q)) (isFull Pg (keep q) ins (size r) p) (λ e. moved-sinks kind full _) (λ e.
         let can = place-room Pg (keep q) ins r p laid ok e in
         let g = Pg .place (keep q) ins i r p in
         subst (sinking .Sunken p) (sym (write-here n (st .image) long q page g (rules .whole g (rules .place-lists (keep q) ins i r p can .laid)))) (sinking .place-sunken (keep q) ins i r p can))
 
-    pub dropped-sinks : (only : Bool) (j : ℕ) → j < length (Pg .recs (pageOf (st .image) q)) → After (Sinks Pg sinking st q) (dropped Pg only j q st)
+    pub dropped-sinks : (only : Bool) (j : ℕ) → j < length (Pg .recs (pageOf (st .image) q)) → IfMade (Sinks Pg sinking st q) (dropped Pg only j q st)
     dropped-sinks only j inn =
-        dropped-is Pg (After (Sinks Pg sinking st q)) only j q st tt
+        dropped-is Pg (IfMade (Sinks Pg sinking st q)) only j q st tt
         (subst (sinking .Sunken p) (sym (write-here n (st .image) long q page (Pg .remove p j) (rules .whole (Pg .remove p j) (rules .remove-lists p j laid .laid)))) (sinking .remove-sunken p j laid inn))
 
   -- ---- what a page takes from the page below it
@@ -75,34 +70,34 @@ module _ (Pg : PageFormat) (rules : Rules Pg) (keep : ℕ → Pg .Keep) (sinking
     page-in = omega (arith, apart q, hit-self q)
 
     two-sinks : (es : List Rec) (a : Bool) (i : ℕ) (x : Rec) (b : Bool) (j : ℕ) (y : Rec) → TwoPuts (pre ++ c ∷ post) es a i x b j y →
-        After (Sinks Pg sinking st q) (thenInto (put Pg keep kind false a i x q st) q (λ z t. put Pg keep kind false b j y z t))
+        IfMade (Sinks Pg sinking st q) (thenInto (put Pg keep kind false a i x q st) q (λ z t. put Pg keep kind false b j y z t))
     unfolding thenInto copyThen
     two-sinks es a i x b j y T =
         go (put Pg keep kind false a i x q st) (put-sinks n st long q page-in (L .lists .laid) kind false a i x (T .ok))
         (first-put Pg rules keep n few F st long q kind small pre c post L E apart sub es a i x b j y T)
       where
-        on : (t : State) → sinking .Sunken (pageOf (st .image) q) (pageOf (t .image) q) → (s : PageStep) → After (Sinks Pg sinking t q) s → After (Sinks Pg sinking st q) s
+        on : (t : State) → sinking .Sunken (pageOf (st .image) q) (pageOf (t .image) q) → (s : PageStep) → IfMade (Sinks Pg sinking t q) s → IfMade (Sinks Pg sinking st q) s
         on t l (stops m) h = tt
         on t l (now kept u) h = sinking .sunken-trans (pageOf (st .image) q) (pageOf (t .image) q) (pageOf (u .image) q) l h
         on t l (now gone u) h = tt
         on t l (now (one v) u) h = tt
         on t l (now (two v m w) u) h = tt
 
-        never : (z : ℕ) (s : PageStep) → After (Sinks Pg sinking st q) (copyThen z s)
+        never : (z : ℕ) (s : PageStep) → IfMade (Sinks Pg sinking st q) (copyThen z s)
         never z (stops m) = tt
         never z (now kept u) = tt
         never z (now gone u) = tt
         never z (now (one v) u) = tt
         never z (now (two v m w) u) = tt
 
-        go : (s : PageStep) → After (Sinks Pg sinking st q) s → Out (Puts Pg keep F st q kind (made a i x (pre ++ c ∷ post))) s → After (Sinks Pg sinking st q) (thenInto s q (λ z t. put Pg keep kind false b j y z t))
+        go : (s : PageStep) → IfMade (Sinks Pg sinking st q) s → Out (Puts Pg keep F st q kind (made a i x (pre ++ c ∷ post))) s → IfMade (Sinks Pg sinking st q) (thenInto s q (λ z t. put Pg keep kind false b j y z t))
         go (stops m) h P = tt
         go (now kept t) h P = on t h (put Pg keep kind false b j y q t) (put-sinks n t (P .leads .long ∙ long) q page-in (P .held .lists .laid) kind false b j y (T .ok2))
         go (now gone t) h P = tt
         go (now (one z) t) h P = never z (put Pg keep kind false b j y z t)
         go (now (two v m w) t) h P = tt
 
-    pub absorbed-sinks : (low : ℕ) (ch : Change) → SepsOk low ch → (ch ≡ kept → ⊥) → After (Sinks Pg sinking st q) (absorbed Pg keep kind (length pre) low q ch st)
+    pub absorbed-sinks : (low : ℕ) (ch : Change) → SepsOk low ch → (ch ≡ kept → ⊥) → IfMade (Sinks Pg sinking st q) (absorbed Pg keep kind (length pre) low q ch st)
     unfolding absorbed
     absorbed-sinks low kept o ne = absurd (ne refl)
     absorbed-sinks low gone o ne = dropped-sinks n st long q page-in (L .lists .laid) false (length pre) (omega (arith, ap length (L .lists .recs), length-append pre (c ∷ post)))

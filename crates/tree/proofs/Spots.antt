@@ -9,9 +9,9 @@ use lib.ListN.{length, length-append}
 use Rattle.codec.specs.Lists.{All}
 use Rattle.codec.proofs.Tests.{All-map}
 use Rattle.page.specs.Layout.{pageSize, slotCount, leafKind, indexKind, topKey, Rec}
-use Rattle.page.specs.Page.{records, formOk, RecOk, PageOk}
+use Rattle.page.specs.Page.{records, formOk, RecOk}
 use Rattle.page.specs.Operations.{pageOf}
-use Rattle.page.specs.PageFormat.{format1, Shows}
+use Rattle.page.specs.PageFormat.{format1, Shows, PageOk}
 use Rattle.page.proofs.Facts.{pageOk-true, index-form, records-ok, length-records}
 use Rattle.page.proofs.Listed.{few-listed}
 use Rattle.image.specs.Image.{childOf, children, pagesIn, nextSep, startOf, Entries, IsEntry}

@@ -1,6 +1,6 @@
 -- An edit that is made leaves a new root, or the same root and a reached page whose header has sunk; and so does a list of one edit or more.
 -- Assumes nothing.
-use Prim.Native.Nat.{ℕ, zero, suc, _≤_, _<_}
+use Prim.Native.Nat.{ℕ, suc, _≤_, _<_}
 use mathlib.Core.Path.{_≡_, refl, sym, ap, _∙_, subst}
 use mathlib.Core.Logic.{_⊎_, inl, inr}
 use mathlib.Core.Bool.{Bool, true, false, _&&_}
@@ -28,6 +28,7 @@ use Rattle.tree.specs.Good.{GoodIn, count}
 use Rattle.tree.specs.Grounds.{overflows}
 use Rattle.tree.specs.State.{State, Step, begin, done, filled, refused, takePage, taken, withRoot}
 use Rattle.tree.specs.Whole.{editsOn, finished, onward, editsFromIn}
+use Rattle.tree.proofs.Change.{IfMade}
 use Rattle.tree.proofs.Counts.{hit-self, inside-most}
 use Rattle.tree.proofs.Descent.{Splits, edit-ended, splitsAll}
 use Rattle.tree.proofs.Flag.{edit-flag}
@@ -35,9 +36,8 @@ use Rattle.tree.proofs.Height.{height-range, pagesAt, tableAt, tallest-
 use Rattle.tree.proofs.SunkPages.{SinksUnder, Sunk, edit-sinks, ended-after}
 use Rattle.tree.proofs.Node.{Altered}
 use Rattle.tree.proofs.Outcomes.{OutcomesIn, RunIn, outcomes-in}
-use Rattle.tree.proofs.Root.{Ended, Made, edited-ended, here, names-root}
+use Rattle.tree.proofs.Root.{Ended, Made, edited-ended, here, names-root, ended-made}
 use Rattle.tree.proofs.Runs.{begin-good}
-use Rattle.tree.proofs.Sinks.{After}
 use Rattle.tree.proofs.States.{Leads, leads-free}
 
 module _ (Pg : PageFormat) (sinking : Sinking Pg) where
@@ -67,7 +67,7 @@ module _ (Pg : PageFormat) (rules : Rules Pg) (keep : ℕ → Pg .Keep) (sinking
     is-root = names-root Pg rules keep n F st G sub
 
     -- what the root makes of the step under it
-    rooted-touches : (rs : List Rec) (W : Type 0) (s : PageStep) → After (SinksUnder Pg sinking st h (childOf c)) s → After (Altered Pg keep n F only st h 0 (suc topKey) c rs W) s →
+    rooted-touches : (rs : List Rec) (W : Type 0) (s : PageStep) → IfMade (SinksUnder Pg sinking st h (childOf c)) s → IfMade (Altered Pg keep n F only st h 0 (suc topKey) c rs W) s →
         Touched Pg sinking F st (rooted Pg h s)
     unfolding rooted onlyLeaf taken takePage
     rooted-touches rs W (stops m) k M = tt
@@ -138,14 +138,10 @@ module _ (Pg : PageFormat) (rules : Rules Pg) (keep : ℕ → Pg .Keep) (sinking
       g : ℕ
       g = pick (eqb (keyRule e (tableAt Pg s)) 0) (pick (overflows Pg keep e s) indexFull 0) (keyRule e (tableAt Pg s))
 
-      made : (k : ℕ) (u : State) → Ended k (Made Pg keep n F e s) (done u) → Made Pg keep n F e s u
-      made zero u m = m
-      made (suc k) u m = let z : _≡_ {A = ℕ} 0 1 = cc in absurd (omega arith)
-
       go : (x : Step) → Ended g (Made Pg keep n F e s) x → Touched Pg sinking F s x → onward x i (λ u. editsFromIn Pg keep (suc i) es u) ≡ finished t → Touch Pg sinking F s t
       go (refused k) m T q = let z : _≡_ {A = ℕ} 0 1 = cc in absurd (omega arith)
       go (done u) m T q =
-          let M = made g u m in
+          let M = ended-made (Made Pg keep n F e s) g u m in
           let R : RunIn Pg keep n F es u t =
           subst (OutcomesIn Pg keep n F (suc i) es u) q (outcomes-in Pg rules keep n F clear (suc i) es u (M .good) (λ x. omega (arith, sub x, leads-free Pg keep F s u (M .leads) x)) (P .1)) in
           touch-leads Pg rules keep sinking F s u t apart T (R .leads)

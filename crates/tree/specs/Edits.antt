@@ -70,7 +70,7 @@ put Pg keep kind full ins i r q st =
     let p = pageOf (st .image) q in
     pick (isFull Pg (keep q) ins (size r) p) (moved Pg kind full (made ins i r (Pg .recs p)) st) (now kept (withPage q (Pg .place (keep q) ins i r p) st))
 
--- "Delete drops the slot; start stays." "A leaf left empty, unless it is the only one, loses its index record", and so does an index page
+-- "Delete drops the slot; start stays." A page left empty is gone, unless it is the only leaf: "A leaf left empty, unless it is the only one, loses its index record"
 unfoldable pub dropped : PageFormat → Bool → ℕ → ℕ → State → PageStep
 dropped Pg only j q st =
     let p = Pg .remove (pageOf (st .image) q) j in

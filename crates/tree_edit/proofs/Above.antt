@@ -28,7 +28,7 @@ use Rattle.tree.specs.Edits.{Change, PageStep, now, stops, kept, gone, one, two
 use Rattle.tree.specs.Good.{count}
 use Rattle.tree.proofs.Counts.{hit-self, inside-most}
 use Rattle.tree.proofs.States.{leads-free}
-use Rattle.tree.proofs.Change.{Out, Holds, Halves, raised, stand, SepsOk, out-ends}
+use Rattle.tree.proofs.Change.{Out, IfMade, Holds, Halves, raised, stand, SepsOk, out-ends, if-made-map, if-made-out}
 use Rattle.tree.proofs.Puts.{Puts, put-ends, dropped-puts}
 use Rattle.tree.proofs.Absorb.{absorbed-out}
 use Rattle.tree_edit.specs.Steps.{stateOf, turnOf, NotTwo, upward, recBy, madeBy}
@@ -41,24 +41,11 @@ use Rattle.tree_edit.proofs.Places.{child-ok, child-apart, root-index}
 
 -- ---- steps
 
--- P of what a step makes, if it does not stop
-abbrev Made : (Change → State → Type 0) → PageStep → Type 0
-Made P (now c t) = P c t
-Made P (stops k) = Unit {0}
-
-made-map : (P Q : Change → State → Type 0) (s : PageStep) → ((c : Change) (t : State) → P c t → Q c t) → Made P s → Made Q s
-made-map P Q (now c t) f h = f c t h
-made-map P Q (stops k) f h = tt
-
-made-out : (P Q : Change → State → Type 0) (s : PageStep) → ((c : Change) (t : State) → P c t → Q c t) → Out P s → Made Q s
-made-out P Q (now c t) f h = f c t h
-made-out P Q (stops k) f h = tt
-
 -- where a split is refused, what is made is not one
 not-split : (P : Change → State → Type 0) (a b : Bool) (copy over : PageStep) (s : State) → ((c : Change) (t : State) → P c t → raised c ≡ 2 → b ≡ false) →
-    Made P (pick a (pick b copy over) (now kept s)) → Made (λ c t. P c t × (raised c ≡ 2 → ⊥)) (pick a (pick b copy (stops 10)) (now kept s))
+    IfMade P (pick a (pick b copy over) (now kept s)) → IfMade (λ c t. P c t × (raised c ≡ 2 → ⊥)) (pick a (pick b copy (stops 10)) (now kept s))
 not-split P false b copy over s h m = (m, λ z. omega arith)
-not-split P true true copy over s h m = made-map P (λ c t. P c t × (raised c ≡ 2 → ⊥)) copy (λ c t p. (p, λ z. true≢false (h c t p z))) m
+not-split P true true copy over s h m = if-made-map P (λ c t. P c t × (raised c ≡ 2 → ⊥)) copy (λ c t p. (p, λ z. true≢false (h c t p z))) m
 not-split P true false copy over s h m = tt
 
 -- ---- what an edit of a page under the root leaves
@@ -129,12 +116,12 @@ module _ {n : ℕ} {st : State} {c : Child} (at : AtChild n st c) where
         (put-ends format1 format1-rules noKeep n (at .good .few) (st .free) st (at .good .size) q leafKind (omega arith) old holds (λ x. omega (arith, child-apart at x)) (λ x. omega arith)
         (new .ins) (new .at) (recBy new v) (can .good) (omega (arith, can .place)))
 
-    refuses : Made (λ ch t. P ch t × (raised ch ≡ 2 → ⊥)) (put format1 noKeep leafKind true (new .ins) (new .at) (recBy new v) q st)
+    refuses : IfMade (λ ch t. P ch t × (raised ch ≡ 2 → ⊥)) (put format1 noKeep leafKind true (new .ins) (new .at) (recBy new v) q st)
     unfolding put moved
     refuses =
         not-split P (isFull format1 tt (new .ins) (size (recBy new v)) (pageOf (st .image) q)) (fitsIn slotCount rs) (copied format1 leafKind rs st) (split format1 leafKind rs st)
         (withPage q (inPlace (new .ins) (new .at) (recBy new v) (pageOf (st .image) q)) st) (λ ch t p. p .split-over)
-        (made-out P P (put format1 noKeep leafKind false (new .ins) (new .at) (recBy new v) q st) (λ ch t p. p) out)
+        (if-made-out P P (put format1 noKeep leafKind false (new .ins) (new .at) (recBy new v) q st) (λ ch t p. p) out)
 
     -- as the code tests the root x, which lists m records
     pub put-counted : (x : List ℕ) → x ≡ pageOf (st .image) (st .root) → (m : ℕ) → m ≡ length (records x) →
@@ -144,16 +131,16 @@ module _ {n : ℕ} {st : State} {c : Child} (at : AtChild n st c) where
         ap (λ (k : ℕ). put format1 noKeep leafKind (leb slotCount k) (new .ins) (new .at) (recBy new v) q st) (listed ∙ ap (λ (g : List ℕ). length (records g)) e)
 
     pub put-after : (full : Bool) → full ≡ leb slotCount (length (records (pageOf (st .image) (st .root)))) →
-        Made (After st) (put format1 noKeep leafKind full (new .ins) (new .at) (recBy new v) (c .page) st)
+        IfMade (After st) (put format1 noKeep leafKind full (new .ins) (new .at) (recBy new v) (c .page) st)
     put-after false e =
-        made-out P (After st) (put format1 noKeep leafKind false (new .ins) (new .at) (recBy new v) q st) (λ ch t p. puts-after ch t rs p (λ y. leb-false slotCount (length cs) (sym e))) out
+        if-made-out P (After st) (put format1 noKeep leafKind false (new .ins) (new .at) (recBy new v) q st) (λ ch t p. puts-after ch t rs p (λ y. leb-false slotCount (length cs) (sym e))) out
     put-after true e =
-        made-map (λ ch t. P ch t × (raised ch ≡ 2 → ⊥)) (After st) (put format1 noKeep leafKind true (new .ins) (new .at) (recBy new v) q st)
+        if-made-map (λ ch t. P ch t × (raised ch ≡ 2 → ⊥)) (After st) (put format1 noKeep leafKind true (new .ins) (new .at) (recBy new v) q st)
         (λ ch t p. puts-after ch t rs (p .0) (λ y. absurd (p .1 y))) refuses
 
   -- ---- a record dropped from it
 
-  pub drop-after : (j : ℕ) → j < length (records (pageOf (st .image) (c .page))) → (only : Bool) → Made (After st) (dropped format1 only j (c .page) st)
+  pub drop-after : (j : ℕ) → j < length (records (pageOf (st .image) (c .page))) → (only : Bool) → IfMade (After st) (dropped format1 only j (c .page) st)
   unfolding dropped
   drop-after j inn only =
       go (eqb (length (records (delete (pageOf (st .image) q) j))) 0 && not only)
@@ -236,19 +223,19 @@ module _ {n : ℕ} {st : State} {c : Child} (at : AtChild n st c) where
     seps-ok (one a) h = root-index at .low
     seps-ok (two a k b) h = (root-index at .low, h)
 
-    root-few : Made (λ e u. raised e ≡ 2 → ⊥) (absorbed format1 noKeep indexKind (c .slot) (c .low) (st .root) ch t)
+    root-few : IfMade (λ e u. raised e ≡ 2 → ⊥) (absorbed format1 noKeep indexKind (c .slot) (c .low) (st .root) ch t)
     root-few =
         let I = index-after ch t a in
         let long : length pre ≡ c .slot = omega (arith, length-take (c .slot) cs, at .slot) in
         let L : Holds format1 (t .image) indexKind (st .root) (pre ++ d ∷ post) =
         record { lists = record { laid = I .lists .laid; kind = I .lists .kind; own = I .lists .own; recs = ap records (a .same) ∙ shape } } in
-        subst (λ (i : ℕ). Made (λ e u. raised e ≡ 2 → ⊥) (absorbed format1 noKeep indexKind i (c .low) (st .root) ch t)) long
-        (made-out _ (λ e u. raised e ≡ 2 → ⊥) (absorbed format1 noKeep indexKind (length pre) (c .low) (st .root) ch t) (λ e u p z. true≢false (sym new-fits ∙ p .0 .split-over z))
+        subst (λ (i : ℕ). IfMade (λ e u. raised e ≡ 2 → ⊥) (absorbed format1 noKeep indexKind i (c .low) (st .root) ch t)) long
+        (if-made-out _ (λ e u. raised e ≡ 2 → ⊥) (absorbed format1 noKeep indexKind (length pre) (c .low) (st .root) ch t) (λ e u p z. true≢false (sym new-fits ∙ p .0 .split-over z))
         (absorbed-out format1 format1-rules noKeep n (I .few) (t .free) t (I .long) (st .root) indexKind (omega arith) pre d post L all (I .apart) (λ x. omega arith) (c .low) ch (seps-ok ch (a .seps))))
 
-  module _ (before w : List ℕ) (r : Turned) (s : PageStep) (turn : turnOf before w (st .root) r ≡ s) (m : Made (After st) s) where
-    by : (y : Turned) → r ≡ y → Made (After st) (turnOf before w (st .root) y)
-    by y z = subst (λ (u : Turned). Made (After st) (turnOf before w (st .root) u)) z (subst (Made (After st)) (sym turn) m)
+  module _ (before w : List ℕ) (r : Turned) (s : PageStep) (turn : turnOf before w (st .root) r ≡ s) (m : IfMade (After st) s) where
+    by : (y : Turned) → r ≡ y → IfMade (After st) (turnOf before w (st .root) y)
+    by y z = subst (λ (u : Turned). IfMade (After st) (turnOf before w (st .root) u)) z (subst (IfMade (After st)) (sym turn) m)
 
     counted : (ch : Change) (top : ℕ) → After st ch (stateOf before w (record { root = st .root; top = top })) →
         IndexAt (pageCount w) (stateOf before w (record { root = st .root; top = top })) indexKind (st .root) c
@@ -269,9 +256,9 @@ module _ {n : ℕ} {st : State} {c : Child} (at : AtChild n st c) where
         turnOf before w2 (st .root) above ≡ onto (turnOf before w (st .root) r) (λ x u. absorbed format1 noKeep indexKind (c .slot) (c .low) (st .root) x u) → NotTwo above
     unfolding onto
     root-stays w2 above e p k b top z =
-        subst (Made (λ d u. raised d ≡ 2 → ⊥)) (sym e ∙ ap (turnOf before w2 (st .root)) z) (onward (turnOf before w (st .root) r) (subst (Made (After st)) (sym turn) m)) refl
+        subst (IfMade (λ d u. raised d ≡ 2 → ⊥)) (sym e ∙ ap (turnOf before w2 (st .root)) z) (onward (turnOf before w (st .root) r) (subst (IfMade (After st)) (sym turn) m)) refl
       where
-        onward : (y : PageStep) → Made (After st) y → Made (λ d u. raised d ≡ 2 → ⊥) (onto y (λ x u. absorbed format1 noKeep indexKind (c .slot) (c .low) (st .root) x u))
+        onward : (y : PageStep) → IfMade (After st) y → IfMade (λ d u. raised d ≡ 2 → ⊥) (onto y (λ x u. absorbed format1 noKeep indexKind (c .slot) (c .low) (st .root) x u))
         onward (stops k) a = tt
         onward (now ch t) a = root-few ch t a
 

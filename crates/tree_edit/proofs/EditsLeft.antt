@@ -1,6 +1,6 @@
 -- The edits of a list that are left to be made: what the head of the next one says, and what is left after it.
 -- Assumes nothing.
-use Prim.Native.Nat.{ℕ, zero, suc, _+_, _-_, _≤_, _<_}
+use Prim.Native.Nat.{ℕ, suc, _+_, _-_, _≤_, _<_}
 use mathlib.Core.Path.{_≡_, refl, sym, ap, _∙_, subst}
 use mathlib.Core.List.{List}
 use native.Mathlib.Omega.{arith}
@@ -23,7 +23,7 @@ use Rattle.tree.specs.Grounds.{overflows}
 use Rattle.tree.specs.Whole.{Outcome, finished, stopped, onward, editsFrom, editsFromIn}
 use Rattle.tree.specs.Good.{Good}
 use Rattle.tree.proofs.Height.{tableAt}
-use Rattle.tree.proofs.Root.{Ended, Made, edited-ended}
+use Rattle.tree.proofs.Root.{Ended, Made, ended-made, edited-ended}
 use Rattle.tree_edit.specs.Steps.{stateOf}
 use Rattle.tree_edit.specs.declared.Tree.{Tree}
 
@@ -40,18 +40,6 @@ pub left-all : (n : ℕ) (before list work : List ℕ) (t : Tree) → Good n (st
 left-all n before list work t G low es e =
     let w = list-whole list es e in
     record { ahead = record { edits = es; reads = w .reads }; few = omega (arith, w .few); good = G; low = low; goes = refl }
-
--- an edit that is made gives what its law says of it
-ended-done : (P : State → Type 0) (g : ℕ) (s : Step) (t : State) → done t ≡ s → Ended g P s → P t
-ended-done P zero s t e h = subst (Ended zero P) (sym e) h
-ended-done P (suc g) s t e h = absurd (apart (e ∙ h))
-  where
-    made : Step → ℕ
-    made (done u) = 0
-    made (refused k) = 1
-
-    apart : done t ≡ refused (suc g) → ⊥
-    apart z = omega (arith, ap made z)
 
 -- ---- the next edit
 
@@ -92,9 +80,10 @@ module _ {n : ℕ} {before list : List ℕ} {all : Outcome} {work : List ℕ} {t
 
       left-made : (u : State) → done u ≡ edited e st → Made format1 noKeep n (st .free) e st u
       left-made u q =
-          ended-done (Made format1 noKeep n (st .free) e st)
-          (let r = keyRule e (tableAt format1 st) in pick (eqb r 0) (pick (overflows format1 noKeep e st) indexFull 0) r) (edited e st) u q
-          (edited-ended format1 format1-rules noKeep n (st .free) st (L .good) (λ x. omega arith) e left-proper)
+          let r = keyRule e (tableAt format1 st) in
+          let g = pick (eqb r 0) (pick (overflows format1 noKeep e st) indexFull 0) r in
+          ended-made (Made format1 noKeep n (st .free) e st) g u
+          (subst (Ended g (Made format1 noKeep n (st .free) e st)) (sym q) (edited-ended format1 format1-rules noKeep n (st .free) st (L .good) (λ x. omega arith) e left-proper))
 
       pub left-next : (w : List ℕ) (u : Tree) → done (stateOf before w u) ≡ edited (editOf (getD list at 0) k (take (at + 10 + m - (at + 10)) (drop (at + 10) list))) (stateOf before work t) →
           u .top ≤ 64 → Left n before list all w u (at + 10 + m) (i + 1)

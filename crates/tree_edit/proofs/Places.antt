@@ -10,9 +10,9 @@ use lib.ListN.{length, getD}
 use Rattle.codec.specs.Lists.{All}
 use Rattle.codec.proofs.Tests.{All-map}
 use Rattle.page.specs.Layout.{pageSize, leafKind, indexKind, topKey, Rec, recOf}
-use Rattle.page.specs.Page.{records, laidOut, formOk, RecOk, pageOk, PageOk}
+use Rattle.page.specs.Page.{records, laidOut, formOk, RecOk, pageOk}
 use Rattle.page.specs.Operations.{pageOf}
-use Rattle.page.specs.PageFormat.{format1}
+use Rattle.page.specs.PageFormat.{format1, PageOk}
 use Rattle.page.proofs.Facts.{pageOk-true, records-ok, index-form}
 use Rattle.image.specs.Image.{childOf, children, firstKey, pagesIn, IsEntry, Entries}
 use Rattle.image.specs.Facts.{Spans, Under}

@@ -1,1 +1,2 @@
 // The preview beside the transaction: definitions in specs/, theorems in proofs/.
+#![tactic(auto)]

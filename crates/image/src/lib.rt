@@ -1,4 +1,5 @@
 // The image: page 0, the index and its leaves, and the calls that read them.
+#![tactic(auto)]
 use device::Refusal;
 
 pub mod calls;

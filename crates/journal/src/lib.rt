@@ -1,5 +1,6 @@
 // The journal: how an edited image is committed, and a waiting log replayed. Its definitions and laws are in specs/ and proofs/; the code
 // that writes the tapes is in tape_write.
+#![tactic(auto)]
 
 // The two ways to write a line: by one line store, or by eight word stores for modules without line stores (document 02 (d)).
 #[derive(Drop)]

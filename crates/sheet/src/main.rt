@@ -1,6 +1,7 @@
 // The sheet program: reads the form from standard input, runs each commit as a transaction on 8 fresh pages, and writes the listing, or the
 // number of the first bad line. What the lines do to the store, which rows there are and the bytes of each line written are proved. No
 // contract can say what is read or written: that this is all of it, in this order, is tested.
+#![tactic(auto)]
 mod form;
 mod listing;
 

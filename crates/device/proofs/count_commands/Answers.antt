@@ -1,0 +1,52 @@
+-- `count_commands`: the commands left are well formed as all are, and with those counted they are all.
+-- Assumes nothing.
+use Prim.Native.Nat.{◌-◌}
+use mathlib.Core.Path.{◌≡◌, refl, sym, ap, ◌∙◌}
+use mathlib.Core.Bool.{true, false}
+use mathlib.Core.List.{[]}
+use native.Mathlib.Omega.{arith}
+use lib.ListN.{length, drop}
+use Rattle.device.specs.Tape.{decode, well_formed}
+use Rattle.device.specs.declared.Scan.TheVariants.{Commands}
+use Rattle.device.proofs.Decode.{past-at, broken-at, decode-end, well_formed-next}
+use Rattle.device.proofs.count_commands.Goals as goal
+
+pub loop-at-init : goal.loop-at-init
+loop-at-init c = (omega arith, omega arith, refl, omega arith)
+
+pub size_at-size-requires : goal.size_at-size-requires
+size_at-size-requires c = omega arith
+
+pub returns-then-size-eq0 : goal.returns-then-size-eq0
+unfolding well_formed
+returns-then-size-eq0 c =
+    let a = c.args in
+    let l = c.loop-at in
+    let f : well_formed (decode a.n a.tape.now) ≡ false = sym l.invariant.2 ∙ ap well_formed (broken-at a.n l.at a.tape.now c.loop-at-test.true (sym c.size_at-size.ensures.0 ∙ c.if-size-eq0.true)) in
+    rw f
+
+pub overflow_add-at : goal.overflow_add-at
+overflow_add-at c = omega arith
+
+pub overflow_add-count : goal.overflow_add-count
+overflow_add-count c = omega arith
+
+pub loop-at-smaller : goal.loop-at-smaller
+loop-at-smaller c = omega arith
+
+pub loop-at-preserved : goal.loop-at-preserved
+loop-at-preserved c =
+    let a = c.args in
+    let l = c.loop-at in
+    let next = past-at a.n l.at a.tape.now c.loop-at-test.true _ c.size_at-size.ensures.0 (omega arith) in
+    (c.size_at-size.ensures.1, omega arith, sym (ap well_formed next ∙ well_formed-next _ _ (omega arith)) ∙ l.invariant.2, omega (arith, ap length next))
+
+pub returns : goal.returns
+unfolding well_formed
+returns c =
+    let a = c.args in
+    let l = c.loop-at in
+    let none : decode a.n (drop l.at a.tape.now) ≡ [] = decode-end a.n l.at a.tape.now c.loop-at-test.false in
+    let f : well_formed (decode a.n a.tape.now) ≡ true = sym l.invariant.2 ∙ ap well_formed none in
+    let g : l.count ≡ length (decode a.n a.tape.now) = omega (arith, ap length none) in
+    rw f (ap Commands g)

@@ -28,7 +28,7 @@ def blocks(text):
             head.append(line)
             continue
         m = re.match(r"(?:(?:abbrev|unfoldable|pub)\s+)*(" + WORD + r")(?:\s*\{[^}]*\})*\s*:\s", line)
-        if m or re.match(r"(module|open|infix|data|record|--)", line):
+        if m or re.match(r"(module |open |infix|data |record |--)", line):
             if now is None or now["name"] is not None or m is None:
                 now = {"name": m.group(1) if m else None, "lines": []}
                 decls.append(now)
@@ -292,6 +292,39 @@ def answer(decl, fn, helpers):
     return f"pub {new} : goal.{new}\n" + body
 
 
+def by_hand(path, crate, entry):
+    """The proof stays by hand (Proof.antt), with today's names of goals, places and steps."""
+    fn = Fn(entry)
+    text = open(path, encoding="utf-8").read()
+    asked = {flat(old): new for old, new in entry["needs"]}
+    loops = {old.replace("_", "-"): new for (old, new), _ in entry["loops"]}
+    steps = {}
+    for place in entry["places"]:
+        if place[2][0]:
+            steps.setdefault(flat(place[2][0]), (place[2][1], {}))[1].update({old: new for old, new in place[4] if old != "fact"})
+    text = re.sub(r"\btie\.Need-(" + WORD + r")", lambda m: "tie.Need-" + asked.get(flat(m.group(1)), "LEFT-" + m.group(1)), text)
+    text = re.sub(r"\btie\.(" + WORD + r")", lambda m: "tie." + fn.names[fn.index[flat(m.group(1))]] if flat(m.group(1)) in fn.index else m.group(0), text)
+    for old, new in loops.items():
+        text = re.sub(r"\b(invariant|decreases)-" + old + r"(?![\w-])", r"\1-" + new, text)
+
+    def step(m):
+        key = flat(m.group(1))
+        if key in steps:
+            new, fields = steps[key]
+            rest = m.group(2) or ""
+            return "." + new + ("." + fields.get(rest[1:], rest[1:]) if rest else "")
+        return m.group(0)
+
+    text = re.sub(r"(?<=before)\.(?!before)(" + WORD + r")(\.[\w-]+)?", step, text)
+    text = re.sub(r"(?<![\w.'-])(?<=c)\.(?!before)(" + WORD + r")(\.[\w-]+)?", step, text)
+    text = re.sub(r"\b(?<![.])(?P<v>[chsw])(?=\.)", r"\g<v>!", text)
+    text = re.sub(r"!\.(?!before)(" + WORD + r")(\.[\w-]+)?", step, text).replace("!.", ".")
+    text = re.sub(r"(?<=loop)\.inv\b|(?<=" + "|(?<=".join(re.escape(n) + r")\.inv\b" for n in loops.values() or ["loop"]), ".invariant", text)
+    f = os.path.basename(os.path.dirname(path))
+    text = re.sub(r"\b" + f.replace("_", "-") + r"-spec\b", f + "_spec", text)
+    open(path, "w").write(text)
+
+
 def helper(t, fn, helpers, imports):
     places = []
 
@@ -361,8 +394,9 @@ def turn(path, crate, entry):
         else:
             ans.append(helper(t, fn, helpers, imports))
             m = re.search(r"(?m)^" + re.escape(d["name"] or "?") + r" c =\s*(.*)\Z", t, re.S)
-            if m and d["name"] in helpers:
-                BODIES[d["name"]] = m.group(1).strip()
+            k = re.search(r"\(c : tie\.[^)]*\)\s*→\s*(.*)\n", t)
+            if m and k and d["name"] in helpers:
+                BODIES[d["name"]] = f"let {d['name']} : {k.group(1).strip()} = {m.group(1).strip()} in {d['name']}"
     folder = os.path.dirname(path)
     comments = [l for l in head if l.startswith("--")]
     skip = r"\.(Statement|Tie)\b"
@@ -392,7 +426,10 @@ def main():
             if key not in data:
                 print("no names:", path)
                 continue
-            turn(path, crate, data[key])
+            if os.path.relpath(folder, f"crates/{crate}/proofs") in sys.argv[3:]:
+                by_hand(path, crate, data[key])
+            else:
+                turn(path, crate, data[key])
 
 
 if __name__ == "__main__":

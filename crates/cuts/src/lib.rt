@@ -10,14 +10,14 @@ ghost use Rattle.cuts.specs.Calls.{small_tape, count_call, nth_of, with_cut, nth
 use device::{Refusal, Scan};
 
 // What the calls answer: the number of cuts, or a cut's count of commands.
-#[derive(Drop)]
+#[derive(Clone, Copy)]
 pub enum Counted {
     Number(usize),
     Refused(Refusal),
 }
 
 // What a command does: a barrier waits for the flushes before it.
-#[derive(Drop)]
+#[derive(Clone, Copy)]
 pub enum Does {
     Stores,
     Flushes,
@@ -25,7 +25,7 @@ pub enum Does {
 }
 
 // A command: what it does, the line that it stores to or flushes, which is 0 for a barrier, and its bytes on the tape.
-#[derive(Drop)]
+#[derive(Clone, Copy)]
 pub struct Command {
     pub does: Does,
     pub line: usize,
@@ -33,7 +33,7 @@ pub struct Command {
 }
 
 // Where a cut stands: its count of commands, and its number among the cuts of that count.
-#[derive(Drop)]
+#[derive(Clone, Copy)]
 pub struct Place {
     pub commands: usize,
     pub rest: usize,

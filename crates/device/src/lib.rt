@@ -9,7 +9,7 @@ ghost use Rattle.device.specs.Counts.{size_of, scanned, flush_done, note_flush, 
 ghost use Rattle.device.specs.Calls.{refusal, is_image_size, run_call, cut_tape, cut_call};
 
 // A refusal: its number, and the number of the edit that it names.
-#[derive(Drop)]
+#[derive(Clone, Copy)]
 pub struct Refusal {
     pub number: u8,
     pub edit: u8,
@@ -65,14 +65,14 @@ impl Refusal {
 }
 
 // What the calls answer that give nothing more.
-#[derive(Drop)]
+#[derive(Clone, Copy)]
 pub enum Answer {
     Accepted,
     Refused(Refusal),
 }
 
 // What reading a whole tape finds: how many commands there are, unless one is malformed.
-#[derive(Drop)]
+#[derive(Clone, Copy)]
 pub enum Scan {
     Commands(usize),
     Broken,
@@ -80,7 +80,7 @@ pub enum Scan {
 
 // What a cut's first pass over the tape finds: how many commands there are, and where the last barrier among the first ones ends, unless one is
 // malformed.
-#[derive(Drop)]
+#[derive(Clone, Copy)]
 enum Judged {
     Good(usize, usize),
     Bad,

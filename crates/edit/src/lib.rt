@@ -9,7 +9,7 @@ ghost use Rattle.edit.specs.Judged.{judged_of};
 use device::Refusal;
 
 // What the whole list is: well formed, or refused for its first faulty edit.
-#[derive(Drop)]
+#[derive(Clone, Copy)]
 pub enum Judged {
     Good,
     Faulty(Refusal),

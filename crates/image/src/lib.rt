@@ -10,7 +10,7 @@ pub mod pages;
 pub mod tree;
 
 // What page 0 says.
-#[derive(Drop)]
+#[derive(Clone, Copy)]
 pub enum PageZero {
     // Line 0 departs from its layout, or the root is no page.
     Wrong,
@@ -21,14 +21,14 @@ pub enum PageZero {
 }
 
 // The root that page 0 names, or why it is not read.
-#[derive(Drop)]
+#[derive(Clone, Copy)]
 pub enum Root {
     At(usize),
     Refused(Refusal),
 }
 
 // A page on the way down from the root, and the range of the keys that belong to it.
-#[derive(Drop)]
+#[derive(Clone, Copy)]
 pub struct Place {
     pub page: usize,
     pub from: u64,
@@ -36,7 +36,7 @@ pub struct Place {
 }
 
 // What a lookup answers: the value's offset in the image and its length, or that the key is missing.
-#[derive(Drop)]
+#[derive(Clone, Copy)]
 pub enum Lookup {
     Found { offset: usize, length: usize },
     Missing,
@@ -44,7 +44,7 @@ pub enum Lookup {
 }
 
 // What next key answers: the smallest larger key, or that there is none.
-#[derive(Drop)]
+#[derive(Clone, Copy)]
 pub enum Next {
     Key(u64),
     Last,

@@ -3,14 +3,14 @@
 #![tactic(auto)]
 
 // The two ways to write a line: by one line store, or by eight word stores for modules without line stores (document 02 (d)).
-#[derive(Drop)]
+#[derive(Clone, Copy)]
 pub enum Way {
     ByLine,
     ByWords,
 }
 
 // Where a transaction commits: "a header, the root word or the log".
-#[derive(Drop)]
+#[derive(Clone, Copy)]
 pub enum CommitPlace {
     Header(usize),
     Root,
@@ -18,7 +18,7 @@ pub enum CommitPlace {
 }
 
 // An accepted transaction: its commit place, the tape bytes used, and the number of flush commands on the tape.
-#[derive(Drop)]
+#[derive(Clone, Copy)]
 pub struct Commit {
     pub place: CommitPlace,
     pub bytes: usize,

@@ -8,7 +8,7 @@ ghost use Rattle.lines.specs.Form.{line_bytes, meaning, line_in, line_edit};
 ghost use Rattle.lines.specs.Listing.{row_bytes, total_bytes, number_bytes};
 
 // What a line says.
-#[derive(Drop)]
+#[derive(Clone, Copy)]
 pub enum Line {
     Commit,
     Edit { kind: u8, key: u64, price: u64 },

@@ -18,7 +18,7 @@ pub mod leaves;
 
 // A place in a book: the record that comes next, by its leaf's slot in the index, the leaf's page and its own slot there, with its key; or,
 // where none comes, the end of all keys.
-#[derive(Drop)]
+#[derive(Clone, Copy)]
 pub struct Cursor {
     pub leaf: usize,
     pub page: usize,
@@ -27,14 +27,14 @@ pub struct Cursor {
 }
 
 // A place in each of two books.
-#[derive(Drop)]
+#[derive(Clone, Copy)]
 pub struct Cursors {
     pub first: Cursor,
     pub second: Cursor,
 }
 
 // How many leaves the records of two books fill, unless a key is in both.
-#[derive(Drop)]
+#[derive(Clone, Copy)]
 pub enum Counted {
     InBoth,
     Leaves(usize),

@@ -72,7 +72,7 @@ laid_out p =
     let h = read_head p in
     let es = entries p in
     every
-    (length p == page_size
+    ((length p == page_size)
     ∷ head_ok h
     ∷ eqs (take line_size p) (header_bytes h)
     ∷ all_b (held_b p h.start) es

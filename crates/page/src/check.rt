@@ -17,7 +17,7 @@ const TOP_KEY: u64 = 999_999_999_999;
 const VALUE_MOST: u64 = 200;
 
 // A set of the page's 128 units of eight bytes, a bit for each: the lower 64 and the higher 64.
-#[derive(Drop)]
+#[derive(Clone, Copy)]
 struct Marks {
     low: u64,
     high: u64,

@@ -6,7 +6,7 @@ ghost use Rattle.page.specs.Operations.{insert_head, update_head, delete_head};
 
 // The header: how many records, the content start, the kind and the page's own number, with the offsets of its records.
 // "the rest of the line is 28 slots of two bytes"
-#[derive(Drop)]
+#[derive(Clone, Copy)]
 pub struct Header {
     pub count: usize,
     pub start: usize,

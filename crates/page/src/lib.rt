@@ -8,7 +8,7 @@ pub mod check;
 pub mod header;
 
 // What a search for a key finds: the record's slot, or the slot where it would stand.
-#[derive(Drop)]
+#[derive(Clone, Copy)]
 pub enum Search {
     At(usize),
     Missing(usize),

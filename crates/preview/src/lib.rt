@@ -8,7 +8,7 @@ pub mod keys;
 pub mod seen;
 
 // What a preview answers: the part that is the value, in one of the two lent slices, or that the key would be missing.
-#[derive(Drop)]
+#[derive(Clone, Copy)]
 pub enum Preview {
     // In the edit list: the value's offset there and its length.
     InList { offset: usize, length: usize },
@@ -19,7 +19,7 @@ pub enum Preview {
 }
 
 // Whether a key is there when an edit comes to it; unsound where the leaf that it belongs to is.
-#[derive(Drop)]
+#[derive(Clone, Copy)]
 pub enum Presence {
     Present,
     Absent,

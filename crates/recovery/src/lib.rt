@@ -21,14 +21,14 @@ use tape_write::Replayed;
 use tape_write::redo::{logged_ok, redo, replay};
 
 // An accepted recovery: the tape bytes used, and the number of flush commands on the tape.
-#[derive(Drop)]
+#[derive(Clone, Copy)]
 pub struct Redone {
     pub bytes: usize,
     pub flushes: usize,
 }
 
 // What a recovery answers.
-#[derive(Drop)]
+#[derive(Clone, Copy)]
 pub enum Recovered {
     Accepted(Redone),
     Refused(Refusal),

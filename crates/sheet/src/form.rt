@@ -8,7 +8,7 @@ use lines::Line;
 use transaction::Transacted;
 
 // The edits that wait and the bytes that they take in the edit list; the transactions accepted and refused so far.
-#[derive(Drop)]
+#[derive(Clone, Copy)]
 pub struct Counts {
     pub edits: usize,
     pub used: usize,
@@ -17,7 +17,7 @@ pub struct Counts {
 }
 
 // How the form ended: the number of its bad line, or all lines taken.
-#[derive(Drop)]
+#[derive(Clone, Copy)]
 pub enum End {
     Bad(u64),
     Whole { accepted: u64, refused: u64 },

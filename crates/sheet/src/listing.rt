@@ -10,7 +10,7 @@ use image::calls::{lookup, next_key};
 use image::{Lookup, Next};
 
 // A row, or the end of the rows.
-#[derive(Drop)]
+#[derive(Clone, Copy)]
 pub enum Visit {
     Row {
         page: usize,

@@ -23,7 +23,7 @@ mod sizes;
 mod words;
 
 // What writing a transaction's tape came to.
-#[derive(Drop)]
+#[derive(Clone, Copy)]
 pub enum Written {
     Done(Commit),
     // More changed headers than the log holds.
@@ -32,14 +32,14 @@ pub enum Written {
 }
 
 // What writing a recovery's tape came to.
-#[derive(Drop)]
+#[derive(Clone, Copy)]
 pub enum Replayed {
     Done { bytes: usize, flushes: usize },
     TapeShort,
 }
 
 // What differs: words of stage A and the lines that they lie in, changed headers, and whether the root word is as it was.
-#[derive(Drop)]
+#[derive(Clone, Copy)]
 pub struct Changes {
     pub words: usize,
     pub lines: usize,

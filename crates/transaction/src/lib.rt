@@ -21,7 +21,7 @@ use tree_edit::ends::{finish, marks_of};
 use tree_edit::{Outcome, Tree};
 
 // What a transaction answers.
-#[derive(Drop)]
+#[derive(Clone, Copy)]
 pub enum Transacted {
     Accepted(Commit),
     Refused(Refusal),

@@ -7,28 +7,28 @@ pub mod split;
 pub mod turns;
 
 // The tree under edit: its root page, and the number below which new pages are looked for.
-#[derive(Drop)]
+#[derive(Clone, Copy)]
 pub struct Tree {
     pub root: usize,
     pub top: usize,
 }
 
 // What an edit comes to: the tree after it, or the number of its refusal, with work left as it then is.
-#[derive(Drop)]
+#[derive(Clone, Copy)]
 pub enum Stepped {
     Done(Tree),
     Refused(u8),
 }
 
 // What a list of edits comes to: the tree after all, or a refusal's number with the number of the edit.
-#[derive(Drop)]
+#[derive(Clone, Copy)]
 pub enum Outcome {
     Finished(Tree),
     Stopped { number: u8, edit: u8 },
 }
 
 // A page on the way down: its slot in the page above, where its range of keys starts, and its number.
-#[derive(Drop)]
+#[derive(Clone, Copy)]
 pub struct Child {
     pub slot: usize,
     pub low: u64,
@@ -36,7 +36,7 @@ pub struct Child {
 }
 
 // A record put into a page: as the at-th, or in place of the at-th. Its value is lent beside it.
-#[derive(Drop)]
+#[derive(Clone, Copy)]
 pub struct Put {
     pub ins: bool,
     pub at: usize,
@@ -45,7 +45,7 @@ pub struct Put {
 
 // What stands for a page once an edit under it is made: the page itself, nothing, one new page, or two, the right one from sep on; each with
 // the number below which new pages are then looked for. Or the number of a refusal.
-#[derive(Drop)]
+#[derive(Clone, Copy)]
 pub enum Turned {
     Kept {
         top: usize,

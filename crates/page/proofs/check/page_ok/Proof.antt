@@ -14,18 +14,18 @@ use Rattle.page.proofs.CheckPage.{units, units-are, Next, form-fitting, fitting-
 use Rattle.page.proofs.check.page_ok.Statement.{statement}
 use Rattle.page.proofs.check.page_ok.Tie as tie
 
-abbrev invariant-loop : tie.invariant-loop
-invariant-loop page kind own count start low₀ marks₀ i₀ low marks i = (i ≤ count) × Pass kind page low (marks.high * 2 ^ 64 + marks.low) i
+abbrev invariant-loop-i : tie.invariant-loop-i
+invariant-loop-i page kind own count start low₀ marks₀ i₀ low marks i = (i ≤ count) × Pass kind page low (marks.high * 2 ^ 64 + marks.low) i
 
-abbrev decreases-loop : tie.decreases-loop
-decreases-loop page kind own count start low₀ marks₀ i₀ low marks i = count - i
+abbrev decreases-loop-i : tie.decreases-loop-i
+decreases-loop-i page kind own count start low₀ marks₀ i₀ low marks i = count - i
 
-head-ok-requires : tie.Need-head-ok-requires invariant-loop decreases-loop
+head-ok-requires : tie.Need-head_ok-requires invariant-loop-i decreases-loop-i
 head-ok-requires c κs = tt
 
 -- a turn, once the record's offset is read: the page, its kind and own number, the offset, the least key and the units taken
 abbrev Turn : Type 0
-Turn = tie.After-number-at3 invariant-loop decreases-loop
+Turn = tie.After-number_at-at invariant-loop-i decreases-loop-i
 
 abbrev p : Turn → List ℕ
 p c = c.before.before.before.before.before.before.before.before.before.before.args.page.now
@@ -37,156 +37,156 @@ abbrev own : Turn → ℕ
 own c = c.before.before.before.before.before.before.before.before.before.before.args.own
 
 abbrev o : Turn → ℕ
-o c = c.number-at3.result
+o c = c.number_at-at.result
 
 abbrev low : Turn → ℕ
-low c = c.before.before.loop.low
+low c = c.before.before.loop-i.low
 
 abbrev taken : Turn → ℕ
-taken c = c.before.before.loop.marks.high * 2 ^ 64 + c.before.before.loop.marks.low
+taken c = c.before.before.loop-i.marks.high * 2 ^ 64 + c.before.before.loop-i.marks.low
 
 -- the header is right
-headed : (c : tie.Else1 invariant-loop decreases-loop) → Headed c.before.before.before.args.kind c.before.before.before.args.own c.before.before.before.args.page.now
-headed c = head-headed _ _ _ (sym c.before.head_ok.ensures ∙ not-false _ c.if1.false)
+headed : (c : tie.Else-not-head_ok invariant-loop-i decreases-loop-i) → Headed c.before.before.before.args.kind c.before.before.before.args.own c.before.before.before.args.page.now
+headed c = head-headed _ _ _ (sym c.before.head_ok.ensures ∙ not-false _ c.if-not-head_ok.false-raw)
 
 -- the record is listed, in the header line
-less : (c : tie.In-loop invariant-loop decreases-loop) → c.before.loop.i < length (records c.before.before.before.before.before.before.before.before.before.args.page.now)
-less c = omega (arith, c.loop-test.true, c.before.before.before.before.before.number_at.ensures.0, count_at c.before.before.before.before.before.before.before.before.before.args.page.now)
+less : (c : tie.In-loop-i invariant-loop-i decreases-loop-i) → c.before.loop-i.i < length (records c.before.before.before.before.before.before.before.before.before.args.page.now)
+less c = omega (arith, c.loop-i-test.true, c.before.before.before.before.before.number_at-count.ensures.0, count_at c.before.before.before.before.before.before.before.before.before.args.page.now)
 
-within : (c : tie.In-loop invariant-loop decreases-loop) → c.before.loop.i < slot_count
+within : (c : tie.In-loop-i invariant-loop-i decreases-loop-i) → c.before.loop-i.i < slot_count
 within c = omega (arith, less c, length-records c.before.before.before.before.before.before.before.before.before.args.page.now, (headed c.before.before.before.before.before.before).head.few)
 
 -- if it may not come next
 stop : (h : Turn) → (Next (kind h) (p h) (low h) (taken h) (entry_at (p h) (o h)) → ⊥) → page_ok (kind h) (own h) (p h) ≡ false
-stop h = pass-stop (kind h) (own h) (p h) (low h) (taken h) _ h.before.before.loop.inv.1 (o h) h.number-at3.ensures.0 (less h.before)
+stop h = pass-stop (kind h) (own h) (p h) (low h) (taken h) _ h.before.before.loop-i.invariant.1 (o h) h.number_at-at.ensures.0 (less h.before)
 
 -- the test of the record, and what follows where it holds
-checked : (c : tie.After-record-ok invariant-loop decreases-loop) → let h = c.before in c.record-ok.result ≡ record_b (kind h) (p h) (read_head (p h)).start (o h)
-checked c = let h = c.before in c.record-ok.ensures ∙ ap (λ (n : ℕ). record_b (kind h) (p h) n (o h)) (c.before.before.before.before.before.before.number-at2.ensures.0 ∙ sym (start_is (p h)))
+checked : (c : tie.After-record_ok invariant-loop-i decreases-loop-i) → let h = c.before in c.record_ok.result ≡ record_b (kind h) (p h) (read_head (p h)).start (o h)
+checked c = let h = c.before in c.record_ok.ensures ∙ ap (λ (n : ℕ). record_b (kind h) (p h) n (o h)) (c.before.before.before.before.before.before.number_at-start.ensures.0 ∙ sym (start_is (p h)))
 
-good : (c : tie.Else2 invariant-loop decreases-loop) → let h = c.before.before in record_b (kind h) (p h) (read_head (p h)).start (o h) ≡ true
-good c = let h = c.before.before in sym (checked c.before) ∙ not-false _ c.if2.false
+good : (c : tie.Else-not-record_ok invariant-loop-i decreases-loop-i) → let h = c.before.before in record_b (kind h) (p h) (read_head (p h)).start (o h) ≡ true
+good c = let h = c.before.before in sym (checked c.before) ∙ not-false _ c.if-not-record_ok.false-raw
 
-held : (c : tie.Else2 invariant-loop decreases-loop) → let h = c.before.before in Held (p h) (read_head (p h)).start (entry_at (p h) (o h))
+held : (c : tie.Else-not-record_ok invariant-loop-i decreases-loop-i) → let h = c.before.before in Held (p h) (read_head (p h)).start (entry_at (p h) (o h))
 held c = let h = c.before.before in record-held (kind h) (p h) _ (o h) (good c)
 
-numbers : (c : tie.Else2 invariant-loop decreases-loop) → let h = c.before.before in Numbers (p h) (o h)
+numbers : (c : tie.Else-not-record_ok invariant-loop-i decreases-loop-i) → let h = c.before.before in Numbers (p h) (o h)
 numbers c = let h = c.before.before in held-numbers (p h) _ (o h) (headed c.before.before.before.before.before.before.before.before.before).whole (held c)
 
 -- its units, and whether they are free
-units-same : (c : tie.After-run invariant-loop decreases-loop) → let h = c.before.before.before.before.before.before in c.run.result.high * 2 ^ 64 + c.run.result.low ≡ units (entry_at (p h) (o h))
-units-same c = let h = c.before.before.before.before.before.before in c.run.ensures ∙ units-are (p h) (o h) c.before.long-at2.result (c.before.long-at2.ensures ∙ (numbers c.before.before.before.before).word)
+units-same : (c : tie.After-run-units invariant-loop-i decreases-loop-i) → let h = c.before.before.before.before.before.before in c.run-units.result.high * 2 ^ 64 + c.run-units.result.low ≡ units (entry_at (p h) (o h))
+units-same c = let h = c.before.before.before.before.before.before in c.run-units.ensures ∙ units-are (p h) (o h) c.before.long_at-n.result (c.before.long_at-n.ensures ∙ (numbers c.before.before.before.before).word)
 
-tested : (c : tie.After-apart invariant-loop decreases-loop) → let h = c.before.before.before.before.before.before.before in c.apart.result ≡ eqb (bit_and (taken h) (units (entry_at (p h) (o h)))) 0
+tested : (c : tie.After-apart invariant-loop-i decreases-loop-i) → let h = c.before.before.before.before.before.before.before in c.apart.result ≡ eqb (bit_and (taken h) (units (entry_at (p h) (o h)))) 0
 tested c = let h = c.before.before.before.before.before.before.before in c.apart.ensures ∙ ap (λ (n : ℕ). eqb (bit_and (taken h) n) 0) (units-same c.before)
 
 -- after all tests it may come next
-next : (c : tie.Else4 invariant-loop decreases-loop) → let h = c.before.before.before.before.before.before.before.before in Next (kind h) (p h) (low h) (taken h) (entry_at (p h) (o h))
+next : (c : tie.Else-not-apart invariant-loop-i decreases-loop-i) → let h = c.before.before.before.before.before.before.before.before in Next (kind h) (p h) (low h) (taken h) (entry_at (p h) (o h))
 next c =
-    let if3 = c.before.before.before.before.if3 in
+    let if3 = c.before.before.before.before.if-key-low in
     let h = c.before.before.before.before.before.before.before.before in
-    let key = c.before.before.before.before.before.long-at.ensures ∙ (numbers c.before.before.before.before.before.before).key in
+    let key = c.before.before.before.before.before.long_at-key.ensures ∙ (numbers c.before.before.before.before.before.before).key in
     record {
       held = held c.before.before.before.before.before.before;
-      form = fitting-form (kind h) _ (omega (arith, c.before.before.before.before.before.before.before.before.before.before.loop.invariant.1.above, if3.false)) (record-fits (kind h) (p h) _ (o h) (good c.before.before.before.before.before.before));
+      form = fitting-form (kind h) _ (omega (arith, c.before.before.before.before.before.before.before.before.before.before.loop-i.invariant.1.above, if3.false)) (record-fits (kind h) (p h) _ (o h) (good c.before.before.before.before.before.before));
       above = omega (arith, if3.false);
-      clear = eqb-true _ 0 (sym (tested c.before) ∙ not-false _ c.if4.false);
+      clear = eqb-true _ 0 (sym (tested c.before) ∙ not-false _ c.if-not-apart.false-raw);
     }
 
-returns : tie.Need-returns invariant-loop decreases-loop
-returns c = sym (head-stop _ _ _ (sym c.before.head_ok.ensures ∙ not-true _ c.if1.true))
+returns : tie.Need-returns-then-not-head_ok invariant-loop-i decreases-loop-i
+returns c = sym (head-stop _ _ _ (sym c.before.head_ok.ensures ∙ not-true _ c.if-not-head_ok.true-raw))
 
-number-at-requires : tie.Need-number-at-requires invariant-loop decreases-loop
+number-at-requires : tie.Need-number_at-count-requires invariant-loop-i decreases-loop-i
 number-at-requires c κs = omega (arith, (headed c).whole)
 
-number-at-requires-2 : tie.Need-number-at-requires-2 invariant-loop decreases-loop
+number-at-requires-2 : tie.Need-number_at-start-requires invariant-loop-i decreases-loop-i
 number-at-requires-2 c κs = omega (arith, (headed c.before).whole)
 
-by-kind-requires : tie.Need-by-kind-requires invariant-loop decreases-loop
+by-kind-requires : tie.Need-by_kind-low-requires invariant-loop-i decreases-loop-i
 by-kind-requires c κs = tt
 
-none-requires : tie.Need-none-requires invariant-loop decreases-loop
+none-requires : tie.Need-none-marks-requires invariant-loop-i decreases-loop-i
 none-requires c κs = tt
 
-loop-holds : tie.Need-loop-init invariant-loop decreases-loop
-loop-holds c = (omega arith, pass-start _ _ _ _ c.before.by_kind.ensures c.none.ensures)
+loop-holds : tie.Need-loop-i-init invariant-loop-i decreases-loop-i
+loop-holds c = (omega arith, pass-start _ _ _ _ c.before.by_kind-low.ensures c.none-marks.ensures)
 
-mul-number-at : tie.Need-overflow-mul-number-at invariant-loop decreases-loop
+mul-number-at : tie.Need-overflow_mul-i invariant-loop-i decreases-loop-i
 mul-number-at c = omega (arith, within c)
 
-add-number-at : tie.Need-overflow-add-number-at invariant-loop decreases-loop
+add-number-at : tie.Need-overflow_add-i invariant-loop-i decreases-loop-i
 add-number-at c = omega (arith, within c)
 
-number-at-requires-3 : tie.Need-number-at-requires-3 invariant-loop decreases-loop
+number-at-requires-3 : tie.Need-number_at-at-requires invariant-loop-i decreases-loop-i
 number-at-requires-3 c κs = omega (arith, within c, (headed c.before.before.before.before.before.before).whole)
 
-record-ok-requires : tie.Need-record-ok-requires invariant-loop decreases-loop
-record-ok-requires c κs = ((headed c.before.before.before.before.before.before.before).whole, c.number-at3.ensures.1)
+record-ok-requires : tie.Need-record_ok-requires invariant-loop-i decreases-loop-i
+record-ok-requires c κs = ((headed c.before.before.before.before.before.before.before).whole, c.number_at-at.ensures.1)
 
-returns-2 : tie.Need-returns-2 invariant-loop decreases-loop
+returns-2 : tie.Need-returns-then-not-record_ok invariant-loop-i decreases-loop-i
 returns-2 c =
     let h = c.before.before in
-    sym (stop h (λ n. false≢true (sym (not-true _ c.if2.true) ∙ checked c.before ∙ held-record (kind h) (p h) _ (o h) n.held (form-fitting (kind h) _ n.form))))
+    sym (stop h (λ n. false≢true (sym (not-true _ c.if-not-record_ok.true-raw) ∙ checked c.before ∙ held-record (kind h) (p h) _ (o h) n.held (form-fitting (kind h) _ n.form))))
 
-long-at-requires : tie.Need-long-at-requires invariant-loop decreases-loop
+long-at-requires : tie.Need-long_at-key-requires invariant-loop-i decreases-loop-i
 long-at-requires c κs = omega (arith, (numbers c).inside, (headed c.before.before.before.before.before.before.before.before.before).whole)
 
-returns-3 : tie.Need-returns-3 invariant-loop decreases-loop
-returns-3 c = sym (stop c.before.before.before.before (λ n. omega (arith, n.above, c.if3.true, c.before.long-at.ensures, (numbers c.before.before).key)))
+returns-3 : tie.Need-returns-then-key-low invariant-loop-i decreases-loop-i
+returns-3 c = sym (stop c.before.before.before.before (λ n. omega (arith, n.above, c.if-key-low.true, c.before.long_at-key.ensures, (numbers c.before.before).key)))
 
-add-long-at : tie.Need-overflow-add-long-at invariant-loop decreases-loop
+add-long-at : tie.Need-overflow_add-at invariant-loop-i decreases-loop-i
 add-long-at c = omega (arith, (numbers c.before.before).inside)
 
-long-at-requires-2 : tie.Need-long-at-requires-2 invariant-loop decreases-loop
+long-at-requires-2 : tie.Need-long_at-n-requires invariant-loop-i decreases-loop-i
 long-at-requires-2 c κs = omega (arith, (numbers c.before.before).inside, (headed c.before.before.before.before.before.before.before.before.before.before.before).whole)
 
-add-run : tie.Need-overflow-add-run invariant-loop decreases-loop
-add-run c = omega (arith, (numbers c.before.before.before).few, c.long-at2.ensures)
+add-run : tie.Need-overflow_add-n invariant-loop-i decreases-loop-i
+add-run c = omega (arith, (numbers c.before.before.before).few, c.long_at-n.ensures)
 
-add-run-2 : tie.Need-overflow-add-run-2 invariant-loop decreases-loop
-add-run-2 c = omega (arith, (numbers c.before.before.before).few, c.long-at2.ensures)
+add-run-2 : tie.Need-overflow_add-n-in-loop-i invariant-loop-i decreases-loop-i
+add-run-2 c = omega (arith, (numbers c.before.before.before).few, c.long_at-n.ensures)
 
-run-requires : tie.Need-run-requires invariant-loop decreases-loop
-run-requires c κs = omega (arith, (numbers c.before.before.before).few, (numbers c.before.before.before).high, c.long-at2.ensures, (held c.before.before.before).low, (headed c.before.before.before.before.before.before.before.before.before.before.before.before).head.low)
+run-requires : tie.Need-run-units-requires invariant-loop-i decreases-loop-i
+run-requires c κs = omega (arith, (numbers c.before.before.before).few, (numbers c.before.before.before).high, c.long_at-n.ensures, (held c.before.before.before).low, (headed c.before.before.before.before.before.before.before.before.before.before.before.before).head.low)
 
-apart-requires : tie.Need-apart-requires invariant-loop decreases-loop
+apart-requires : tie.Need-apart-requires invariant-loop-i decreases-loop-i
 apart-requires c κs = tt
 
-returns-4 : tie.Need-returns-4 invariant-loop decreases-loop
-returns-4 c = sym (stop c.before.before.before.before.before.before.before.before (λ n. false≢true (sym (not-true _ c.if4.true) ∙ tested c.before ∙ eq-eqb _ 0 n.clear)))
+returns-4 : tie.Need-returns-then-not-apart invariant-loop-i decreases-loop-i
+returns-4 c = sym (stop c.before.before.before.before.before.before.before.before (λ n. false≢true (sym (not-true _ c.if-not-apart.true-raw) ∙ tested c.before ∙ eq-eqb _ 0 n.clear)))
 
-with-requires : tie.Need-with-requires invariant-loop decreases-loop
+with-requires : tie.Need-with-marks-requires invariant-loop-i decreases-loop-i
 with-requires c κs = tt
 
-add_low : tie.Need-overflow-add-low invariant-loop decreases-loop
-add_low c = omega (arith, (numbers c.before.before.before.before.before.before.before).small, c.before.before.before.before.before.before.long-at.ensures)
+add_low : tie.Need-overflow_add-low invariant-loop-i decreases-loop-i
+add_low c = omega (arith, (numbers c.before.before.before.before.before.before.before).small, c.before.before.before.before.before.before.long_at-key.ensures)
 
-add-i : tie.Need-overflow-add-i invariant-loop decreases-loop
-add-i c = omega (arith, c.before.before.before.before.before.before.before.before.before.before.loop-test.true, c.before.before.before.before.before.before.before.before.before.before.before.before.before.before.before.number_at.ensures.1)
+add-i : tie.Need-overflow_add-i-in-loop-i invariant-loop-i decreases-loop-i
+add-i c = omega (arith, c.before.before.before.before.before.before.before.before.before.before.loop-i-test.true, c.before.before.before.before.before.before.before.before.before.before.before.before.before.before.before.number_at-count.ensures.1)
 
-loop-less : tie.Need-loop-smaller invariant-loop decreases-loop
+loop-less : tie.Need-loop-i-smaller invariant-loop-i decreases-loop-i
 loop-less c = omega arith
 
-loop-again : tie.Need-loop-preserved invariant-loop decreases-loop
+loop-again : tie.Need-loop-i-preserved invariant-loop-i decreases-loop-i
 loop-again c =
     let h = c.before.before.before.before.before.before.before.before.before in
-    let key = c.before.before.before.before.before.before.long-at.ensures ∙ (numbers c.before.before.before.before.before.before.before).key in (
+    let key = c.before.before.before.before.before.before.long_at-key.ensures ∙ (numbers c.before.before.before.before.before.before.before).key in (
       omega arith,
-      pass-next (kind h) (own h) (p h) (low h) (taken h) _ c.before.before.before.before.before.before.before.before.before.before.before.loop.invariant.1 (o h) c.before.before.before.before.before.before.before.before.before.number-at3.ensures.0 (less c.before.before.before.before.before.before.before.before.before.before) (next c.before) _ _ (omega arith)
-          (c.with.ensures ∙ ap (bit_or (taken h)) (units-same c.before.before.before)),
+      pass-next (kind h) (own h) (p h) (low h) (taken h) _ c.before.before.before.before.before.before.before.before.before.before.before.loop-i.invariant.1 (o h) c.before.before.before.before.before.before.before.before.before.number_at-at.ensures.0 (less c.before.before.before.before.before.before.before.before.before.before) (next c.before) _ _ (omega arith)
+          (c.with-marks.ensures ∙ ap (bit_or (taken h)) (units-same c.before.before.before)),
     )
 
-returns-5 : tie.Need-returns-5 invariant-loop decreases-loop
+returns-5 : tie.Need-returns invariant-loop-i decreases-loop-i
 returns-5 c =
-    let l = c.before.loop in
-    sym (pass-end _ _ _ l.low _ l.i l.invariant.1 (headed c.before.before.before.before.before.before) (omega (arith, c.loop-test.false, c.before.before.before.before.before.number_at.ensures.0, count_at c.before.before.before.before.before.before.before.before.before.args.page.now)))
+    let l = c.before.loop-i in
+    sym (pass-end _ _ _ l.low _ l.i l.invariant.1 (headed c.before.before.before.before.before.before) (omega (arith, c.loop-i-test.false, c.before.before.before.before.before.number_at-count.ensures.0, count_at c.before.before.before.before.before.before.before.before.before.args.page.now)))
 
-pub page-ok-spec : {M : Type 1} → statement M
-page-ok-spec =
+pub page_ok_spec : {M : Type 1} → statement M
+page_ok_spec =
     tie.close
     (tie.spec
-    invariant-loop
-    decreases-loop
+    invariant-loop-i
+    decreases-loop-i
     head-ok-requires
     returns
     number-at-requires

@@ -16,7 +16,7 @@ WORD = r"[A-Za-z_\u0370-\u03ff][\w'\u2080-\u2089\u0370-\u03ff]*(?:-[\w'\u2080-\u
 
 
 def flat(name):
-    return re.sub(r"overflow_", "", name.replace("-", "_").lower())
+    return re.sub(r"overflow_|nonzero_", "", name.replace("-", "_").lower()).replace("slice_bounds_", "part_")
 
 
 def blocks(text):
@@ -42,6 +42,7 @@ def blocks(text):
 
 
 BODIES = {}
+OPENS = {}
 
 
 class Fn:
@@ -157,8 +158,8 @@ def path(words, fn, at):
 FIELD = r"(?:\.[A-Za-z0-9_][\w'\u2080-\u2089]*(?:-[\w'\u2080-\u2089]+)*)"
 
 
-def steps(text, fn, at, goal, helpers):
-    """Paths from c: no `.before`, and today's names of the steps; calls of helpers, with the place that they speak of."""
+def resolve(text):
+    """Names of paths from c written out."""
     while True:
         m = re.search(r"let (\w+) = c((?:\.before)*) in\s+", text)
         if not m:
@@ -175,13 +176,18 @@ def steps(text, fn, at, goal, helpers):
             continue
         text = text.replace(m.group(0), "", 1)
         text = re.sub(r"(?<![\w.'-])" + re.escape(m.group(1)) + r"(?![\w'-])", m.group(2), text)
+    return text
 
+
+def steps(text, fn, at, goal, helpers):
+    """Paths from c: no `.before`, and today's names of the steps; calls of helpers, with the place that they speak of."""
     def call(m):
         to = helpers[m.group(1)]
         if goal:
             return f"{m.group(1)} (goal.at.{goal} c).{fn.names[to]}"
         return m.group(0)
 
+    text = resolve(text)
     if helpers and not goal:
         for h in list(BODIES) * 3:
             text = re.sub(r"\(" + re.escape(h) + r" c(?:\.before)*\)", lambda m: "(" + BODIES[h] + ")", text)
@@ -332,12 +338,26 @@ def helper(t, fn, helpers, imports):
         i = fn.index.get(flat(m.group(1)))
         if i is None:
             return m.group(0)
+        base = re.sub(r"-\d+$", "", fn.names[i])
+        if fn.names[i].startswith("In") and base != fn.names[i] and base in fn.new:
+            i = fn.new[base]
         places.append(i)
         imports.add(fn.names[i])
         return fn.names[i]
 
     t = re.sub(r"\btie\.(" + WORD + r")((?: (?:invariant|decreases)-" + WORD + r")*)", place, t)
-    t = steps(t, fn, places[0] if places else 0, None, helpers)
+    opens, more = [], True
+    while more:
+        more = [w for h in BODIES if re.search(r"(?<![\w.'-])" + re.escape(h) + r" c\b", t) or f"let {h} :" in t for w in OPENS[h] if w not in opens]
+        opens += more
+        t = steps(t, fn, places[0] if places else 0, None, helpers)
+    if opens and places:
+        n = re.match(r"(?:--[^\n]*\n)*(" + WORD + r")", t).group(1)
+        was = re.search(r"(?m)^unfolding ([^\n]*)\n(?=" + re.escape(n) + r" )", t)
+        if was:
+            t = t[: was.start()] + "unfolding " + " ".join(dict.fromkeys(was.group(1).split() + opens)) + "\n" + t[was.end():]
+        else:
+            t = re.sub(r"(?m)^(?=" + re.escape(n) + r" (?!:))", "unfolding " + " ".join(dict.fromkeys(opens)) + "\n", t, count=1)
     return t if places else "-- LEFT helper\n" + t
 
 
@@ -376,8 +396,13 @@ def turn(path, crate, entry):
     for d in decls:
         m = re.search(r"^(?!tie).*?\(c : tie\.(" + WORD + r")", "\n".join(d["lines"]), re.M)
         if d["name"] and m and flat(m.group(1)) in fn.index:
-            helpers[d["name"]] = fn.index[flat(m.group(1))]
+            i = fn.index[flat(m.group(1))]
+            base = re.sub(r"-\d+$", "", fn.names[i])
+            if fn.names[i].startswith("In") and base != fn.names[i] and base in fn.new:
+                i = fn.new[base]
+            helpers[d["name"]] = i
     BODIES.clear()
+    OPENS.clear()
     inv, ans, imports = [], [], set()
     for d in decls:
         t = "\n".join(d["lines"])
@@ -394,9 +419,10 @@ def turn(path, crate, entry):
         else:
             ans.append(helper(t, fn, helpers, imports))
             m = re.search(r"(?m)^" + re.escape(d["name"] or "?") + r" c =\s*(.*)\Z", t, re.S)
-            k = re.search(r"\(c : tie\.[^)]*\)\s*→\s*(.*)\n", t)
+            k = re.search(r"\(c : tie\.[^)]*\)\s*→\s*(.*?)\n(?:unfolding ([^\n]*)\n)?" + re.escape(d["name"] or "?") + r" c ", t, re.S)
             if m and k and d["name"] in helpers:
-                BODIES[d["name"]] = f"let {d['name']} : {k.group(1).strip()} = {m.group(1).strip()} in {d['name']}"
+                BODIES[d["name"]] = resolve(f"let {d['name']} : {k.group(1).strip()} = {m.group(1).strip()} in {d['name']}")
+                OPENS[d["name"]] = (k.group(2) or "").split()
     folder = os.path.dirname(path)
     comments = [l for l in head if l.startswith("--")]
     skip = r"\.(Statement|Tie)\b"

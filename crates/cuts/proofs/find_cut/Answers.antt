@@ -1,0 +1,70 @@
+-- `find_cut`: the cut at the place found, or none if that lies past the tape.
+-- Assumes nothing.
+use Prim.Native.Nat.{ℕ, ◌*◌, ◌≤◌, ◌<◌}
+use mathlib.Core.Path.{◌≡◌, refl, sym, ap, ◌∙◌, subst}
+use mathlib.Core.List.{List, [], ◌++◌}
+use native.Mathlib.Omega.{arith}
+use lib.ListN.{length, get_or, take, drop, replicate, length-append}
+use lib.Seq.{length-take-le, take_at}
+use borrow.Author.Rules.{rules}
+use Rattle.device.specs.Tape.{decode}
+use Rattle.cuts.specs.All.{choices_up_to}
+use Rattle.cuts.specs.Products.{ways, Names, Sought}
+use Rattle.cuts.specs.declared.Counted.TheVariants.{Refused}
+use Rattle.cuts.proofs.Calls.{found-cut, no_cut}
+use Rattle.cuts.proofs.Sought.{front_length, front-asks, front-gives, sought-listed, sought-past}
+use Rattle.cuts.proofs.find_cut.Goals as goal
+use Rattle.cuts.proofs.find_cut.Goals.{After-seek-place, Else-count-commands}
+
+pub slice_bounds-seek-end : goal.slice_bounds-seek-end
+slice_bounds-seek-end c =
+    sym (front_length (length c.args.choices.now) 1024 c.requires.choices_len_bound)
+
+pub slice_bounds-seek-end-2 : goal.slice_bounds-seek-end-2
+slice_bounds-seek-end-2 c =
+    sym (front_length (length c.args.choices.now) 1024 c.requires.choices_len_bound)
+
+pub seek-place-requires : goal.seek-place-requires
+seek-place-requires c =
+    let asks = front-asks (length c.args.choices.now) c.args.tape.now c.requires.choices_len_bound c.requires.tape_value.0 (omega (arith, c.requires.tape_value)) in
+    record { by_index = (asks.0, asks.0, refl, asks.1, refl); tape_value = asks.2 }
+
+-- the place found, over the lines of the choices
+found : (c : After-seek-place) → Sought (length c.args.choices.now) (decode (64 * length c.args.choices.now) c.args.tape.now) c.args.r c.seek-place.result c.seek-place.new.pending c.seek-place.new.named
+found c = front-gives (length c.args.choices.now) c.args.tape.now c.requires.choices_len_bound _ _ _ _ c.seek-place.ensures
+
+-- of the array lent, the front is what was left of the pending stores
+kept : (c : After-seek-place) → length c.seek-place.new.pending ≡ length c.args.choices.now
+kept c =
+    c.seek-place.auto.pending ∙ front_length (length c.args.choices.now) 1024 c.requires.choices_len_bound
+
+again : (c : After-seek-place) → take (length c.args.choices.now) (c.seek-place.new.pending ++ drop (length c.args.choices.now) (replicate 1024 0)) ≡ c.seek-place.new.pending
+again c = take_at _ _ _ (let kept : length c.seek-place.new.pending ≡ length c.args.choices.now = c.seek-place.auto.pending ∙ front_length (length c.args.choices.now) 1024 c.requires.choices_len_bound in kept)
+
+pub returns-then-count-commands : goal.returns-then-count-commands
+returns-then-count-commands c =
+    let k = found (goal.at.returns-then-count-commands c).After-seek-place in
+    record { value = ap Refused c.of.ensures ∙ sym (no_cut _ _ (omega (arith, sought-past _ _ _ _ _ _ k (omega (arith, c.if-count-commands.true, c.requires.tape_value))))); choices_after = refl }
+
+-- it lies within the tape
+within : (c : Else-count-commands) → c.seek-place.result.commands ≤ length (decode (64 * length c.args.choices.now) c.args.tape.now)
+within c = omega (arith, c.if-count-commands.false, c.requires.tape_value)
+
+pub slice_bounds-pending-end-2 : goal.slice_bounds-pending-end-2
+slice_bounds-pending-end-2 c = omega (arith, kept (goal.at.slice_bounds-pending-end-2 c).After-seek-place, length-append c.seek-place.new.pending (drop (length c.args.choices.now) (replicate 1024 0)))
+
+pub slice_bounds-put_choices-end : goal.slice_bounds-put_choices-end
+slice_bounds-put_choices-end c = sym (ap length (again (goal.at.slice_bounds-put_choices-end c).After-seek-place) ∙ kept (goal.at.slice_bounds-put_choices-end c).After-seek-place)
+
+pub slice_bounds-put_choices-end-2 : goal.slice_bounds-put_choices-end-2
+slice_bounds-put_choices-end-2 c = sym (length-take-le _ c.seek-place.new.named (search rules))
+
+pub put_choices-requires : goal.put_choices-requires
+put_choices-requires c =
+    let f = (found (goal.at.put_choices-requires c).After-seek-place).found (within (goal.at.put_choices-requires c).Else-count-commands) in
+    (sym (ap length (again (goal.at.put_choices-requires c).After-seek-place) ∙ kept (goal.at.put_choices-requires c).After-seek-place), subst (λ (ms : List ℕ). c.seek-place.result.rest < ways ms) (sym (again (goal.at.put_choices-requires c).After-seek-place)) f.0, subst (Names (take c.seek-place.result.commands c.seek-place.new.named)) (sym (again (goal.at.put_choices-requires c).After-seek-place)) f.2)
+
+pub returns : goal.returns
+returns c =
+    let l = sought-listed _ _ _ _ _ _ (found (goal.at.returns c).After-seek-place) (within (goal.at.returns c).Else-count-commands) in
+    record { value = sym (found-cut _ _ _ _ l.below l.is); choices_after = c.put_choices.ensures ∙ ap (λ (ms : List ℕ). get_or (choices_up_to ms) c.seek-place.result.rest []) (again (goal.at.returns c).After-seek-place) ∙ sym (ap (drop 1) l.is) }

@@ -1,0 +1,23 @@
+-- `index_in`: page 0, and then the index.
+-- Assumes nothing.
+use mathlib.Core.Path.{sym, ap, ◌∙◌}
+use borrow.Author.Tests.{not-true, not-false}
+use Rattle.image.specs.Calls.{index_from, index_call}
+use Rattle.image.specs.declared.Root.TheVariants.{Refused}
+use Rattle.image.proofs.Read.{root-facts}
+use Rattle.image.proofs.calls.index_in.Goals as goal
+
+pub index_ok-requires : goal.index_ok-requires
+index_ok-requires c = root-facts _ _ (sym c.root_in.ensures ∙ c.in-At.is)
+
+pub returns-then-not-index_ok : goal.returns-then-not-index_ok
+unfolding index_call index_from
+returns-then-not-index_ok c = ap Refused c.of.ensures ∙ rw (sym c.root_in.ensures ∙ c.in-At.is, sym c.index_ok.ensures ∙ not-true _ c.if-not-index_ok.true-raw)
+
+pub returns-in-Refused : goal.returns-in-Refused
+unfolding index_call index_from
+returns-in-Refused c = rw (sym c.root_in.ensures ∙ c.in-Refused.is)
+
+pub returns-else-not-index_ok : goal.returns-else-not-index_ok
+unfolding index_call index_from
+returns-else-not-index_ok c = rw (sym c.root_in.ensures ∙ c.in-At.is, sym c.index_ok.ensures ∙ not-false _ c.if-not-index_ok.false-raw)

@@ -1,0 +1,77 @@
+-- `find_in` answers the offset and the length of the value that a search of the leaf finds.
+-- Assumes nothing.
+use Prim.Native.Nat.{ℕ, ◌+◌, ◌*◌, ◌≤◌, ◌<◌}
+use mathlib.Core.Path.{◌≡◌, sym, ap, ◌∙◌}
+use mathlib.Core.Bool.{true}
+use mathlib.Core.List.{[]}
+use native.Mathlib.Omega.{arith}
+use lib.ListN.{length}
+use Rattle.codec.specs.Lists.{part}
+use Rattle.codec.specs.Numbers.{number}
+use Rattle.page.specs.Layout.{page_size, leaf_kind, Rec, rec_of, record_at}
+use Rattle.page.specs.Page.{records, laid_out}
+use Rattle.page.proofs.Facts.{page_ok-true, ok-is}
+use Rattle.image.specs.declared.Lookup.TheVariants.{Found}
+use Rattle.image.proofs.Search.{search-at, search-missing}
+use Rattle.image.proofs.CodePages.{slot, value_in, length-here, record-here}
+use Rattle.image.proofs.descent.find_in.Goals as goal
+use Rattle.image.proofs.descent.find_in.Goals.{After-slot_at-at, In-At, Start}
+
+laid : (c : Start) → laid_out c.args.page.now ≡ true
+laid c = (page_ok-true leaf_kind c.args.own c.args.page.now c.requires).laid
+
+pub find-requires : goal.find-requires
+find-requires c = laid (goal.at.find-requires c).Start
+
+found : (c : In-At) → c.in-At.i < length (records c.args.page.now)
+found c =
+    let a = c.args in
+    (search-at leaf_kind a.own a.own a.page.now c.requires a.key c.in-At.i (sym c.find.ensures ∙ c.in-At.is)).0
+
+pub slot_at-at-requires : goal.slot_at-at-requires
+slot_at-at-requires c = (laid (goal.at.slot_at-at-requires c).Start, found (goal.at.slot_at-at-requires c).In-At)
+
+-- the page's number is of two bytes, and the record's head lies in the page
+room : (c : After-slot_at-at) →
+    let a = c.args in
+    (a.own < 65536) × (c.slot_at-at.result + 16 ≤ length a.page.now) × (length a.page.now ≡ page_size)
+room c =
+    let a = c.args in
+    let p = a.page.now in
+    let k = (ok-is p (let laid : laid_out c.args.page.now ≡ true = (page_ok-true leaf_kind c.args.own c.args.page.now c.requires).laid in laid)).body in (
+      omega (arith, k.head.own_fits, (page_ok-true leaf_kind a.own p c.requires).own),
+      omega (arith, c.slot_at-at.ensures, value_in p (let laid : laid_out c.args.page.now ≡ true = (page_ok-true leaf_kind c.args.own c.args.page.now c.requires).laid in laid) c.in-At.i (let found : c.in-At.i < length (records c.args.page.now) = let a = c.args in
+    (search-at leaf_kind a.own a.own a.page.now c.requires a.key c.in-At.i (sym c.find.ensures ∙ c.in-At.is)).0 in found) (rec_of 0 [])),
+      k.whole,
+    )
+
+pub overflow_mul-result : goal.overflow_mul-result
+overflow_mul-result c = omega (arith, room (goal.at.overflow_mul-result c).After-slot_at-at)
+
+pub overflow_add-result : goal.overflow_add-result
+overflow_add-result c = omega (arith, room (goal.at.overflow_add-result c).After-slot_at-at)
+
+pub overflow_add-result-in-At : goal.overflow_add-result-in-At
+overflow_add-result-in-At c = omega (arith, room (goal.at.overflow_add-result-in-At c).After-slot_at-at)
+
+pub overflow_add-at : goal.overflow_add-at
+overflow_add-at c = omega (arith, room (goal.at.overflow_add-at c).After-slot_at-at)
+
+pub number_at-requires : goal.number_at-requires
+number_at-requires c = omega (arith, room (goal.at.number_at-requires c).After-slot_at-at)
+
+pub returns-in-At : goal.returns-in-At
+returns-in-At c =
+    let a = c.args in
+    let i = c.in-At.i in
+    let n : c.number_at.result ≡ length (record_at a.page.now (slot a.page.now i)).value =
+    c.number_at.ensures.0 ∙ ap (λ (o : ℕ). number (part a.page.now (o + 8) 2)) c.slot_at-at.ensures
+    ∙ length-here a.page.now (laid (goal.at.returns-in-At c).Start) i (found (goal.at.returns-in-At c).In-At) (rec_of 0 []) ∙ ap (λ (r : Rec). length r.value) (record-here a.page.now (laid (goal.at.returns-in-At c).Start) i (found (goal.at.returns-in-At c).In-At) (rec_of 0 [])) in
+    ap (Found (1024 * a.own + c.slot_at-at.result + 16)) n
+    ∙ ap (λ (o : ℕ). Found (1024 * a.own + o + 16) (length (record_at a.page.now (slot a.page.now i)).value)) c.slot_at-at.ensures
+    ∙ sym (search-at leaf_kind a.own a.own a.page.now c.requires a.key i (sym c.find.ensures ∙ c.in-At.is)).1
+
+pub returns-in-Missing : goal.returns-in-Missing
+returns-in-Missing c =
+    let a = c.args in
+    sym (search-missing leaf_kind a.own a.own a.page.now c.requires a.key _ (sym c.find.ensures ∙ c.in-Missing.is))

@@ -161,12 +161,11 @@ FIELD = r"(?:\.[A-Za-z0-9_][\w'\u2080-\u2089]*(?:-[\w'\u2080-\u2089]+)*)"
 def resolve(text):
     """Names of paths from c written out."""
     while True:
-        m = re.search(r"let (\w+) = c((?:\.before)*) in\s+", text)
+        m = re.search(r"let ([\w'-]+) = c((?:\.before)*) in\s+", text)
         if not m:
             break
         text = text[: m.start()] + text[m.end():]
-        text = re.sub(r"(?<![\w.'-])" + m.group(1) + r"(?=\.)", "c", text)
-        text = re.sub(r"(?<![\w.'-])" + m.group(1) + r"(?![\w'-])", "c", text)
+        text = re.sub(r"(?<![\w.'-])" + re.escape(m.group(1)) + r"(?![\w'-])", "c", text)
 
     for m in list(re.finditer(r"let ([\w'-]+) = (c(?:" + FIELD[3:-1] + r")+) in\s+", text)):
         words = [w for w in m.group(2).split(".")[1:] if w != "before"]
@@ -188,10 +187,7 @@ def steps(text, fn, at, goal, helpers):
         return m.group(0)
 
     text = resolve(text)
-    if helpers and not goal:
-        for h in list(BODIES) * 3:
-            text = re.sub(r"\(" + re.escape(h) + r" c(?:\.before)*\)", lambda m: "(" + BODIES[h] + ")", text)
-            text = re.sub(r"(?<![\w.'-])" + re.escape(h) + r" c(?:\.before)*(?![\w.'-])", lambda m: "(" + BODIES[h] + ")", text)
+    if not goal:
         helpers = {}
     if helpers:
         names = "|".join(re.escape(h) for h in sorted(helpers, key=len, reverse=True))
@@ -348,9 +344,14 @@ def helper(t, fn, helpers, imports):
     t = re.sub(r"\btie\.(" + WORD + r")((?: (?:invariant|decreases)-" + WORD + r")*)", place, t)
     opens, more = [], True
     while more:
-        more = [w for h in BODIES if re.search(r"(?<![\w.'-])" + re.escape(h) + r" c\b", t) or f"let {h} :" in t for w in OPENS[h] if w not in opens]
-        opens += more
-        t = steps(t, fn, places[0] if places else 0, None, helpers)
+        more = False
+        for h in BODIES:
+            new = re.sub(r"\(" + re.escape(h) + r" c(?:\.before)*\)", lambda m: "(" + BODIES[h] + ")", t)
+            new = re.sub(r"(?<![\w.'-])" + re.escape(h) + r" c(?:\.before)*(?![\w.'-])", lambda m: "(" + BODIES[h] + ")", new)
+            if new != t:
+                more, t = True, new
+                opens += [w for w in OPENS[h] if w not in opens]
+    t = steps(t, fn, places[0] if places else 0, None, helpers)
     if opens and places:
         n = re.match(r"(?:--[^\n]*\n)*(" + WORD + r")", t).group(1)
         was = re.search(r"(?m)^unfolding ([^\n]*)\n(?=" + re.escape(n) + r" )", t)

@@ -1,5 +1,6 @@
 -- `ranged`: 6 for a key out of range, unless the leaf is refused.
 -- Assumes nothing.
+use borrow.Enum.Refused.{opened}
 use Prim.Native.Nat.{ℕ}
 use mathlib.Core.Path.{◌≡◌, sym, ap, ◌∙◌}
 use mathlib.Core.Logic.{◌⊎◌, inl, inr}
@@ -26,7 +27,7 @@ not-refused (lookups.Refused s) (inl h) r e = omega arith
 not-refused (lookups.Refused s) (inr h) r e = omega arith
 
 answered : (c : In_default) → ranged c.args.key c.args.found ≡ pick (key_ok c.args.key) c.args.found (lookups.Refused (refusal 6))
-answered c = ranged-is c.args.key c.args.found (not-refused c.args.found c.in_default.in_default-own.keys2)
+answered c = ranged-is c.args.key c.args.found (not-refused c.args.found (opened c.in_default.in_default-own.keys2))
 
 pub returns-then-key-lt1 : goal.returns-then-key-lt1
 returns-then-key-lt1 c = ap lookups.Refused c.of.ensures ∙ sym (answered (goal.at.returns-then-key-lt1 c).In_default ∙ rw (false-key_ok _ (inl c.if-key-lt1.true)))

@@ -1,5 +1,6 @@
 -- `next_above`: the leaf that the number belongs to, and only if it has no larger key, the leaf that its range's end belongs to.
 -- Assumes nothing.
+use borrow.Enum.Refused.{opened}
 use mathlib.Core.Path.{◌≡◌, refl, sym, ap, ◌∙◌}
 use mathlib.Core.Logic.{◌⊎◌, inl, inr}
 use native.Mathlib.Omega.{arith}
@@ -51,7 +52,7 @@ after c =
     ∙ ap (λ (x : Next). or_else x (next_after a.image.now a.root a.key c.leaf_for-leaf.result)) (sym c.next_at-here.ensures) in either) ∙ ap (λ (x : Next). or_else x (next_after a.image.now a.root a.key c.leaf_for-leaf.result)) c.in-Last.is
 
 pub returns-in_default : goal.returns-in_default
-returns-in_default c = not_last c.next_at-here.result _ c.in_default.in_default-own.keys2 ∙ sym (either (goal.at.returns-in_default c).After-next_at-here)
+returns-in_default c = not_last c.next_at-here.result _ (opened c.in_default.in_default-own.keys2) ∙ sym (either (goal.at.returns-in_default c).After-next_at-here)
 
 pub returns-then-leaf-gt-TOP_KEY : goal.returns-then-leaf-gt-TOP_KEY
 unfolding next_after

@@ -25,8 +25,7 @@ slice_bounds-put_leaf-end c = omega (arith, long (goal.at.slice_bounds-put_leaf-
 
 pub slice_bounds-put_index-end : goal.slice_bounds-put_index-end
 slice_bounds-put_index-end c =
-    let put-blank = c.before.before.before.before.before.before in
-    let h = long put-blank in omega (arith, length-mid put-blank.put-blank.new.0 c.put_leaf.new.page (omega arith) c.put_leaf.auto.page)
+    let h = long (goal.at.slice_bounds-put_index-end c).After-put_blank in omega (arith, length-mid c.put_blank.new.image c.put_leaf.new.page (omega arith) c.put_leaf.auto.page)
 
 pub returns : goal.returns
 returns c =

@@ -108,6 +108,10 @@ def named(fields, rest):
     return [fields[n]] + rest, None
 
 
+def nest(parts):
+    return parts[0] if len(parts) == 1 else "(" + parts[0] + ", " + nest(parts[1:]) + ")"
+
+
 def path(words, fn, at):
     """Today's words for a path from c (without c and `.before`), seen from the place `at`."""
     up = fn.above(at)
@@ -117,7 +121,7 @@ def path(words, fn, at):
     if name == "requires" and entry["pre"]:
         rest, whole = named(entry["pre"]["fields"], rest)
         if whole:
-            return "(" + ", ".join("c.requires." + w for w in whole) + ")"
+            return nest(["c.requires." + w for w in whole])
         return ".".join(["c", name] + rest)
     if name in ("args", "requires", "lifetimes", "ranges", "type_inv"):
         return ".".join(["c", name] + rest)
@@ -144,7 +148,7 @@ def path(words, fn, at):
             if rest[:1] == ["ensures"] and cl and cl["fields"]:
                 more, whole = named(cl["fields"], rest[1:])
                 if whole:
-                    return "(" + ", ".join(f"c.{step}.ensures.{w}" for w in whole) + ")"
+                    return nest([f"c.{step}.ensures.{w}" for w in whole])
                 rest = ["ensures"] + more
             params = entry["params"].get(place[3])
             if rest[:1] in (["auto"], ["new"]) and params and rest[1:] and rest[1].isdigit():
@@ -168,7 +172,9 @@ def resolve(text):
         text = re.sub(r"(?<![\w.'-])" + re.escape(m.group(1)) + r"(?![\w'-])", "c", text)
 
     for m in list(re.finditer(r"let ([\w'-]+) = (c(?:" + FIELD[3:-1] + r")+) in\s+", text)):
-        words = [w for w in m.group(2).split(".")[1:] if w != "before"]
+        words = m.group(2).split(".")[1:]
+        while words[:1] == ["before"]:
+            words = words[1:]
         if not words or words[0] in ("args", "loop", "if1", "if2", "if3", "if4", "if5") or words[0].startswith("loop"):
             continue
         if re.search(r"λ \(?" + re.escape(m.group(1)) + r"\b", text):
@@ -194,7 +200,9 @@ def steps(text, fn, at, goal, helpers):
         text = re.sub(r"(?<![\w.'-])(" + names + r") c((?:\.before)*)(?![\w.'-])", call, text)
 
     def one(m):
-        words = [w for w in m.group(1).split(".")[1:] if w != "before"]
+        words = m.group(1).split(".")[1:]
+        while words[:1] == ["before"]:
+            words = words[1:]
         return path(words, fn, at) if words else m.group(0)
 
     text = re.sub(r"(?<![\w.'-])c((?:" + FIELD[3:-1] + r")+)", one, text)

@@ -415,12 +415,13 @@ def turn(path, crate, entry):
     inv, ans, imports = [], [], set()
     for d in decls:
         t = "\n".join(d["lines"])
-        first = next((l for l in d["lines"] if not l.startswith("--")), "")
+        first = next((l for l in d["lines"] if l.strip() and not l.startswith("--")), "")
         if d["name"] and re.match(r"(invariant|decreases)-", d["name"]) and "tie." in first:
             inv.append(invariant(d, fn))
         elif d["name"] and re.search(r":\s*tie\.Need-", first):
-            comment = [l for l in d["lines"] if l.startswith("--")]
-            a = answer({"name": d["name"], "lines": [l for l in d["lines"] if not l.startswith("--")]}, fn, helpers)
+            n = d["lines"].index(first)
+            comment = d["lines"][:n]
+            a = answer({"name": d["name"], "lines": d["lines"][n:]}, fn, helpers)
             if a:
                 ans.append("".join(l + "\n" for l in comment) + a)
         elif d["name"] and ("tie.close" in t):

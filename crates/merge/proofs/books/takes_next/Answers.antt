@@ -1,0 +1,17 @@
+-- `takes_next`: where the keys are the same and none is in both, no record comes.
+-- Assumes nothing.
+use mathlib.Core.Path.{sym, ap, ◌∙◌}
+use native.Mathlib.Omega.{arith}
+use Rattle.merge.specs.Cursors.{takes}
+use Rattle.merge.proofs.Stepping.{size_small, none-taken, first_taken}
+use Rattle.merge.proofs.books.takes_next.Goals as goal
+
+pub returns-then-at : goal.returns-then-at
+returns-then-at c = sym (none-taken c.requires.0 c.args.n c.args.s c.if-at.true c.requires.1)
+
+pub takes-requires : goal.takes-requires
+takes-requires c = (c.requires.2, omega (arith, c.next_size.ensures, size_small c.requires.0))
+
+pub returns : goal.returns
+returns c =
+    c.takes.ensures ∙ ap (takes c.args.n c.args.s) c.next_size.ensures ∙ sym (first_taken c.requires.0 c.args.n c.args.s c.if-at.false)

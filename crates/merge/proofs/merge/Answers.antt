@@ -1,0 +1,56 @@
+-- `merge` answers and leaves what `merge_call` says: the third buffer's size, the two checks, and then the tables.
+-- Assumes nothing.
+use mathlib.Core.Path.{◌≡◌, sym, ap, ◌∙◌}
+use mathlib.Core.Bool.{true}
+use lib.ListN.{length}
+use borrow.Author.Tests.{not-true, not-false}
+use Rattle.device.specs.Calls.{is_image_size, refused}
+use Rattle.device.specs.declared.Answer.TheVariants as answers
+use Rattle.device.proofs.Calls.{said}
+use Rattle.image.specs.Table.{table}
+use Rattle.image.specs.Calls.{check_call}
+use Rattle.image.proofs.Answers.{check_sound}
+use Rattle.merge.specs.Calls.{merge_tables, merge_call}
+use Rattle.merge.specs.Says.{Begun, bad-buffer, bad-first, bad-second}
+use Rattle.merge.proofs.Grounds.{begun-call, says-merge}
+use Rattle.merge.proofs.merge.Goals as goal
+use Rattle.merge.proofs.merge.Goals.{Else-not-is_image_size, In-Accepted, In-Accepted-check}
+
+pub returns-then-not-is_image_size : goal.returns-then-not-is_image_size
+returns-then-not-is_image_size c =
+    let a = c.args in
+    let bad = bad-buffer (sym c.is_image_size.ensures ∙ not-true _ c.if-not-is_image_size.true-raw) in
+    let done = said (merge_call a.first.now a.second.now a.out.now) (refused 1 a.out.now) (says-merge _ _ _ _ bad) in
+    record { value = ap answers.Refused c.of.ensures ∙ done.0; out_after = done.1 }
+
+-- the third buffer is an image
+sized : (c : Else-not-is_image_size) → is_image_size (length c.args.out.now) ≡ true
+sized c = sym c.is_image_size.ensures ∙ not-false _ c.if-not-is_image_size.false-raw
+
+-- the first image is sound, and so is the second
+first-checked : (c : In-Accepted) → check_call c.args.first.now ≡ answers.Accepted
+first-checked c = sym c.check.ensures ∙ c.in-Accepted.is
+
+begun : (c : In-Accepted-check) → let a = c.args in Begun a.first.now a.second.now a.out.now
+begun c = record { size = (let sized : is_image_size (length c.args.out.now) ≡ true = sym c.is_image_size.ensures ∙ not-false _ c.if-not-is_image_size.false-raw in sized); first = (let first-checked : check_call c.args.first.now ≡ answers.Accepted = sym c.check.ensures ∙ c.in-Accepted.is in first-checked); second = sym c.check-in-Accepted.ensures ∙ c.in-Accepted-check.is }
+
+pub merge_sound-requires : goal.merge_sound-requires
+merge_sound-requires c = let b = begun (goal.at.merge_sound-requires c).In-Accepted-check in (check_sound _ b.first, check_sound _ b.second, b.size)
+
+pub returns-in-Refused : goal.returns-in-Refused
+returns-in-Refused c = let whole =
+    let a = c.args in
+    let bad = bad-first (sized (goal.at.returns-in-Refused c).Else-not-is_image_size) c.in-Refused.refusal (sym c.check.ensures ∙ c.in-Refused.is) in
+    said (merge_call a.first.now a.second.now a.out.now) _ (says-merge _ _ _ _ bad) in record { value = whole.0; out_after = whole.1 }
+
+pub returns-in-Refused-check : goal.returns-in-Refused-check
+returns-in-Refused-check c = let whole =
+    let a = c.args in
+    let bad = bad-second (sized (goal.at.returns-in-Refused-check c).Else-not-is_image_size) (first-checked (goal.at.returns-in-Refused-check c).In-Accepted) c.in-Refused-check.refusal (sym c.check-in-Accepted.ensures ∙ c.in-Refused-check.is) in
+    said (merge_call a.first.now a.second.now a.out.now) _ (says-merge _ _ _ _ bad) in record { value = whole.0; out_after = whole.1 }
+
+pub returns-in-Accepted-check : goal.returns-in-Accepted-check
+returns-in-Accepted-check c =
+    let a = c.args in
+    let done = said (merge_call a.first.now a.second.now a.out.now) (merge_tables (table a.first.now) (table a.second.now) a.out.now) (begun-call _ _ _ (begun (goal.at.returns-in-Accepted-check c).In-Accepted-check)) in
+    record { value = c.merge_sound.ensures.value ∙ done.0; out_after = c.merge_sound.ensures.out_after ∙ done.1 }

@@ -1,0 +1,33 @@
+-- `look`: the key that is asked, then the keys of the list, then what is seen.
+-- Assumes nothing.
+use mathlib.Core.Path.{◌≡◌, sym, ap, ◌∙◌}
+use mathlib.Core.Bool.{true}
+use borrow.Author.Tests.{le-leb, lt-leb}
+use Rattle.image.specs.Calls.{key_ok}
+use Rattle.preview.specs.Calls.{rules_of, keys_of}
+use Rattle.preview.specs.declared.Preview.TheVariants.{Refused}
+use Rattle.preview.proofs.calls.look.Goals as goal
+use Rattle.preview.proofs.calls.look.Goals.{Else-key-gt-TOP_KEY}
+
+pub returns-then-key-lt1 : goal.returns-then-key-lt1
+unfolding keys_of key_ok
+returns-then-key-lt1 c = ap Refused c.of.ensures ∙ rw (lt-leb 1 _ c.if-key-lt1.true)
+
+pub returns-then-key-gt-TOP_KEY : goal.returns-then-key-gt-TOP_KEY
+unfolding keys_of key_ok
+returns-then-key-gt-TOP_KEY c = ap Refused c.of-then-key-gt-TOP_KEY.ensures ∙ rw (le-leb 1 _ c.if-key-lt1.false, lt-leb _ 999999999999 c.if-key-gt-TOP_KEY.true)
+
+pub see-requires : goal.see-requires
+see-requires c = c.requires
+
+ranged : (c : Else-key-gt-TOP_KEY) → key_ok c.args.key ≡ true
+unfolding key_ok
+ranged c = rw (le-leb 1 _ c.if-key-lt1.false, le-leb _ 999999999999 c.if-key-gt-TOP_KEY.false)
+
+pub returns-in-Faulty : goal.returns-in-Faulty
+unfolding keys_of rules_of
+returns-in-Faulty c = rw (ranged (goal.at.returns-in-Faulty c).Else-key-gt-TOP_KEY, sym c.judge_keys.ensures ∙ c.in-Faulty.is)
+
+pub returns-in-Good : goal.returns-in-Good
+unfolding keys_of rules_of
+returns-in-Good c = c.see.ensures ∙ rw (ranged (goal.at.returns-in-Good c).Else-key-gt-TOP_KEY, sym c.judge_keys.ensures ∙ c.in-Good.is)

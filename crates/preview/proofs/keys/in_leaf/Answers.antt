@@ -1,0 +1,89 @@
+-- `in_leaf`: a leaf that is marked is sound, and one that is found so is marked.
+-- Assumes nothing.
+use Prim.Native.Nat.{ℕ, ◌+◌, ◌*◌, ◌≤◌, ◌<◌}
+use mathlib.Core.Path.{◌≡◌, sym, ap, ◌∙◌, subst}
+use mathlib.Core.Bool.{true}
+use mathlib.Core.List.{List}
+use native.Mathlib.Omega.{arith}
+use lib.ListN.{length, get_or, set}
+use borrow.Author.Tests.{not-true, not-false}
+use Rattle.page.specs.Layout.{page_size, leaf_kind}
+use Rattle.page.specs.Page.{records, laid_out, keys_rise}
+use Rattle.page.specs.Operations.{page_of}
+use Rattle.page.proofs.Facts.{page_ok-true}
+use Rattle.image.specs.Descent.{leaf_for, leaf_sound}
+use Rattle.image.specs.declared.Place.{Place}
+use Rattle.image.proofs.Read.{call-opened}
+use Rattle.image.proofs.CodeDescent.{leaf-fits, leaf-few, sound-page}
+use Rattle.preview.specs.Noted.{Marks}
+use Rattle.preview.proofs.Judging.{sound-presence, unsound-presence, marks-set}
+use Rattle.preview.proofs.keys.in_leaf.Goals as goal
+use Rattle.preview.proofs.keys.in_leaf.Goals.{After-leaf_for-leaf, Else-not-leaf_sound, Then-judged-own-ne0}
+
+pub leaf_for-leaf-requires : goal.leaf_for-leaf-requires
+leaf_for-leaf-requires c = c.requires.0
+
+-- the leaf's page lies in the image, and has a mark
+fits : (c : After-leaf_for-leaf) → page_size * c.leaf_for-leaf.result.page + page_size ≤ length c.args.image.now
+fits c =
+    leaf-fits c.args.image.now c.args.root c.requires.0 c.args.key _ c.leaf_for-leaf.ensures
+
+few : (c : After-leaf_for-leaf) → c.leaf_for-leaf.result.page < length c.args.judged.now
+few c =
+    omega (arith, c.requires.1.enough, leaf-few c.args.image.now c.args.root c.requires.0 c.args.key c.leaf_for-leaf.result c.leaf_for-leaf.ensures)
+
+-- LEFT helper
+-- a page that is the sound leaf's
+page-good : (img : List ℕ) (root k : ℕ) (leaf : Place) → leaf ≡ leaf_for img root k → leaf_sound img root (leaf_for img root k) ≡ true → (p : List ℕ) → p ≡ page_of img leaf.page →
+    (laid_out p ≡ true) × (keys_rise (records p) ≡ true)
+page-good img root k leaf e h p f =
+    let t = page_ok-true leaf_kind leaf.page (page_of img leaf.page) (sound-page img root leaf (ap (leaf_sound img root) e ∙ h)) in
+    (ap laid_out f ∙ t.laid, ap (λ (q : List ℕ). keys_rise (records q)) f ∙ t.rise)
+
+pub bounds-judged-own : goal.bounds-judged-own
+bounds-judged-own c = few (goal.at.bounds-judged-own c).After-leaf_for-leaf
+
+pub page_of-requires : goal.page_of-requires
+page_of-requires c = fits (goal.at.page_of-requires c).After-leaf_for-leaf
+
+marked : (c : Then-judged-own-ne0) →
+    let a = c.args in
+    leaf_sound a.image.now a.root (leaf_for a.image.now a.root a.key) ≡ true
+marked c =
+    c.requires.1.only-sound c.args.key (λ z. c.if-judged-own-ne0.true (ap (λ (p : Place). get_or c.args.judged.now p.page 0) c.leaf_for-leaf.ensures ∙ z))
+
+pub in_page-requires : goal.in_page-requires
+in_page-requires c = page-good _ _ _ _ c.leaf_for-leaf.ensures (marked (goal.at.in_page-requires c).Then-judged-own-ne0) _ c.page_of.ensures
+
+pub returns-then-judged-own-ne0 : goal.returns-then-judged-own-ne0
+returns-then-judged-own-ne0 c =
+    let a = c.args in record { value = c.in_page.ensures ∙ sound-presence a.image.now a.root a.key (marked (goal.at.returns-then-judged-own-ne0 c).Then-judged-own-ne0) _ (c.page_of.ensures ∙ ap (λ (p : Place). page_of a.image.now p.page) c.leaf_for-leaf.ensures); marks = c.requires.1 }
+
+pub leaf_sound-requires : goal.leaf_sound-requires
+leaf_sound-requires c = (c.requires.0, fits (goal.at.leaf_sound-requires c).After-leaf_for-leaf)
+
+pub returns-then-not-leaf_sound : goal.returns-then-not-leaf_sound
+returns-then-not-leaf_sound c =
+    let a = c.args in record { value = unsound-presence a.image.now a.root a.key (ap (leaf_sound a.image.now a.root) (sym c.leaf_for-leaf.ensures) ∙ sym c.leaf_sound.ensures ∙ not-true _ c.if-not-leaf_sound.true-raw); marks = c.requires.1 }
+
+pub bounds-judged-own-2 : goal.bounds-judged-own-2
+bounds-judged-own-2 c = few (goal.at.bounds-judged-own-2 c).After-leaf_for-leaf
+
+pub page_of-requires-2 : goal.page_of-requires-2
+page_of-requires-2 c = fits (goal.at.page_of-requires-2 c).After-leaf_for-leaf
+
+judged : (c : Else-not-leaf_sound) →
+    let a = c.args in
+    leaf_sound a.image.now a.root (leaf_for a.image.now a.root a.key) ≡ true
+judged c =
+    let a = c.args in
+    ap (leaf_sound a.image.now a.root) (sym c.leaf_for-leaf.ensures) ∙ sym c.leaf_sound.ensures ∙ not-false _ c.if-not-leaf_sound.false-raw
+
+pub in_page-requires-2 : goal.in_page-requires-2
+in_page-requires-2 c = page-good _ _ _ _ c.leaf_for-leaf.ensures (judged (goal.at.in_page-requires-2 c).Else-not-leaf_sound) _ c.page_of-2.ensures
+
+pub returns : goal.returns
+returns c =
+    let a = c.args in
+    record { value = c.in_page-2.ensures ∙ sound-presence a.image.now a.root a.key (judged (goal.at.returns c).Else-not-leaf_sound) _ (c.page_of-2.ensures ∙ ap (λ (p : Place). page_of a.image.now p.page) c.leaf_for-leaf.ensures); marks = subst (λ (p : Place). Marks a.image.now a.root (set a.judged.now p.page 1)) (sym c.leaf_for-leaf.ensures)
+          (marks-set a.image.now a.root (call-opened _ _ c.requires.0).index a.judged.now c.requires.1 a.key (judged (goal.at.returns c).Else-not-leaf_sound)) }

@@ -1,0 +1,17 @@
+-- `judge_keys`: what is noted says which keys are there, and what the edits that are left come to is what all come to.
+-- Assumes nothing.
+use Prim.Native.Nat.{◌-◌, ◌≤◌}
+use mathlib.Core.Path.{◌≡◌}
+use lib.ListN.{length}
+use Rattle.image.specs.Descent.{records_for}
+use Rattle.edit.specs.EditList.{edits_of, edit_list}
+use Rattle.edit.specs.Keys.{keys_from}
+use Rattle.preview.specs.Noted.{Marks}
+use Rattle.preview.proofs.Judging.{Upto}
+use Rattle.preview.proofs.keys.judge_keys.Given as goal
+
+abbrev pub invariant-loop-at : goal.invariant-loop-at
+invariant-loop-at l = (l.at ≤ length l.list) × (length l.keys ≡ 16) × (length l.kinds ≡ 16) × Upto (records_for l.image l.root) l.list l.keys l.kinds (keys_from 0 (edits_of (edit_list l.list)) (records_for l.image l.root)) l.at l.n × Marks l.image l.root l.judged
+
+abbrev pub decreases-loop-at : goal.decreases-loop-at
+decreases-loop-at l = length l.list - l.at

@@ -16,7 +16,7 @@ WORD = r"[A-Za-z_\u0370-\u03ff][\w'\u2080-\u2089\u0370-\u03ff]*(?:-[\w'\u2080-\u
 
 
 def flat(name):
-    return re.sub(r"overflow_|nonzero_", "", name.replace("-", "_").lower()).replace("slice_bounds_", "part_")
+    return re.sub(r"overflow_|nonzero_", "", name.replace("-", "_").replace("__", "_").lower()).replace("slice_bounds_", "part_")
 
 
 def blocks(text):
@@ -440,6 +440,9 @@ def turn(path, crate, entry):
         if not parts:
             continue
         body = "\n\n".join(parts)
+        body = re.sub(r"c\.[\w.-]*-own\.keys\d+", lambda m: f"(opened {m.group(0)})", body)
+        if "(opened " in body:
+            head = head + ["use borrow.Enum.Refused.{opened}"]
         lines = comments + [l for l in uses(head, body, skip) if not l.startswith("--")] + [f"use Rattle.{crate}.proofs.{module}.{given} as goal"]
         if imports and file == "Answers":
             lines.append(f"use Rattle.{crate}.proofs.{module}.Goals." + "{" + ", ".join(sorted(imports)) + "}")

@@ -1,0 +1,29 @@
+-- `drop_under`: the page loses the record, the root takes what stands for the page, and the tree is what `upward` says.
+-- Assumes nothing.
+use mathlib.Core.Path.{◌∙◌}
+use Rattle.tree_edit.proofs.Said.{says_same}
+use Rattle.tree_edit.proofs.Places.{root-fits, root-laid, child_fits, child-ok}
+use Rattle.tree_edit.proofs.Above.{drop-counted, drop-after, absorbs, root-stays, upward-is}
+use Rattle.tree_edit.proofs.edits.drop_under.Goals as goal
+
+pub page_of-requires : goal.page_of-requires
+page_of-requires c = root-fits c.requires.0.good
+
+pub count-only-requires : goal.count-only-requires
+count-only-requires c = root-laid c.requires.0.good _ c.page_of.ensures
+
+pub drop_record-below-requires : goal.drop_record-below-requires
+drop_record-below-requires c =
+    (child_fits c.requires.0, (child-ok c.requires.0).laid, c.requires.1, c.requires.2)
+
+pub absorb-above-requires : goal.absorb-above-requires
+absorb-above-requires c =
+    (absorbs c.requires.0 c.args.before.now c.drop_record-below.new.work c.drop_record-below.result _ ((c.drop_record-below.ensures c.args.before.now).same ∙ drop-counted c.requires.0 c.args.j _ c.page_of.ensures _ c.count-only.ensures) (drop-after c.requires.0 c.args.j c.requires.1 _), (c.drop_record-below.ensures c.args.before.now).low)
+
+pub root_step-requires : goal.root_step-requires
+root_step-requires c =
+    (root-stays c.requires.0 c.args.before.now c.drop_record-below.new.work c.drop_record-below.result _ ((c.drop_record-below.ensures c.args.before.now).same ∙ drop-counted c.requires.0 c.args.j _ c.page_of.ensures _ c.count-only.ensures) (drop-after c.requires.0 c.args.j c.requires.1 _) c.absorb-above.new.work c.absorb-above.result c.absorb-above.ensures.same, c.absorb-above.ensures.low)
+
+pub returns : goal.returns
+returns c =
+    says_same (c.root_step.ensures c.args.before.now c.absorb-above.new.work) _ (upward-is c.args.before.now c.drop_record-below.new.work c.args.t.root c.args.under c.drop_record-below.result _ ((c.drop_record-below.ensures c.args.before.now).same ∙ drop-counted c.requires.0 c.args.j _ c.page_of.ensures _ c.count-only.ensures) c.absorb-above.new.work c.absorb-above.result c.absorb-above.ensures.same)

@@ -18,5 +18,5 @@ returns-then-kind-ne2 c =
 pub returns : goal.returns
 returns c =
     let a = c.args in
-    let k : (a.kind ≡ 1) ⊎ (a.kind ≡ 2) = ⊎_elim (λ t. inr (eqb-true a.kind 2 (not-false _ t.1.left))) (λ e. inl e.left) c.else-kind-ne1.branch in
+    let k : (a.kind ≡ 1) ⊎ (a.kind ≡ 2) = ⊎_elim (λ t. inr t.1) (λ e. inl e) c.else-kind-ne1.either in
     record { value = omega (arith, length-changes a.kind a.key a.price k); list_after = edit-written a.list.now a.at a.kind a.key a.price _ _ c.requires k c.put_head-2.ensures c.put_long.ensures }

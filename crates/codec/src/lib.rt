@@ -1,5 +1,6 @@
 // Bytes: numbers read and written low byte first, parts copied, filled and compared.
 #![tactic(auto)]
+
 ghost use Rattle.std.specs.Prelude.{◌≡◌, ◌+◌, ◌≤◌, ◌<◌, length, drop, replicate};
 ghost use Rattle.codec.specs.Lists.{part, splice, eqs};
 ghost use Rattle.codec.specs.Numbers.{number, bytes_of};

@@ -1,5 +1,6 @@
 // All cuts of a small tape: their number, and each by its number. Both go by products of the lines' choices; no list is made.
 #![tactic(auto)]
+
 ghost use Rattle.std.specs.Prelude.{◌≡◌, ◌⊎◌, true, [], ℕ, ◌+◌, ◌*◌, ◌≤◌, ◌<◌, length, drop, get_or, set};
 ghost use Rattle.codec.specs.Lists.{pick};
 ghost use Rattle.device.specs.Tape.{is_command, front, decode, well_formed};

@@ -13,7 +13,7 @@ use Rattle.codec.specs.Lists.{pick, part, splice}
 use Rattle.codec.specs.Numbers.{number}
 use Rattle.codec.proofs.Lists.{length_part, splice-sets}
 use Rattle.device.specs.Tape.{Op, store, flush, barrier, is_command, front, extent, decode}
-use Rattle.device.specs.Cut.{after, line_of, some, durable, less, cons_if, kept}
+use Rattle.device.specs.Cut.{after, line_of, durable, less, cons_if, kept}
 use Rattle.device.specs.Counts.{finished, note_flush, Kept}
 use Rattle.device.proofs.Decode.{StoreAt, QuietAt, quiet_of, quiet_all, quiet_at, quiet-kind, word_at, line_at}
 use Rattle.device.proofs.Counts.{On, Noting, noting-next, noting-rest, Noted, noted-test, noted-next}

@@ -1,5 +1,6 @@
 // The device: words, lines, flushes and barriers on a tape, run over an image, whole or cut.
 #![tactic(auto)]
+
 ghost use Rattle.std.specs.Prelude.{◌≡◌, true, ◌||◌, ℕ, ◌+◌, ◌-◌, ◌*◌, ◌/◌, ◌≤◌, ◌<◌, eqb, ltb, length, take, drop, get_or, set};
 ghost use Rattle.codec.specs.Lists.{pick, part, splice};
 ghost use Rattle.codec.specs.Numbers.{number};

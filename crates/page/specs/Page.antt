@@ -1,7 +1,7 @@
 -- A page by itself: its records, and when it is sound (document 01, 'Page layout', "An image is sound if ..").
 -- Each test is a Bool that computes, with a record of the facts that it stands for.
 -- Assumes nothing.
-use Rattle.std.specs.Prelude.{◌≡◌, ℕ, zero, suc, ◌+◌, ◌%◌, ◌<◌, ◌≤◌, Bool, true, false, ◌&&◌, ◌||◌, ◌⊎◌, List, [], ◌∷◌, map, length, take, ◌==◌, nat_le, nat_lt}
+use Rattle.std.specs.Prelude.{◌≡◌, ℕ, suc, ◌+◌, ◌%◌, ◌<◌, ◌≤◌, Bool, true, ◌&&◌, ◌||◌, ◌⊎◌, List, [], ◌∷◌, map, length, take, ◌==◌, nat_le, nat_lt}
 use Rattle.codec.specs.Lists.{part, eqs, every, all_b, All, pick}
 use Rattle.page.specs.Layout.{page_size, line_size, slot_count, leaf_kind, top_key, value_most, Rec, size, record_bytes, record_at, Head, header_bytes, read_head}
 

@@ -1,5 +1,6 @@
 // The slotted page: its header, its records, when it is sound, and a search by key.
 #![tactic(auto)]
+
 ghost use Rattle.std.specs.Prelude.{◌≡◌, true};
 ghost use Rattle.page.specs.Page.{laid_out, records};
 ghost use Rattle.page.specs.Search.{searched};

@@ -1,5 +1,5 @@
 // What is written: a row for each record by rising key, the last line, or the number of a bad line.
-ghost use Rattle.std.specs.Prelude.{◌≡◌, true, ◌+◌, ◌<◌, length};
+ghost use Rattle.std.specs.Prelude.{◌≡◌, true, ◌+◌, ◌<◌, IfOk, length};
 ghost use Rattle.image.specs.Image.{sound};
 ghost use Rattle.image.specs.Calls.{next_call};
 ghost use Rattle.image.specs.Table.{listing};
@@ -8,6 +8,8 @@ ghost use Rattle.sheet.specs.Rows.{rows_of, RowAt, next_slot, rows_after, later,
 
 use image::calls::{lookup, next_key};
 use image::{Lookup, Next};
+use std::io;
+use std::io::{Stdout, Write};
 
 // A row, or the end of the rows.
 #[derive(Clone, Copy)]
@@ -65,18 +67,26 @@ fn row_after(image: &[u8], before: usize, slot: usize, last: u64) -> Visit
 }
 
 // Prints row number i of the image's listing; image and i are there for the contract.
-fn print_row(image: &[u8], i: u64, page: usize, slot: usize, key: u64, length: usize)
+fn print_row(
+    out: &mut Stdout,
+    image: &[u8],
+    i: u64,
+    page: usize,
+    slot: usize,
+    key: u64,
+    length: usize,
+) -> io::Result<()>
     requires { RowAt image.now i page slot key length }
 {
     let mut row = [0u8; 26];
     lines::put_row(&mut row, page, slot, key, length);
-    io::write_all(1, &row);
+    out.write_all(&row)
 }
 
-// Prints the rows, and answers how many there are.
-fn print_rows(image: &[u8]) -> u64
+// Prints the rows, and answers how many there are, unless a write fails.
+fn print_rows(out: &mut Stdout, image: &[u8]) -> io::Result<u64>
     requires { sound image.now ≡ true }
-    ensures { result ≡ length (rows_of image.now) }
+    ensures { IfOk result (λ rows. rows ≡ length (rows_of image.now)) }
 {
     let mut before = 0;
     let mut slot = 0;
@@ -85,7 +95,7 @@ fn print_rows(image: &[u8]) -> u64
     loop {
         match row_after(image, before, slot, last) {
             Visit::End => {
-                return rows;
+                return Ok(rows);
             }
             Visit::Row {
                 page,
@@ -93,7 +103,7 @@ fn print_rows(image: &[u8]) -> u64
                 key,
                 length,
             } => {
-                print_row(image, rows, page, at, key, length);
+                print_row(out, image, rows, page, at, key, length)?;
                 before = page;
                 slot = at;
                 last = key;
@@ -104,18 +114,18 @@ fn print_rows(image: &[u8]) -> u64
 }
 
 // The rows, and the last line: records, accepted and refused transactions.
-pub fn print(image: &[u8], accepted: u64, refused: u64)
+pub fn print(out: &mut Stdout, image: &[u8], accepted: u64, refused: u64) -> io::Result<()>
     requires { sound image.now ≡ true }
 {
-    let rows = print_rows(image);
+    let rows = print_rows(out, image)?;
     let mut last = [0u8; 25];
     lines::put_totals(&mut last, rows, accepted, refused);
-    io::write_all(1, &last);
+    out.write_all(&last)
 }
 
 // "prints that line's number in 8 columns after the heading, and nothing more"
-pub fn print_line_number(line: u64) {
+pub fn print_line_number(out: &mut Stdout, line: u64) -> io::Result<()> {
     let mut last = [0u8; 9];
     lines::put_line_number(&mut last, line);
-    io::write_all(1, &last);
+    out.write_all(&last)
 }

@@ -5,17 +5,37 @@
 mod form;
 mod listing;
 
+ghost use Rattle.std.specs.Prelude.{◌≤◌, IfOk, length};
+
 use form::End;
+use std::io;
+use std::io::{Read, Stdin, Stdout, Write};
+
+// Reads until the input ends or the buffer is full, and answers how many bytes it put at the buffer's front.
+fn read_full(input: &mut Stdin, buffer: &mut [u8]) -> io::Result<usize>
+    ensures { IfOk result (λ n. n ≤ length buffer.new) }
+{
+    let mut done = 0;
+    for _ in 0..u64::MAX {
+        let more = input.read(&mut buffer[done..])?;
+        if more == 0 {
+            break;
+        }
+        done += more;
+    }
+    Ok(done)
+}
 
 // "The first line is always the heading." Of the input, the first 56,001 bytes decide: 2,000 lines of 28 bytes, and whether there is more.
-fn main() {
-    let mut input = io::large_buffer();
-    let n = io::read_full(0, &mut input);
-    io::write_all(1, b"pageslot          key len\n");
+fn main(rt: HostRuntime) -> io::Result<()> {
+    let mut buffer = [0u8; 65536];
+    let n = read_full(&mut rt.stdin(), &mut buffer)?;
+    let mut out = rt.stdout();
+    out.write_all(b"pageslot          key len\n")?;
     let mut image = [0u8; 8192];
     image::calls::format(&mut image);
-    match form::take_lines(&input[..n], &mut image) {
-        End::Bad(line) => listing::print_line_number(line),
-        End::Whole { accepted, refused } => listing::print(&image, accepted, refused),
+    match form::take_lines(&buffer[..n], &mut image) {
+        End::Bad(line) => listing::print_line_number(&mut out, line),
+        End::Whole { accepted, refused } => listing::print(&mut out, &image, accepted, refused),
     }
 }

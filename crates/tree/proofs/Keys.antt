@@ -22,7 +22,7 @@ use Rattle.edit.proofs.Keys.{broken-number, kept_append, first-broken}
 use Rattle.tree.specs.State.{State, Step, done, refused, begin}
 use Rattle.tree.specs.Edits.{no_keep, edited}
 use Rattle.tree.specs.Whole.{finished, onward, edits_from, edits_on, edits_from_in}
-use Rattle.tree.specs.Grounds.{table_of, ground, Grounds}
+use Rattle.tree.specs.Grounds.{table_of, edit_ground, Grounds}
 use Rattle.tree.specs.Reasons.{Room, in_place, copied, no_copy, no_index, split, no-split, Reason, broken, inserted, updated, deleted}
 use Rattle.tree.specs.Good.{count, Good}
 use Rattle.tree.proofs.States.{leads-free}
@@ -76,8 +76,8 @@ made_kept n F i (e ∷ es) s t G sub P q = go (edited e s) refl q (λ u H k. mad
     go (refused k) z q f = let y : ◌≡◌ {A = ℕ} 0 1 = cc in absurd (omega arith)
     go (done u) z q f =
         let R = one-run n F e s u G sub P.0 z in
-        let none : ground s e ≡ 0 = sym (edit-exact n s G e P.0) ∙ ap code z in (
-          reason_kept s e (ground s e) (ground-reason s e) (λ y. omega arith) (λ y. omega arith),
+        let none : edit_ground s e ≡ 0 = sym (edit-exact n s G e P.0) ∙ ap code z in (
+          reason_kept s e (edit_ground s e) (ground-reason s e) (λ y. omega arith) (λ y. omega arith),
           subst (AllKept es) R.makes (f u R.good (λ x. omega (arith, sub x, leads-free format1 no_keep F s u R.leads x)) q),
         )
 

@@ -23,7 +23,7 @@ use Rattle.edit.proofs.Keys.{kept_rule, broken-rule, broken-some, Ruled, rule-sa
 use Rattle.edit.proofs.Keys as rules
 use Rattle.tree.specs.State.{State}
 use Rattle.tree.specs.Edits.{no_keep}
-use Rattle.tree.specs.Grounds.{takes, leaf_takes, takes_edit, placing_in, table_of, leaf_of, placing, ground}
+use Rattle.tree.specs.Grounds.{takes, leaf_takes, takes_edit, placing_in, table_of, leaf_of, placing, edit_ground}
 use Rattle.tree.specs.Reasons.{pages_for, Room, in_place, copied, no_copy, no_index, split, no-split, Reason, broken, inserted, updated, deleted}
 use Rattle.tree.proofs.Exact.{ground-is, ground-placed}
 use Rattle.tree.proofs.Pages.{full-exact, full_test, test-full, test-room, full-test, room-test}
@@ -107,7 +107,7 @@ placed st (insert k v) h = inserted k v _ h (room-reason st true (size (rec_of k
 placed st (update k v) h = updated k v _ h (room-reason st false (size (rec_of k v)) (leaf_of st k) (replace k v (records (leaf_of st k))))
 placed st (delete k) h = deleted k h
 
-pub ground-reason : (st : State) (e : Edit) → Reason st e (ground st e)
+pub ground-reason : (st : State) (e : Edit) → Reason st e (edit_ground st e)
 ground-reason st e = subst (Reason st e) (sym (ground-is format1 no_keep st e)) (go (key_rule e (table_of st)) (rule-says e (table_of st)))
   where
     go : (n : ℕ) → Ruled e (table_of st) n → Reason st e (pick (eqb n 0) (placing st e) n)
@@ -115,10 +115,10 @@ ground-reason st e = subst (Reason st e) (sym (ground-is format1 no_keep st e)) 
     go _ (rules.broken n b) = rw (ne_eqb n 0 (broken-some e (table_of st) n b)) (broken e n b)
 
 -- and each case excludes the others
-kept-ground : (st : State) (e : Edit) → Kept e (table_of st) → ground st e ≡ by_need st (leaf_takes format1 tt e (leaf_of st (key_of e)))
+kept-ground : (st : State) (e : Edit) → Kept e (table_of st) → edit_ground st e ≡ by_need st (leaf_takes format1 tt e (leaf_of st (key_of e)))
 kept-ground st e h = ground-placed format1 no_keep st e (kept_rule e (table_of st) h) ∙ place-by-need st e
 
-pub reason-ground : (st : State) (e : Edit) (g : ℕ) → Reason st e g → ground st e ≡ g
+pub reason-ground : (st : State) (e : Edit) (g : ℕ) → Reason st e g → edit_ground st e ≡ g
 unfolding leaf_takes by_need
 reason-ground st _ _ (broken e g b) =
     ground-is format1 no_keep st e ∙ rw (broken-rule e (table_of st) g b, ne_eqb g 0 (broken-some e (table_of st) g b))

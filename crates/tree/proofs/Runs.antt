@@ -23,7 +23,7 @@ use Rattle.edit.specs.Reads.{Proper}
 use Rattle.edit.proofs.General.{all_right}
 use Rattle.tree.specs.Edits.{edited, no_keep}
 use Rattle.tree.specs.Good.{Good, count}
-use Rattle.tree.specs.Grounds.{Grounds, ground, table_of}
+use Rattle.tree.specs.Grounds.{Grounds, edit_ground, table_of}
 use Rattle.tree.specs.NewPages.{NewPages}
 use Rattle.tree.specs.State.{State, Step, begin, done, refused}
 use Rattle.tree.specs.Whole.{Outcome, edits_from, edits_on, finished, onward, stopped, edits_from_in}
@@ -34,7 +34,7 @@ use Rattle.tree.proofs.Outcomes.{OutcomesIn, RunIn, StopIn, outcomes-in, tree-go
 
 -- ---- one edit
 
-pub edit-exact : (n : ℕ) (st : State) → Good n st → (e : Edit) → Proper e → code (edited e st) ≡ ground st e
+pub edit-exact : (n : ℕ) (st : State) → Good n st → (e : Edit) → Proper e → code (edited e st) ≡ edit_ground st e
 edit-exact n st G e P = edit-exact-in format1 format1-rules no_keep n st G (λ x h. refl) e P
 
 -- ---- a list of edits

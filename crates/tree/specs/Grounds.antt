@@ -123,8 +123,8 @@ leaf_of st k = page_of st.image (leaf_under format1 k st.image (height_of st.ima
 abbrev pub placing : State → Edit → ℕ
 placing st e = placing_in format1 no_keep st e
 
-abbrev pub ground : State → Edit → ℕ
-ground st e = ground_in format1 no_keep st e
+abbrev pub edit_ground : State → Edit → ℕ
+edit_ground st e = ground_in format1 no_keep st e
 
 -- the list es on the image a is refused with k at edit i: those before it are made, and k is what the grounds say
 pub record Grounds (a : List ℕ) (es : List Edit) (k i : ℕ) : Type 0 where
@@ -139,4 +139,4 @@ pub record Grounds (a : List ℕ) (es : List Edit) (k i : ℕ) : Type 0 where
   -- the free pages are the first ones, less those taken, which stood in front
   pub taken : List ℕ
   pub free : (begin a).free ≡ taken ++ state.free
-  pub because : k ≡ ground state culprit
+  pub because : k ≡ edit_ground state culprit

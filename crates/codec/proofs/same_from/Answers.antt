@@ -1,6 +1,5 @@
 -- `same_from`: what is left of both compares as all from there on.
 -- Assumes nothing.
-use Prim.Native.Nat.{◌-◌}
 use mathlib.Core.Path.{refl, sym, ◌∙◌}
 use native.Mathlib.Omega.{arith}
 use Rattle.codec.proofs.Tests.{eqs-same-next, eqs-other-next, eqs-end}

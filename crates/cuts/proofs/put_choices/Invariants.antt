@@ -1,6 +1,5 @@
 -- `put_choices`: from the last line named to the first, what is left counts the choices of the lines written.
 -- Assumes nothing.
-use Prim.Native.Nat.{◌-◌}
 use Rattle.cuts.proofs.Digits.{Digits}
 use Rattle.cuts.proofs.put_choices.Given as goal
 

@@ -2,7 +2,6 @@
 -- Assumes nothing.
 use Prim.Native.Nat.{◌+◌, ◌-◌}
 use mathlib.Core.Path.{◌≡◌, refl, sym, ap, ◌∙◌}
-use mathlib.Core.Logic.{⊎_elim}
 use mathlib.Core.List.{[]}
 use native.Mathlib.Omega.{arith}
 use native.Mathlib.Nat.{sub-zero}
@@ -63,10 +62,10 @@ loop-at-preserved c =
     let rest = take (a.c - (l.count + 1)) (decode a.n (drop (l.at + c.size_at-size.result) a.tape.now)) in
     let noted : (length j.flushes ≡ length l.flushes) × Noting j.flushes j.fence (l.at + c.size_at-size.result) rest (take a.c (decode a.n a.tape.now)) =
     elim j.branch [
-      then-count-c w ↦
-        (ap length w.flushes-is ∙ w.note-fence.auto.flushes, judge-before a.c l.count _ _ _ _ l.flushes l.fence l.at _ next l.invariant.5 j.flushes j.fence _ _ w.if-count-c.true on (λ q. omega (arith, flush-inside a.n l.at a.tape.now taken is q)) (w.fence-is ∙ w.note-fence.ensures.value) (w.flushes-is ∙ w.note-fence.ensures.flushes_after) c.size_at-size.ensures.0)
-    | else-count-c w ↦
-        (ap length w.flushes-is, rw (w.flushes-is, w.fence-is) (judge-past a.c l.count _ _ _ _ l.flushes l.fence l.at _ next l.invariant.5 w.if-count-c.false))
+      | then-count-c w ↦
+          (ap length w.flushes-is ∙ w.note-fence.auto.flushes, judge-before a.c l.count _ _ _ _ l.flushes l.fence l.at _ next l.invariant.5 j.flushes j.fence _ _ w.if-count-c.true on (λ q. omega (arith, flush-inside a.n l.at a.tape.now taken is q)) (w.fence-is ∙ w.note-fence.ensures.value) (w.flushes-is ∙ w.note-fence.ensures.flushes_after) c.size_at-size.ensures.0)
+      | else-count-c w ↦
+          (ap length w.flushes-is, rw (w.flushes-is, w.fence-is) (judge-past a.c l.count _ _ _ _ l.flushes l.fence l.at _ next l.invariant.5 w.if-count-c.false))
     ] in (
       c.size_at-size.ensures.1,
       omega arith,

@@ -1,6 +1,6 @@
 -- `find`: the search from the i-th record on is the whole search.
 -- Assumes nothing.
-use Rattle.std.proofs.Common.{◌≡◌, ◌-◌, ◌<◌, length, sym, refl, ◌∙◌, arith}
+use Rattle.std.proofs.Common.{◌≡◌, ◌<◌, length, sym, refl, ◌∙◌, arith}
 use Rattle.page.specs.Page.{records}
 use Rattle.page.proofs.Listed.{count_at, slot-end, few-listed}
 use Rattle.page.proofs.Keys.{searched-end, find-on, find_at, find_past}

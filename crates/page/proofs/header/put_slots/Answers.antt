@@ -1,6 +1,6 @@
 -- `put_slots`: what is left to write, stored over what is there, is the whole.
 -- Assumes nothing.
-use Rattle.std.proofs.Common.{◌≡◌, ℕ, ◌+◌, ◌-◌, ◌*◌, List, [], length, drop, sym, refl, ap, ◌∙◌, arith, drop_of_length-le}
+use Rattle.std.proofs.Common.{◌≡◌, ℕ, ◌+◌, ◌*◌, List, [], length, drop, sym, refl, ap, ◌∙◌, arith, drop_of_length-le}
 use lib.Seq.{sets}
 use Rattle.codec.specs.Lists.{splice}
 use Rattle.codec.specs.Numbers.{bytes_of}

@@ -14,8 +14,7 @@ overflow_sub-at c = omega arith
 
 pub loop-j-init : goal.loop-j-init
 loop-j-init c =
-    let h = c.args.self in
-    (
+    let h = c.args.self in (
       omega arith,
       omega arith,
       clean-wide h c.requires.0 (omega arith),

@@ -1,6 +1,6 @@
 -- `Header::inserted`: the free place moves down from past the last slot to the i-th.
 -- Assumes nothing.
-use Rattle.std.proofs.Common.{◌≡◌, ◌-◌, ◌≤◌, length, take}
+use Rattle.std.proofs.Common.{◌≡◌, ◌≤◌, length, take}
 use Rattle.page.specs.Layout.{slot_count}
 use Rattle.page.proofs.Slots.{Free}
 use Rattle.page.proofs.header.Header.inserted.Given as goal

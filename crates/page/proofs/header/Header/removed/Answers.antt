@@ -14,8 +14,7 @@ overflow_sub-last c = omega arith
 
 pub loop-j-init : goal.loop-j-init
 loop-j-init c =
-    let h = c.args.self in
-    (
+    let h = c.args.self in (
       omega arith,
       clean-wide h c.requires.0 (omega arith),
       rw (← clean-slots h c.requires.0) at (free-removed (take h.count h.slots) c.args.i (omega (arith, clean-count h c.requires.0))),

@@ -1,5 +1,6 @@
 // Edits of a slotted page in place, and new pages filled from the records of another with an edit made.
 #![tactic(auto)]
+
 ghost use Rattle.std.specs.Prelude.{◌≡◌, true, [], ◌∷◌, ◌+◌, ◌-◌, ◌≤◌, ◌<◌, length, ltb};
 ghost use Rattle.codec.specs.Lists.{splice, pick};
 ghost use Rattle.page.specs.Layout.{page_size, value_most, rec_of, up8, size, record_bytes, record_at};

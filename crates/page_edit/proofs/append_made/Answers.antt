@@ -1,6 +1,6 @@
 -- `append_made`: what is left to be filled in, filled in over what is there, is the whole.
 -- Assumes nothing.
-use Prim.Native.Nat.{◌+◌, ◌-◌, ◌<◌}
+use Prim.Native.Nat.{◌+◌, ◌<◌}
 use mathlib.Core.Path.{◌≡◌, sym, ◌∙◌}
 use mathlib.Core.List.{◌∷◌}
 use native.Mathlib.Omega.{arith}
@@ -11,7 +11,7 @@ use Rattle.page.proofs.Listed.{few-listed}
 use Rattle.page.proofs.Facts.{ok-is}
 use Rattle.page.proofs.Made.{between-end}
 use Rattle.page_edit.specs.Filling.{Stands}
-use Rattle.page_edit.proofs.Filled.{stands, left-all, left-room, left-next, left-none, new-next, old-listed, old-next, old-stands}
+use Rattle.page_edit.proofs.Filled.{left-all, left-room, left-next, left-none, new-next, old-listed, old-next, old-stands}
 use Rattle.page_edit.proofs.append_made.Goals as goal
 use Rattle.page_edit.proofs.append_made.Goals.{After-number_at-at, After-old_slot, Then-k-i}
 

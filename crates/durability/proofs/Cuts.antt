@@ -1,13 +1,13 @@
 -- What demand 3 calls a failure, a cut recovery and a transaction that completes is what the device's own calls leave: `cut` and `run` on the bytes used of the tape.
 -- Assumes nothing.
 use Prim.Native.Nat.{ℕ, ◌/◌, ◌≤◌}
-use mathlib.Core.Path.{◌≡◌, refl, sym, ap, ◌∙◌}
+use mathlib.Core.Path.{◌≡◌, sym, ap, ◌∙◌}
 use mathlib.Core.Logic.{◌⊎◌}
 use mathlib.Core.Bool.{true}
 use mathlib.Core.List.{List}
 use lib.ListN.{length, get_or, take}
 use Rattle.device.specs.Tape.{well_formed}
-use Rattle.device.specs.Calls.{Ran, accepted, run_call, cut_call}
+use Rattle.device.specs.Calls.{accepted, run_call, cut_call}
 use Rattle.device.specs.declared.Refusal.{Refusal}
 use Rattle.device.proofs.Encode.{writable-formed}
 use Rattle.device.proofs.Calls.{cut-accepts}

@@ -2,25 +2,23 @@
 -- Assumes nothing.
 use Prim.Native.Nat.{ℕ, ◌≤◌}
 use mathlib.Core.Path.{◌≡◌, refl, sym, ap, ◌∙◌}
-use mathlib.Core.Logic.{◌⊎◌, inl, inr}
-use mathlib.Core.Bool.{Bool, true, false, ◌&&◌}
-use mathlib.Core.List.{List, [], ◌∷◌}
+use mathlib.Core.Logic.{inl, inr}
+use mathlib.Core.Bool.{Bool, true, false}
+use mathlib.Core.List.{List}
 use native.Mathlib.Omega.{arith}
 use lib.ListN.{length}
 use lib.Dec.{eqb, leb}
 use borrow.Author.Tests.{leb-true, le-leb, eq-eqb}
 use Rattle.codec.specs.Lists.{splice, pick}
-use Rattle.codec.proofs.Tests.{both}
 use Rattle.device.specs.Tape.{tape_bytes, flush_count}
-use Rattle.device.specs.Calls.{is_image_size, image_size, work_size, unsound, tape_short}
+use Rattle.device.specs.Calls.{is_image_size, work_size, tape_short}
 use Rattle.image.specs.PageZero.{page_zero}
 use Rattle.image.specs.Image.{sound}
 use Rattle.journal.specs.Recovery.{replay_from, recovery_tape, replayable}
 use Rattle.journal.specs.declared.Way.{Way}
 use Rattle.recovery.specs.Calls.{Result, refused_with, accepted_with, recover_call}
 use Rattle.recovery.specs.declared.Redone.{Redone}
-use Rattle.recovery.specs.declared.Recovered.{Recovered}
-use Rattle.recovery.specs.declared.Recovered.TheVariants.{Accepted, Refused}
+use Rattle.recovery.specs.declared.Recovered.TheVariants.{Accepted}
 use Rattle.durability.specs.Demand.{Allowed}
 
 pub refused-not : (k : ℕ) (work tape : List ℕ) (e : Redone) → (refused_with k work tape).answer ≡ Accepted e → ⊥

@@ -1,5 +1,6 @@
 // The edit list: its first fault, judged before any edit is made.
 #![tactic(auto)]
+
 ghost use Rattle.std.specs.Prelude.{◌≡◌, ◌&&◌, ◌||◌, ◌≤◌, eqb, ltb, length, drop};
 ghost use Rattle.codec.specs.Lists.{pick};
 ghost use Rattle.image.specs.Calls.{key_ok};

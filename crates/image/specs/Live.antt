@@ -1,6 +1,6 @@
 -- The bytes that soundness and the table depend on: "Unreached pages, free bytes and log lines may hold anything" (document 01, 'Page layout').
 -- Assumes nothing.
-use Rattle.std.specs.Prelude.{ℕ, ◌+◌, ◌/◌, ◌%◌, Bool, true, false, ◌&&◌, ◌||◌, List, [], ◌∷◌, leb, ltb}
+use Rattle.std.specs.Prelude.{ℕ, ◌/◌, ◌%◌, Bool, false, ◌&&◌, ◌||◌, List, [], ◌∷◌, leb, ltb}
 use Rattle.page.specs.Layout.{page_size, line_size}
 use Rattle.page.specs.Page.{Entry, end, entries}
 use Rattle.page.specs.Operations.{page_of}

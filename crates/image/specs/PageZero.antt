@@ -1,6 +1,6 @@
 -- Page 0: the mark, the root and the line that holds them (document 01, 'Page layout').
 -- Assumes nothing.
-use Rattle.std.specs.Prelude.{ℕ, ◌/◌, ◌≤◌, ◌<◌, Bool, ◌&&◌, List, [], ◌∷◌, ◌++◌, length, get_or, replicate, leb, ltb}
+use Rattle.std.specs.Prelude.{ℕ, ◌/◌, Bool, ◌&&◌, List, [], ◌∷◌, ◌++◌, length, get_or, replicate, leb, ltb}
 use Rattle.codec.specs.Lists.{part, eqs, every, pick}
 use Rattle.codec.specs.Numbers.{number, bytes_of}
 use Rattle.page.specs.Layout.{page_size}

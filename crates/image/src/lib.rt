@@ -1,5 +1,6 @@
 // The image: page 0, the index and its leaves, and the calls that read them.
 #![tactic(auto)]
+
 use device::Refusal;
 
 pub mod calls;

@@ -1,6 +1,6 @@
 -- What differs between an image and its edited image: stage A's words and the changed places (document 01, 'The transaction's tape').
 -- Assumes nothing.
-use Rattle.std.specs.Prelude.{ℕ, zero, suc, ◌-◌, ◌*◌, ◌/◌, ◌%◌, Bool, true, false, ◌&&◌, ◌||◌, not, List, [], ◌∷◌, ◌++◌, map, length, take, drop, leb, eqb}
+use Rattle.std.specs.Prelude.{ℕ, zero, suc, ◌-◌, ◌*◌, ◌/◌, ◌%◌, Bool, ◌&&◌, ◌||◌, not, List, [], ◌∷◌, ◌++◌, length, take, drop, leb, eqb}
 use Rattle.codec.specs.Lists.{part, eqs, pick}
 use Rattle.device.specs.Tape.{Op, store, flush, barrier, malformed}
 use Rattle.device.specs.Cut.{with_barrier}

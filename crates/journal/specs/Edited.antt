@@ -1,7 +1,6 @@
 -- What the journal asks of the edits: five laws about an image a and its edited image w.
 -- Assumes nothing.
-use Rattle.std.specs.Prelude.{ℕ, ◌/◌, ◌≤◌, ◌<◌, ◌≡◌, ◌⊎◌, Bool, true, false, List, length, get_or}
-use Rattle.codec.specs.Lists.{part}
+use Rattle.std.specs.Prelude.{ℕ, ◌/◌, ◌≤◌, ◌<◌, ◌≡◌, ◌⊎◌, true, false, List, length, get_or}
 use Rattle.page.specs.Layout.{page_size}
 use Rattle.image.specs.PageZero.{root_of}
 use Rattle.image.specs.Image.{reached, among, sound}

@@ -1,7 +1,7 @@
 -- The log: the stores and flushes of its lines, and what replays them (document 01, 'The transaction's tape'). Each line is written in the
 -- device's way, and each group of flushes has its barrier (document 02 (h)).
 -- Assumes nothing.
-use Rattle.std.specs.Prelude.{ℕ, zero, suc, ◌*◌, ◌≤◌, ◌<◌, ◌≡◌, ◌⊎◌, Bool, true, false, not, List, [], ◌∷◌, ◌++◌, map, length, get_or}
+use Rattle.std.specs.Prelude.{ℕ, suc, ◌*◌, ◌≤◌, ◌<◌, ◌≡◌, ◌⊎◌, Bool, List, [], ◌∷◌, ◌++◌, length, get_or}
 use Rattle.codec.specs.Lists.{part, pick}
 use Rattle.codec.specs.Numbers.{number, bytes_of}
 use Rattle.device.specs.Tape.{Op, store, flush}

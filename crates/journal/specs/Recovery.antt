@@ -1,11 +1,11 @@
 -- Recovery: the replayed image, its tape, and when the log can be replayed (document 01, "Recovery with mark 0 ..", and 'Recovery' in 'Each call').
 -- Assumes nothing.
-use Rattle.std.specs.Prelude.{ℕ, zero, suc, ◌*◌, Bool, true, false, ◌&&◌, List, [], ◌∷◌, map, length, eqb, leb}
-use Rattle.codec.specs.Lists.{part, splice, pick, all_b, eqs}
+use Rattle.std.specs.Prelude.{ℕ, zero, suc, ◌*◌, Bool, true, false, ◌&&◌, List, [], ◌∷◌, map}
+use Rattle.codec.specs.Lists.{part, splice, all_b, eqs}
 use Rattle.codec.specs.Numbers.{bytes_of}
-use Rattle.device.specs.Tape.{Op, tape_bytes, flush_count}
+use Rattle.device.specs.Tape.{Op}
 use Rattle.page.specs.Layout.{page_size, line_size}
-use Rattle.image.specs.PageZero.{page_count, is_page, root_of, no_mark}
+use Rattle.image.specs.PageZero.{page_count, is_page, no_mark}
 use Rattle.image.specs.Image.{distinct}
 use Rattle.image.specs.declared.PageZero.{PageZero}
 use Rattle.image.specs.declared.PageZero.TheVariants.{Wrong, Waiting, Ready}

@@ -1,7 +1,7 @@
 -- The tape of an accepted transaction, its commit place, and the work image (document 01, 'The transaction's tape').
 -- Assumes nothing.
-use Rattle.std.specs.Prelude.{ℕ, ◌+◌, ◌*◌, Bool, true, false, List, [], ◌∷◌, ◌++◌, map, length, leb}
-use Rattle.codec.specs.Lists.{part, splice}
+use Rattle.std.specs.Prelude.{ℕ, ◌*◌, Bool, true, false, List, [], ◌∷◌, ◌++◌, map, length, leb}
+use Rattle.codec.specs.Lists.{splice}
 use Rattle.codec.specs.Numbers.{bytes_of}
 use Rattle.device.specs.Tape.{Op, store, flush, tape_bytes, flush_count}
 use Rattle.device.specs.Cut.{with_barrier}

@@ -1,5 +1,6 @@
 // Lines and columns of the sheet: a line of the form is read, its edit written for an edit list, and a line of the listing printed.
 #![tactic(auto)]
+
 ghost use Rattle.std.specs.Prelude.{◌≡◌, ◌∷◌, ◌+◌, ◌-◌, ◌≤◌, ◌<◌, eqb, length, drop};
 ghost use Rattle.codec.specs.Lists.{part, splice, pick, eqs};
 ghost use Rattle.codec.specs.Numbers.{bytes_of};

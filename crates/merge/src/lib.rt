@@ -1,5 +1,6 @@
 // Two books into one: the call. It counts first, and writes the third buffer once it knows that all will fit.
 #![tactic(auto)]
+
 ghost use Rattle.std.specs.Prelude.{◌≡◌, true, length};
 ghost use Rattle.device.specs.Calls.{is_image_size};
 ghost use Rattle.image.specs.Image.{sound};

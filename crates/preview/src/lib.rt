@@ -1,6 +1,7 @@
 // The preview: what a lookup would find if an edit list had been committed. It reads the image and the list, and nothing else: pages, log and
 // tape play no part.
 #![tactic(auto)]
+
 use device::Refusal;
 
 pub mod calls;

@@ -1,7 +1,7 @@
 -- What a recovery answers, and what it leaves in work and tape (document 01, 'Each call and when it says no'), by the way in which the device
 -- writes a line.
 -- Assumes nothing.
-use Rattle.std.specs.Prelude.{ℕ, Bool, ◌&&◌, List, length, eqb, leb}
+use Rattle.std.specs.Prelude.{ℕ, ◌&&◌, List, length, eqb, leb}
 use Rattle.codec.specs.Lists.{splice, pick}
 use Rattle.device.specs.Tape.{Op, tape_bytes, flush_count}
 use Rattle.device.specs.Calls.{is_image_size, image_size, work_size, unsound, tape_short, refusal}
@@ -9,7 +9,6 @@ use Rattle.image.specs.PageZero.{page_zero}
 use Rattle.image.specs.Image.{sound}
 use Rattle.journal.specs.Recovery.{replay_from, recovery_tape, replayable}
 use Rattle.journal.specs.declared.Way.{Way}
-use Rattle.recovery.specs.declared.Redone.{Redone}
 use Rattle.recovery.specs.declared.Recovered.{Recovered}
 use Rattle.recovery.specs.declared.Recovered.TheVariants.{Accepted, Refused}
 

@@ -1,6 +1,7 @@
 // Recovery: what a waiting mark asks for is done. Its definition is in specs/; the code that replays a log and writes its tape is in
 // tape_write.
 #![tactic(auto)]
+
 ghost use Rattle.std.specs.Prelude.{◌≡◌, true, List, ℕ, ◌≤◌, length};
 ghost use Rattle.device.specs.Calls.{is_image_size};
 ghost use Rattle.image.specs.PageZero.{page_zero};

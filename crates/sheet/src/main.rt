@@ -2,6 +2,7 @@
 // number of the first bad line. What the lines do to the store, which rows there are and the bytes of each line written are proved. No
 // contract can say what is read or written: that this is all of it, in this order, is tested.
 #![tactic(auto)]
+
 mod form;
 mod listing;
 

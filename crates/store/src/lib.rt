@@ -1,6 +1,7 @@
 // The store for C and Rust: every call answers a number, 0 if accepted, else the refusal's. What a call answers besides is written to a
 // lent array of numbers, if it has room.
 #![tactic(auto)]
+
 ghost use Rattle.std.specs.Prelude.{◌≡◌, ◌≤◌, take};
 ghost use Rattle.device.specs.Calls.{number_of, run_call, cut_call};
 ghost use Rattle.cuts.specs.Calls.{count_call, nth_call};

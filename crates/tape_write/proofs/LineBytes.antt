@@ -78,14 +78,14 @@ module _ (src : List ℕ) (from line : ℕ) (fits : from + 64 ≤ length src) wh
   words-first : (i : ℕ) → i < 8 → words_left i ≡ store (8 * (8 * line + i)) (part src (from + 8 * i) 8) ∷ words_left (i + 1)
   unfolding words_of part
   words-first i h =
-      let Line-of = part src from 64 in
+      let this-line = part src from 64 in
       let e : 8 - i ≡ suc (8 - (i + 1)) = omega arith in
       let p : line_size * line + 8 * i ≡ 8 * (8 * line + i) = omega arith in
       let q : line_size * line + 8 * i + word_size ≡ line_size * line + 8 * (i + 1) = omega arith in
       let n : 8 * i + word_size ≡ 8 * (i + 1) = omega arith in
-      ap (λ (m : ℕ). words_of m (line_size * line + 8 * i) (drop (8 * i) Line-of)) e
+      ap (λ (m : ℕ). words_of m (line_size * line + 8 * i) (drop (8 * i) this-line)) e
       ∙ ap₂ (λ (o : Op) (r : List Op). o ∷ r) (ap₂ store p (part-part src from 64 (8 * i) 8 (omega arith)))
-      (ap₂ (words_of (8 - (i + 1))) q (drop-drop word_size (8 * i) Line-of ∙ ap (λ (m : ℕ). drop m Line-of) n))
+      (ap₂ (words_of (8 - (i + 1))) q (drop-drop word_size (8 * i) this-line ∙ ap (λ (m : ℕ). drop m this-line) n))
 
   module _ (t t' : List ℕ) (at i : ℕ) where
     pub word-step : i < 8 → at + 96 ≤ length t → t' ≡ splice t (at + 12 * i) (word_bytes (8 * line + i) (part src (from + 8 * i) 8)) →

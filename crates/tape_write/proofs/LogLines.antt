@@ -61,10 +61,10 @@ module _ (src : List ℕ) (k i : ℕ) where
         sets t' (at + lines_bytes way (i + 1)) (tape_bytes (line_stores way own (i + 1 + 1) (lines_passed (i + 1)))) ≡ sets t (at + lines_bytes way i) (tape_bytes (line_stores way own (i + 1) (lines_passed i)))
     unfolding line_stores
     line_step line n more fits e m h =
-        let Line-of = part src (64 * (i + 1)) 64 in
-        let size = line-size way (line_size * line) Line-of (length_part src (64 * (i + 1)) 64 (omega arith)) in
-        tape-append t t' (at + lines_bytes way i) (at + lines_bytes way (i + 1)) (line_by way (line_size * line) Line-of) (line_stores way own (i + 1 + 1) (lines_passed (i + 1)))
-        (h ∙ ap (λ (o : ℕ). sets t (at + o) (tape_bytes (line_by way (line_size * line) Line-of))) m) (omega (arith, lines_more way i))
+        let this-line = part src (64 * (i + 1)) 64 in
+        let size = line-size way (line_size * line) this-line (length_part src (64 * (i + 1)) 64 (omega arith)) in
+        tape-append t t' (at + lines_bytes way i) (at + lines_bytes way (i + 1)) (line_by way (line_size * line) this-line) (line_stores way own (i + 1 + 1) (lines_passed (i + 1)))
+        (h ∙ ap (λ (o : ℕ). sets t (at + o) (tape_bytes (line_by way (line_size * line) this-line))) m) (omega (arith, lines_more way i))
         ∙ rw (lines_next more, e, add-one (i + 1))
 
   module _ (own : Bool) (t t' : List ℕ) (at : ℕ) where

@@ -1,6 +1,7 @@
 // The transaction: a list of edits made on an image, with the tape that commits them. Its definition is in specs/, what it answers in
 // proofs/Answers; the code that makes the edits is in tree_edit, and the code that writes the tape in tape_write.
 #![tactic(auto)]
+
 ghost use Rattle.std.specs.Prelude.{◌≡◌, true, length};
 ghost use Rattle.image.specs.Image.{sound};
 ghost use Rattle.edit.specs.EditList.{listed, edits_of, edit_list};

@@ -1,6 +1,6 @@
 -- A record put into a leaf's own page; and a full leaf copied to a new page, with what the index then takes.
 -- Assumes nothing.
-use Prim.Native.Nat.{ℕ, ◌+◌, ◌-◌, ◌≤◌}
+use Prim.Native.Nat.{ℕ, ◌-◌, ◌≤◌}
 use mathlib.Core.Path.{◌≡◌, refl, sym, ap, ◌∙◌, subst}
 use mathlib.Core.Bool.{Bool, false, false≢true}
 use mathlib.Core.List.{List, ◌∷◌, ◌++◌}

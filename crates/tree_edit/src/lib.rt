@@ -1,5 +1,6 @@
 // The edits of a transaction, made in place on the tree of a work image.
 #![tactic(auto)]
+
 pub mod edits;
 pub mod ends;
 pub mod pages;

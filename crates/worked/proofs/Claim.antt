@@ -1,7 +1,7 @@
 -- The claim: every row of the table holds.
 -- Assumes nothing.
 use Rattle.codec.specs.Lists.{All}
-use Rattle.worked.specs.Row.{Row, Holds}
+use Rattle.worked.specs.Row.{Holds}
 use Rattle.worked.specs.Rows.{rows}
 use Rattle.worked.proofs.Short.{
   insert-one-holds,

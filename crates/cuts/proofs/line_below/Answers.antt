@@ -1,6 +1,5 @@
 -- `line_below`: what is found is the highest of the lines passed.
 -- Assumes nothing.
--- one more line
 use Prim.Native.Nat.{ℕ, ◌+◌, ◌≤◌, ◌<◌}
 use mathlib.Core.Path.{◌≡◌, refl, sym, ◌∙◌, subst}
 use mathlib.Core.Logic.{◌⊎◌, inl, inr}
@@ -13,7 +12,7 @@ use borrow.Author.Tests.{eqb-true, eqb-false}
 use Rattle.cuts.specs.Products.{Highest}
 use Rattle.cuts.proofs.line_below.Goals as goal
 
--- LEFT helper
+-- one more line
 highest-next : (named : List ℕ) (bound i found r : ℕ) → Highest named i bound found → found ≤ r → r ≤ bound → (get_or named i 0 < bound → get_or named i 0 < r) → (r ≡ found) ⊎ (r ≡ get_or named i 0 + 1) →
     Highest named (i + 1) bound r
 highest-next named bound i found r k e f new one = record { within = f; above = above; is_one = is_one one k.is_one }

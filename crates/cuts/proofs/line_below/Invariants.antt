@@ -1,6 +1,5 @@
 -- `line_below`: what is found is the highest of the lines passed.
 -- Assumes nothing.
--- one more line
 use Prim.Native.Nat.{◌-◌, ◌≤◌}
 use lib.ListN.{length}
 use Rattle.cuts.specs.Products.{Highest}

@@ -56,7 +56,6 @@ offset_bounds-named-commands c = omega (arith, (room (goal.at.offset_bounds-name
 pub bounds-named-commands : goal.bounds-named-commands
 bounds-named-commands c = omega (arith, (room (goal.at.bounds-named-commands c).After-command_at-next).another, c.loop-product.invariant.2)
 
--- LEFT helper
 -- the line of a command, among as many
 line-in : (d : Does) (l m n : ℕ) → m ≡ n → LineIn d l n → LineIn d l m
 line-in d l m n e h = subst (LineIn d l) (sym e) h

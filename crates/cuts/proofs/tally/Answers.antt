@@ -1,6 +1,5 @@
 -- `tally`: the product is the line's factor times the others'.
 -- Assumes nothing.
--- the product without the line's factor
 use Prim.Native.Nat.{ℕ, suc, ◌+◌, ◌*◌, ◌/◌, ◌≤◌, ◌<◌}
 use mathlib.Core.Path.{◌≡◌, sym, ap, ap₂, ◌∙◌}
 use mathlib.Core.List.{List}
@@ -11,13 +10,12 @@ use Rattle.cuts.specs.Products.{ways}
 use Rattle.cuts.proofs.Choices.{ways-set, ways-factor}
 use Rattle.cuts.proofs.tally.Goals as goal
 
--- LEFT helper
+-- the product without the line's factor
 others : (ms : List ℕ) (l product k : ℕ) → l < length ms → product ≡ ways ms → k ≡ get_or ms l 0 → product / (k + 1) ≡ ways (set ms l 0)
 others ms l product k h e f =
     let one : k + 1 ≡ suc (get_or ms l 0) = omega arith in
     rw (e, one) (ap (λ (x : ℕ). x / suc (get_or ms l 0)) (ways-factor ms l h) ∙ mul-div_cancel_left (ways (set ms l 0)) (omega arith))
 
--- LEFT helper
 others-bound : (product k : ℕ) → product ≤ 4096 → k ≤ 12 → product / (k + 1) * (k + 1 + 1) ≤ 65536
 others-bound product k h i = le_trans (mul-le-mul {n₁ = product / (k + 1)} {m₁ = k + 1 + 1} {n₂ = product} {m₂ = 16} (div-le_self product (k + 1)) (omega arith)) (omega arith)
 

@@ -17,7 +17,6 @@ returns-in-2 c = rw c.in-2.is
 pub returns-in-3 : goal.returns-in-3
 returns-in-3 c = rw c.in-3.is
 
--- LEFT helper
 -- a kind that is none of these
 go : (k n : ℕ) → (k ≡ 1 → ⊥) → (k ≡ 2 → ⊥) → (k ≡ 3 → ⊥) → true ≡ bad_head k n
 go zero n a b c = refl

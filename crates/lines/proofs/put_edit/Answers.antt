@@ -3,7 +3,7 @@
 use native.Mathlib.Omega.{arith}
 use mathlib.Core.Path.{◌≡◌, sym, ap, ◌∙◌}
 use mathlib.Core.Logic.{◌⊎◌, inl, inr, ⊎_elim}
-use borrow.Author.Tests.{eqb-true, eqb-false, not-true, not-false}
+use borrow.Author.Tests.{eqb-false, not-true}
 use Rattle.codec.specs.Lists.{splice}
 use Rattle.lines.proofs.Editing.{edit-deletes, edit-written, length-changes, length-deletes}
 use Rattle.lines.proofs.put_edit.Goals as goal

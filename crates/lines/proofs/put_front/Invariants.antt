@@ -1,6 +1,6 @@
 -- `put_front`: what is left to put, written over what is there, is the whole.
 -- Assumes nothing.
-use Prim.Native.Nat.{◌-◌, ◌≤◌}
+use Prim.Native.Nat.{◌≤◌}
 use mathlib.Core.Path.{◌≡◌}
 use lib.ListN.{length}
 use Rattle.codec.specs.Lists.{splice}

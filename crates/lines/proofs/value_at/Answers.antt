@@ -1,6 +1,5 @@
 -- `value_at`: what is left to read, after what was read, is the whole.
 -- Assumes nothing.
-use Prim.Native.Nat.{◌-◌}
 use mathlib.Core.Path.{refl, sym, ◌∙◌}
 use native.Mathlib.Omega.{arith}
 use Rattle.lines.proofs.Columns.{value-next, value-end, ten-more, ten-most}

@@ -1,6 +1,5 @@
 -- `store_leaves`: two refusals; else page 0 and zeros, the leaves, and the index over them.
 -- Assumes nothing.
--- the leaves of both
 use Prim.Native.Nat.{ℕ, ◌+◌, ◌*◌, ◌≤◌}
 use mathlib.Core.Path.{sym, ap, subst, ◌∙◌}
 use mathlib.Core.List.{List}
@@ -10,7 +9,7 @@ use Rattle.codec.specs.Lists.{All}
 use Rattle.device.specs.Calls.{accepted, refused}
 use Rattle.device.specs.declared.Answer.TheVariants.{Refused}
 use Rattle.device.proofs.Calls.{said}
-use Rattle.page.specs.Layout.{page_size, top_key, index_kind, Rec}
+use Rattle.page.specs.Layout.{page_size, top_key, index_kind}
 use Rattle.page.specs.Operations.{fill}
 use Rattle.page.proofs.Images.{lent, length-lent, back}
 use Rattle.image.specs.PageZero.{page_count}
@@ -55,18 +54,20 @@ pub slice_bounds-fill_index-end : goal.slice_bounds-fill_index-end
 slice_bounds-fill_index-end c = omega (arith, page-one (goal.at.slice_bounds-fill_index-end c).After-fill_leaves-seps)
 
 pub fill_index-requires : goal.fill_index-requires
-fill_index-requires c =
-    (
-      length-lent c.fill_leaves-seps.new.out 1 (page-one (goal.at.fill_index-requires c).After-fill_leaves-seps),
-      c.if-leaves-gt28.false,
-      subst (All (λ (s : ℕ). s ≤ top_key)) (sym c.fill_leaves-seps.ensures.1) (seps-low _ (storable (goal.at.fill_index-requires c).Else-leaves-gt28).good),
-    )
+fill_index-requires c = (
+  length-lent c.fill_leaves-seps.new.out 1 (page-one (goal.at.fill_index-requires c).After-fill_leaves-seps),
+  c.if-leaves-gt28.false,
+  subst (All (λ (s : ℕ). s ≤ top_key)) (sym c.fill_leaves-seps.ensures.1) (seps-low _ (storable (goal.at.fill_index-requires c).Else-leaves-gt28).good),
+)
 
 pub returns : goal.returns
 returns c =
     let ls = leaves_of (merged (table c.args.first.now) (table c.args.second.now)) in
     let n = page_count c.args.out.now in
     let room : length ls + 2 ≤ n = omega (arith, c.if-out-leaves.false, c.requires.second_value.1) in
-    let done = said (store_leaves ls c.args.out.now) (accepted (stored n ls)) (store-fits ls c.args.out.now (omega (arith, c.if-leaves-gt28.false, c.requires.second_value.1)) room) in record { value = done.0; out_after = back c.fill_leaves-seps.new.out 1 c.fill_index.new.page _ (page-one (goal.at.returns c).After-fill_leaves-seps) c.fill_index.auto.page (c.fill_index.ensures ∙ ap (λ (p : List ℕ). fill p index_kind 1 (named 2 (take c.args.leaves c.fill_leaves-seps.result))) (lent c.fill_leaves-seps.new.out 1))
+    let done = said (store_leaves ls c.args.out.now) (accepted (stored n ls)) (store-fits ls c.args.out.now (omega (arith, c.if-leaves-gt28.false, c.requires.second_value.1)) room) in record {
+      value = done.0;
+      out_after = back c.fill_leaves-seps.new.out 1 c.fill_index.new.page _ (page-one (goal.at.returns c).After-fill_leaves-seps) c.fill_index.auto.page (c.fill_index.ensures ∙ ap (λ (p : List ℕ). fill p index_kind 1 (named 2 (take c.args.leaves c.fill_leaves-seps.result))) (lent c.fill_leaves-seps.new.out 1))
           ∙ index-stored n ls (storable (goal.at.returns c).Else-leaves-gt28) (omega (arith, room)) c.put_blank.new.image c.fill_leaves-seps.new.out c.put_blank.ensures c.fill_leaves-seps.ensures.0 _ c.fill_leaves-seps.ensures.1
-          ∙ done.1 }
+          ∙ done.1;
+    }

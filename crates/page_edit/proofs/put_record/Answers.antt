@@ -1,6 +1,5 @@
 -- `put_record`: the pieces one after the other are the record's bytes.
 -- Assumes nothing.
--- the record fits, and so does each piece
 use Prim.Native.Nat.{ℕ, ◌+◌, ◌-◌, ◌≤◌}
 use mathlib.Core.Path.{refl, ap, ◌∙◌}
 use native.Mathlib.Omega.{arith}
@@ -12,6 +11,7 @@ use Rattle.page_edit.proofs.Written.{size_of, record-written}
 use Rattle.page_edit.proofs.put_record.Goals as goal
 use Rattle.page_edit.proofs.put_record.Goals.{Start}
 
+-- the record fits, and so does each piece
 fits : (c : Start) → let n = length c.args.value.now in (c.args.at + 16 + up8 n ≤ length c.args.page.now) × (n ≤ up8 n)
 fits c =
     let v = c.args.value.now in

@@ -1,6 +1,5 @@
 -- `put_numbers` writes the first n numbers, or nothing. The invariant: what is left to store, stored over what is there, is the whole.
 -- Assumes nothing.
-use Prim.Native.Nat.{◌-◌}
 use mathlib.Core.Path.{◌≡◌, refl, sym, ◌∙◌}
 use native.Mathlib.Omega.{arith}
 use lib.ListN.{length, get_or, take, length-set}

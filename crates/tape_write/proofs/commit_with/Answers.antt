@@ -48,18 +48,16 @@ returns-then-tape-bytes c = let whole =
     says-short c.args.way c.args.image.now c.args.work.now c.args.tape.now c.requires.0.images (pages-few c.args.way c.args.image.now c.args.work.now c.requires.0.images c.find_changes-found.result c.find_changes-found.ensures.counted if1.false) _ (bytes-are c.args.way c.args.image.now c.args.work.now c.requires.0.images c.find_changes-found.result c.find_changes-found.ensures.counted if1.false _ _ c.group_bytes.ensures c.end_bytes.ensures) c.if-tape-bytes.true in record { value = whole.0; work_after = whole.1.0; tape_after = whole.1.1 }
 
 pub emit_stage-requires : goal.emit_stage-requires
-emit_stage-requires c =
-    (
-      omega (arith, c.if-tape-bytes.false, c.group_bytes.ensures),
-      omega (arith, words-fit c.args.image.now c.args.work.now c.requires.0.images, c.find_changes-found.ensures.counted.words, c.find_changes-found.auto.words, c.requires.1),
-      subst (All (WordIn c.args.work.now)) (sym (words_are c.args.way c.args.image.now c.args.work.now c.requires.0.images c.find_changes-found.result c.find_changes-found.ensures.counted c.args.words.now c.find_changes-found.new.words c.requires.1 c.find_changes-found.ensures.words_after)) (words-there c.args.way c.args.image.now c.args.work.now c.requires.0.images),
-      c.find_changes-found.ensures.counted.lines ∙ ap (λ (x : List ℕ). length (lines_past 0 x)) (sym (words_are c.args.way c.args.image.now c.args.work.now c.requires.0.images c.find_changes-found.result c.find_changes-found.ensures.counted c.args.words.now c.find_changes-found.new.words c.requires.1 c.find_changes-found.ensures.words_after)),
-    )
+emit_stage-requires c = (
+  omega (arith, c.if-tape-bytes.false, c.group_bytes.ensures),
+  omega (arith, words-fit c.args.image.now c.args.work.now c.requires.0.images, c.find_changes-found.ensures.counted.words, c.find_changes-found.auto.words, c.requires.1),
+  subst (All (WordIn c.args.work.now)) (sym (words_are c.args.way c.args.image.now c.args.work.now c.requires.0.images c.find_changes-found.result c.find_changes-found.ensures.counted c.args.words.now c.find_changes-found.new.words c.requires.1 c.find_changes-found.ensures.words_after)) (words-there c.args.way c.args.image.now c.args.work.now c.requires.0.images),
+  c.find_changes-found.ensures.counted.lines ∙ ap (λ (x : List ℕ). length (lines_past 0 x)) (sym (words_are c.args.way c.args.image.now c.args.work.now c.requires.0.images c.find_changes-found.result c.find_changes-found.ensures.counted c.args.words.now c.find_changes-found.new.words c.requires.1 c.find_changes-found.ensures.words_after)),
+)
 
 pub emit_end-place-requires : goal.emit_end-place-requires
 emit_end-place-requires c =
-    let if1 = c.if-k-gt15 in
-    (
+    let if1 = c.if-k-gt15 in (
       omega (arith, c.if-tape-bytes.false, c.end_bytes.ensures, c.emit_stage.auto.tape),
       if1.false,
       omega (arith, if1.false, c.find_changes-found.auto.pages, (length-replicate {A = ℕ} 64 0)),

@@ -18,7 +18,6 @@ use Rattle.image.proofs.Read.{ranged-is}
 use Rattle.image.proofs.calls.ranged.Goals as goal
 use Rattle.image.proofs.calls.ranged.Goals.{In_default}
 
--- LEFT helper
 -- what is not refused, by its tag
 not-refused : (x : Lookup) → (tag_of the_type x ≡ 0) ⊎ (tag_of the_type x ≡ 1) → (r : Refusal) → x ≡ lookups.Refused r → ⊥
 not-refused (lookups.Found o n) h r e = let z : ◌≡◌ {A = ℕ} 0 1 = cc in omega arith

@@ -40,8 +40,12 @@ room c =
     let p = a.page.now in
     let k = (ok-is p (let laid : laid_out c.args.page.now ≡ true = (page_ok-true leaf_kind c.args.own c.args.page.now c.requires).laid in laid)).body in (
       omega (arith, k.head.own_fits, (page_ok-true leaf_kind a.own p c.requires).own),
-      omega (arith, c.slot_at-at.ensures, value_in p (let laid : laid_out c.args.page.now ≡ true = (page_ok-true leaf_kind c.args.own c.args.page.now c.requires).laid in laid) c.in-At.i (let found : c.in-At.i < length (records c.args.page.now) = let a = c.args in
-    (search-at leaf_kind a.own a.own a.page.now c.requires a.key c.in-At.i (sym c.find.ensures ∙ c.in-At.is)).0 in found) (rec_of 0 [])),
+      omega (
+        arith,
+        c.slot_at-at.ensures,
+        value_in p (let laid : laid_out c.args.page.now ≡ true = (page_ok-true leaf_kind c.args.own c.args.page.now c.requires).laid in laid) c.in-At.i (let found : c.in-At.i < length (records c.args.page.now) = let a = c.args in
+            (search-at leaf_kind a.own a.own a.page.now c.requires a.key c.in-At.i (sym c.find.ensures ∙ c.in-At.is)).0 in found) (rec_of 0 []),
+      ),
       k.whole,
     )
 

@@ -31,7 +31,6 @@ either c =
     ap (λ (p : Place). or_else (leaf_next a.image.now a.root a.key p) (next_after a.image.now a.root a.key p)) (sym c.leaf_for-leaf.ensures)
     ∙ ap (λ (x : Next). or_else x (next_after a.image.now a.root a.key c.leaf_for-leaf.result)) (sym c.next_at-here.ensures)
 
--- LEFT helper
 -- what is not `Last`, by its tag
 not_last : (x y : Next) → (tag_of the_type x ≡ 0) ⊎ (tag_of the_type x ≡ 2) → x ≡ or_else x y
 not_last (Key j) y h = refl

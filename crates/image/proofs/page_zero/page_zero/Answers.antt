@@ -64,10 +64,10 @@ no-mark : (c : Else-mark-eq0) →
     (Mark (page_count a.image.now) (number (part a.image.now 0 8)) → ⊥) → Wrong ≡ page_zero a.image.now
 unfolding root_of
 no-mark c h = sym (zero-bad-mark _ (let bytes : Bytes c.args.image.now = λ i. omega (arith, c.type_inv.image i) in bytes) (size-true _ c.requires) (let past : Past c.args.image.now = record {
-      root = ap (is_page (page_count c.args.image.now)) (sym c.long_at-root.ensures) ∙ sym c.is_page.ensures ∙ not-false _ c.if-not-is_page.false-raw;
-      second = sym c.long_at.ensures ∙ c.if-long_at-n.false;
-      rest = sym c.zero_words.ensures ∙ not-false _ c.if-not-zero_words.false-raw;
-    } in past) (λ e. c.if-mark-eq0.false (c.long_at-mark.ensures ∙ e)) h)
+  root = ap (is_page (page_count c.args.image.now)) (sym c.long_at-root.ensures) ∙ sym c.is_page.ensures ∙ not-false _ c.if-not-is_page.false-raw;
+  second = sym c.long_at.ensures ∙ c.if-long_at-n.false;
+  rest = sym c.zero_words.ensures ∙ not-false _ c.if-not-zero_words.false-raw;
+} in past) (λ e. c.if-mark-eq0.false (c.long_at-mark.ensures ∙ e)) h)
 
 pub returns-then-mark-ne1 : goal.returns-then-mark-ne1
 returns-then-mark-ne1 c = no-mark (goal.at.returns-then-mark-ne1 c).Else-mark-eq0 (λ k. c.if-mark-ne1.true (ap (λ (m : ℕ). m % 256) c.long_at-mark.ensures ∙ k.one))

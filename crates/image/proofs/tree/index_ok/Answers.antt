@@ -1,6 +1,6 @@
 -- `index_ok` tests what `index_ok` says: what the marks leave to be tested of the records from the i-th on is the whole test.
 -- Assumes nothing.
-use Prim.Native.Nat.{ℕ, ◌-◌}
+use Prim.Native.Nat.{ℕ}
 use mathlib.Core.Path.{◌≡◌, sym, ap, ◌∙◌}
 use mathlib.Core.Bool.{true, true≢false}
 use mathlib.Core.List.{List, []}

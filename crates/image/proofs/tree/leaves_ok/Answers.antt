@@ -1,6 +1,6 @@
 -- `leaves_ok` tests what `leaves_ok` says: what is left to test of the leaves from the i-th on is the whole test.
 -- Assumes nothing.
-use Prim.Native.Nat.{ℕ, ◌-◌}
+use Prim.Native.Nat.{ℕ}
 use mathlib.Core.Path.{◌≡◌, sym, ap, ◌∙◌}
 use mathlib.Core.Bool.{true}
 use mathlib.Core.List.{List, []}

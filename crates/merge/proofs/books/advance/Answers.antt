@@ -34,12 +34,11 @@ listed : (c : After-count) → c.count.result ≡ length (records (page_of c.arg
 listed c = c.count.ensures ∙ ap (λ (p : List ℕ). length (records p)) c.page_of-p.ensures
 
 pub returns-then-slot-count : goal.returns-then-slot-count
-returns-then-slot-count c =
-    (
-      stands_at (stands-leaf c.requires.0) _ _ (omega (arith, c.if-slot-count.true, listed (goal.at.returns-then-slot-count c).After-count))
-          (c.key_at.ensures ∙ ap (λ (p : List ℕ). (get_or (records p) (c.args.at.slot + 1) (rec_of 0 [])).key) c.page_of-p.ensures),
-      sym (ap (drop 1) (left-next c.requires.0 c.requires.1 _)),
-    )
+returns-then-slot-count c = (
+  stands_at (stands-leaf c.requires.0) _ _ (omega (arith, c.if-slot-count.true, listed (goal.at.returns-then-slot-count c).After-count))
+      (c.key_at.ensures ∙ ap (λ (p : List ℕ). (get_or (records p) (c.args.at.slot + 1) (rec_of 0 [])).key) c.page_of-p.ensures),
+  sym (ap (drop 1) (left-next c.requires.0 c.requires.1 _)),
+)
 
 -- ---- past it
 
@@ -77,11 +76,10 @@ on_leaf-requires c =
     (f.is_sound, f.less, f.page)
 
 pub returns-then-leaf-count : goal.returns-then-leaf-count
-returns-then-leaf-count c =
-    (
-      c.on_leaf.ensures.0,
-      c.on_leaf.ensures.1 ∙ sym (ap (drop 1) (left-next c.requires.0 c.requires.1 0) ∙ left-past (stands-leaf c.requires.0) _ 0 (past (goal.at.returns-then-leaf-count c).Else-slot-count)),
-    )
+returns-then-leaf-count c = (
+  c.on_leaf.ensures.0,
+  c.on_leaf.ensures.1 ∙ sym (ap (drop 1) (left-next c.requires.0 c.requires.1 0) ∙ left-past (stands-leaf c.requires.0) _ 0 (past (goal.at.returns-then-leaf-count c).Else-slot-count)),
+)
 
 -- no leaf after
 last : (c : Else-leaf-count) →

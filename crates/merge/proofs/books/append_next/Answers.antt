@@ -1,6 +1,5 @@
 -- `append_next`: the record that comes next, from its book.
 -- Assumes nothing.
--- of the first book
 use mathlib.Core.Path.{subst}
 use native.Mathlib.Omega.{arith}
 use Rattle.page_edit.specs.Filling.{Room}
@@ -8,6 +7,7 @@ use Rattle.merge.proofs.Stepping.{Comes, first-comes, second-comes}
 use Rattle.merge.proofs.books.append_next.Goals as goal
 use Rattle.merge.proofs.books.append_next.Goals.{Else-a-b, Then-a-b}
 
+-- of the first book
 from_first : (c : Then-a-b) → let a = c.args in Comes a.first.now a.second.now a.at a.first.now a.at.first
 from_first c = first-comes c.requires.ready.0 (omega (arith, c.if-a-b.true))
 

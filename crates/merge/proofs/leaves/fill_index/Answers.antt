@@ -1,6 +1,5 @@
 -- `fill_index`: what is left to be filled in, filled in over what is there, is the whole.
 -- Assumes nothing.
-use Prim.Native.Nat.{◌-◌}
 use mathlib.Core.Path.{◌≡◌, sym, ◌∙◌}
 use native.Mathlib.Omega.{arith}
 use lib.ListN.{length}

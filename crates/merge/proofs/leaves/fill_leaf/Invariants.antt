@@ -1,6 +1,5 @@
 -- `fill_leaf`: the records that the leaf has so far and what is left of both make the leaves that there were to fill.
 -- Assumes nothing.
-use Prim.Native.Nat.{◌-◌}
 use lib.ListN.{length}
 use Rattle.merge.specs.Cursors.{left_of}
 use Rattle.merge.proofs.Filling.{InLeaf}

@@ -1,11 +1,11 @@
 -- `head_ok`: each test is a fact of a right header, and after them the slots past the count decide.
 -- Assumes nothing.
--- the header is not right, if its facts are absurd
 use Rattle.std.proofs.Common.{◌≡◌, ℕ, ◌%◌, false, sym, ap, ◌∙◌, arith}
 use Rattle.page.proofs.CheckHeader.{count-is, start_is, kind-is, own_is, line-facts, Headed, head_b, not-headed, head-blank}
 use Rattle.page.proofs.check.head_ok.Goals as goal
 use Rattle.page.proofs.check.head_ok.Goals.{After-shared_slice_known-1}
 
+-- the header is not right, if its facts are absurd
 refuse : (c : After-shared_slice_known-1) → let a = c.args in (Headed a.kind a.own a.page.now → ⊥) → false ≡ head_b a.kind a.own a.page.now
 refuse c h = let a = c.args in sym (not-headed a.kind a.own a.page.now h)
 

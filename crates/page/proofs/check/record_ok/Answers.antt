@@ -1,6 +1,5 @@
 -- `record_ok`: each test is a fact of a record that is laid out, and after them the padding decides.
 -- Assumes nothing.
--- the record is not as it must be, if its facts are absurd
 use Rattle.std.proofs.Common.{◌≡◌, ◌≤◌, true, false, length, sym, ap, ◌∙◌, arith}
 use mathlib.Core.Bool.{false≢true}
 use borrow.Author.Tests.{not-true, not-false}
@@ -10,6 +9,7 @@ use Rattle.page.proofs.CheckRecord.{fitting, length_b, length-few, length-fittin
 use Rattle.page.proofs.check.record_ok.Goals as goal
 use Rattle.page.proofs.check.record_ok.Goals.{After-shared_slice_known-1, Else-not-length_ok}
 
+-- the record is not as it must be, if its facts are absurd
 refuse : (c : After-shared_slice_known-1) → let a = c.args in
     (Held a.page.now a.start (entry_at a.page.now a.at) → fitting a.kind (length (record_at a.page.now a.at).value) ≡ true → ⊥) →
     false ≡ record_b a.kind a.page.now a.start a.at

@@ -32,7 +32,6 @@ few : (c : After-leaf_for-leaf) → c.leaf_for-leaf.result.page < length c.args.
 few c =
     omega (arith, c.requires.1.enough, leaf-few c.args.image.now c.args.root c.requires.0 c.args.key c.leaf_for-leaf.result c.leaf_for-leaf.ensures)
 
--- LEFT helper
 -- a page that is the sound leaf's
 page-good : (img : List ℕ) (root k : ℕ) (leaf : Place) → leaf ≡ leaf_for img root k → leaf_sound img root (leaf_for img root k) ≡ true → (p : List ℕ) → p ≡ page_of img leaf.page →
     (laid_out p ≡ true) × (keys_rise (records p) ≡ true)
@@ -85,5 +84,8 @@ in_page-requires-2 c = page-good _ _ _ _ c.leaf_for-leaf.ensures (judged (goal.a
 pub returns : goal.returns
 returns c =
     let a = c.args in
-    record { value = c.in_page-2.ensures ∙ sound-presence a.image.now a.root a.key (judged (goal.at.returns c).Else-not-leaf_sound) _ (c.page_of-2.ensures ∙ ap (λ (p : Place). page_of a.image.now p.page) c.leaf_for-leaf.ensures); marks = subst (λ (p : Place). Marks a.image.now a.root (set a.judged.now p.page 1)) (sym c.leaf_for-leaf.ensures)
-          (marks-set a.image.now a.root (call-opened _ _ c.requires.0).index a.judged.now c.requires.1 a.key (judged (goal.at.returns c).Else-not-leaf_sound)) }
+    record {
+      value = c.in_page-2.ensures ∙ sound-presence a.image.now a.root a.key (judged (goal.at.returns c).Else-not-leaf_sound) _ (c.page_of-2.ensures ∙ ap (λ (p : Place). page_of a.image.now p.page) c.leaf_for-leaf.ensures);
+      marks = subst (λ (p : Place). Marks a.image.now a.root (set a.judged.now p.page 1)) (sym c.leaf_for-leaf.ensures)
+          (marks-set a.image.now a.root (call-opened _ _ c.requires.0).index a.judged.now c.requires.1 a.key (judged (goal.at.returns c).Else-not-leaf_sound));
+    }

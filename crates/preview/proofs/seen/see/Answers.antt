@@ -1,9 +1,8 @@
 -- `see`: what the edits that are left make of what is seen so far, or of the image's answer, is what all of them make of the image's answer.
 -- Assumes nothing.
-use Prim.Native.Nat.{◌+◌, ◌-◌, ◌≤◌}
+use Prim.Native.Nat.{◌+◌, ◌≤◌}
 use mathlib.Core.Path.{◌≡◌, refl, sym, ap, ap₂, ◌∙◌}
 use mathlib.Core.Bool.{Bool, true, false}
-use mathlib.Core.Logic.{⊎_elim}
 use native.Mathlib.Omega.{arith}
 use lib.ListN.{length}
 use Rattle.codec.specs.Lists.{pick}
@@ -60,10 +59,10 @@ loop-at-preserved c =
       fits (goal.at.loop-at-preserved c).Joined-long_at-key,
       rest,
       elim c.if-long_at-key.branch [
-        then-long_at-key w ↦
-          to true _ w.own-is (w.answer-is ∙ w.brought-answer.ensures) ∙ sym (seen-own l.invariant.1 more _ c.wide-n.ensures.0 _ c.long_at.ensures _ (pick l.own l.answer stored) w.if-long_at-key.true) ∙ l.invariant.2
-      | else-long_at-key w ↦
-          to l.own l.answer w.own-is w.answer-is ∙ sym (seen_other l.invariant.1 more _ c.wide-n.ensures.0 _ c.long_at.ensures _ (pick l.own l.answer stored) w.if-long_at-key.false) ∙ l.invariant.2
+        | then-long_at-key w ↦
+            to true _ w.own-is (w.answer-is ∙ w.brought-answer.ensures) ∙ sym (seen-own l.invariant.1 more _ c.wide-n.ensures.0 _ c.long_at.ensures _ (pick l.own l.answer stored) w.if-long_at-key.true) ∙ l.invariant.2
+        | else-long_at-key w ↦
+            to l.own l.answer w.own-is w.answer-is ∙ sym (seen_other l.invariant.1 more _ c.wide-n.ensures.0 _ c.long_at.ensures _ (pick l.own l.answer stored) w.if-long_at-key.false) ∙ l.invariant.2
       ],
     )
 

@@ -1,6 +1,5 @@
 -- `print_rows`: what is left to print is the rest of the listing.
 -- Assumes nothing.
-use Prim.Native.Nat.{◌-◌}
 use native.Mathlib.Omega.{arith}
 use Rattle.sheet.proofs.Printing.{rows_start, rows_end, printed}
 use Rattle.sheet.proofs.listing.print_rows.Goals as goal

@@ -1,6 +1,5 @@
 -- `log_headers`: the headers that are left, over what is written, are the whole; past page 0 nothing changes.
 -- Assumes nothing.
-use Prim.Native.Nat.{◌-◌}
 use mathlib.Core.Path.{refl, sym, ◌∙◌, subst}
 use native.Mathlib.Omega.{arith}
 use lib.ListN.{take}

@@ -1,6 +1,6 @@
 -- `emit_eight`: the words that are left, over what is written, are the whole line.
 -- Assumes nothing.
-use Prim.Native.Nat.{◌+◌, ◌-◌, ◌*◌}
+use Prim.Native.Nat.{◌+◌, ◌*◌}
 use mathlib.Core.Path.{refl, sym, ◌∙◌}
 use native.Mathlib.Omega.{arith}
 use Rattle.tape_write.proofs.LineBytes.{word-step, words-end, words-all}

@@ -46,8 +46,7 @@ bounds-after-p c =
 pub collect_changed-n-requires : goal.collect_changed-n-requires
 collect_changed-n-requires c =
     let loop = c.loop-p in
-    let few = mark-few c.requires.0.was loop.p (omega arith) in
-    (
+    let few = mark-few c.requires.0.was loop.p (omega arith) in (
       omega arith,
       omega arith,
       omega arith,

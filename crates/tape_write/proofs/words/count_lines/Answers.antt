@@ -1,6 +1,5 @@
 -- `count_lines`: the lines counted and those still to come are the whole.
 -- Assumes nothing.
-use Prim.Native.Nat.{◌-◌}
 use mathlib.Core.Path.{ap}
 use native.Mathlib.Omega.{arith}
 use lib.ListN.{length}

@@ -1,6 +1,6 @@
 -- `marks_of`: the marks made, with those that are left, are those of the reached pages.
 -- Assumes nothing.
-use Prim.Native.Nat.{ℕ, ◌-◌}
+use Prim.Native.Nat.{ℕ}
 use native.Mathlib.Omega.{arith}
 use lib.ListN.{replicate, length-set, length-replicate}
 use Rattle.tree_edit.proofs.Marked.{root-low, mark-root, child-two, child-low, mark-child, mark-all, zeros-most, ones-set}

@@ -1,6 +1,5 @@
 -- `split_point`: the search from the m-th record on, after those before it, gives the split point.
 -- Assumes nothing.
-use Prim.Native.Nat.{◌-◌}
 use native.Mathlib.Omega.{arith}
 use Rattle.tree_edit.proofs.Sized.{made-few, made-small, search-starts, search-ends, search-left, search-goes-on}
 use Rattle.tree_edit.proofs.split.split_point.Goals as goal

@@ -1,6 +1,5 @@
 -- `total_made`: the sum, with the sizes that are left, is the whole.
 -- Assumes nothing.
-use Prim.Native.Nat.{◌-◌}
 use mathlib.Core.Path.{sym, ◌∙◌}
 use native.Mathlib.Omega.{arith}
 use Rattle.tree_edit.specs.Steps.{made_by}

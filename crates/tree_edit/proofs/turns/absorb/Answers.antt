@@ -1,6 +1,5 @@
 -- `absorb`: by what stands for the page under it, as `absorbed` says.
 -- Assumes nothing.
--- what is `Kept` or `Stopped`, by its tag
 use Prim.Native.Nat.{ℕ}
 use mathlib.Core.Path.{◌≡◌, refl}
 use mathlib.Core.Logic.{◌⊎◌, ⊎_elim}
@@ -18,7 +17,7 @@ use Rattle.tree_edit.proofs.Said.{turns-is, turns_same, top-low}
 use Rattle.tree_edit.proofs.Absorbed.{index-fits, replaces, then-can, absorb-gone, absorb-one, absorb-two}
 use Rattle.tree_edit.proofs.turns.absorb.Goals as goal
 
--- LEFT helper
+-- what is `Kept` or `Stopped`, by its tag
 not-changed : (before work : List ℕ) (root kind i low page : ℕ) (r : Turned) → (tag_of the_type r ≡ 0) ⊎ (tag_of the_type r ≡ 4) →
     turn_of before work root r ≡ onto (turn_of before work root r) (λ x s. absorbed format1 no_keep kind i low page x s)
 unfolding onto absorbed

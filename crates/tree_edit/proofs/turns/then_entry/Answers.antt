@@ -1,6 +1,5 @@
 -- `then_entry`: the second record into the page itself, into its copy, or nowhere, as `then_into` says.
 -- Assumes nothing.
--- what is not `Kept`, by its tag
 use Prim.Native.Nat.{ℕ}
 use mathlib.Core.Path.{◌≡◌, refl}
 use mathlib.Core.Logic.{◌⊎◌, ⊎_elim}
@@ -18,7 +17,7 @@ use Rattle.tree_edit.proofs.Absorbed.{then-kept, then-copied, then-moved}
 use borrow.Enum.Refused.{opened}
 use Rattle.tree_edit.proofs.turns.then_entry.Goals as goal
 
--- LEFT helper
+-- what is not `Kept`, by its tag
 not-kept : (before work : List ℕ) (root x : ℕ) (r : Turned) → (tag_of the_type r ≡ 1) ⊎ (tag_of the_type r ≡ 2) ⊎ (tag_of the_type r ≡ 3) ⊎ (tag_of the_type r ≡ 4) →
     copy_then x (turn_of before work root r) ≡ turn_of before work root r
 unfolding copy_then
@@ -28,7 +27,6 @@ not-kept before work root x (One p top) h = refl
 not-kept before work root x (Two p k q top) h = refl
 not-kept before work root x (Stopped k) h = refl
 
--- LEFT helper
 -- what is neither `Kept` nor `One`
 not-page : (before work : List ℕ) (root page : ℕ) (f : ℕ → State → PageStep) (r : Turned) → (tag_of the_type r ≡ 1) ⊎ (tag_of the_type r ≡ 3) ⊎ (tag_of the_type r ≡ 4) →
     turn_of before work root r ≡ then_into (turn_of before work root r) page f

@@ -8,7 +8,8 @@
  * that writes only words of 8 bytes whole even a delete's has. Build it at the root
  * of the repository:
  *
- *   gcc -Iinclude examples/all_cuts.c target/staticlib/libstore.a -o target/all_cuts
+ *   mkdir -p target
+ *   gcc -Iinclude examples/all_cuts.c crates/store/out/libstore.a -o target/all_cuts
  */
 #include "common.h"
 

@@ -6,7 +6,8 @@
  * writes only words of 8 bytes whole, which has calls of its own.
  * Build it at the root of the repository:
  *
- *   gcc -Iinclude examples/crash.c target/staticlib/libstore.a -o target/crash
+ *   mkdir -p target
+ *   gcc -Iinclude examples/crash.c crates/store/out/libstore.a -o target/crash
  */
 #include "common.h"
 

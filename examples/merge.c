@@ -4,7 +4,8 @@
  * from one book, and the merge is made. Then the program goes on with the merged store
  * as with any other. Build it at the root of the repository:
  *
- *   gcc -Iinclude examples/merge.c target/staticlib/libstore.a -o target/merge
+ *   mkdir -p target
+ *   gcc -Iinclude examples/merge.c crates/store/out/libstore.a -o target/merge
  */
 #include "common.h"
 

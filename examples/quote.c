@@ -5,7 +5,8 @@
  * price; last a damaged leaf, while the quotes of the other are still read. Build
  * it at the root of the repository:
  *
- *   gcc -Iinclude examples/quote.c target/staticlib/libstore.a -o target/quote
+ *   mkdir -p target
+ *   gcc -Iinclude examples/quote.c crates/store/out/libstore.a -o target/quote
  */
 #include "common.h"
 

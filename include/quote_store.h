@@ -78,7 +78,7 @@
  *   MARK_WAITS or UNSOUND. On one that it refuses, a key may be said to be
  *   missing though a leaf that was not read holds it: if separators are damaged.
  *
- * Link with target/staticlib/libstore.a, which `rt staticlib store` makes.
+ * Link with crates/store/out/libstore.a, which `rt lib` makes in crates/store.
  */
 #ifndef QUOTE_STORE_H
 #define QUOTE_STORE_H

@@ -42,10 +42,10 @@ fn output(mut program: Command, pieces: &[&[u8]]) -> Vec<u8> {
 }
 
 fn program() -> Command {
-    let program = root().join("target/bin/sheet");
+    let program = root().join("crates/sheet/out/sheet");
     assert!(
         program.exists(),
-        "target/bin/sheet is missing. Make it with 'rt check sheet' at the root of the repository."
+        "crates/sheet/out/sheet is missing. Make it with 'rt run' in the folder crates/sheet."
     );
     Command::new(program)
 }

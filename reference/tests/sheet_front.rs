@@ -105,12 +105,13 @@ impl Folder {
         assert!(done.success(), "{commands}");
     }
 
-    /// The script alone in the folder, with a program `rt` of these commands.
+    /// The script alone in the folder, with a program `rt` of these commands,
+    /// which is called in the crate's folder and goes on in this one.
     fn with_rt(name: &str, commands: &str) -> Folder {
         let folder = Folder::new(name);
-        folder.make("cp \"$ROOT/sheet\" . && mkdir crates bin && touch crates.txt");
+        folder.make("cp \"$ROOT/sheet\" . && mkdir -p crates/sheet bin && touch crates.txt");
         folder.make(&format!(
-            "cat >bin/rt <<'END'\n#!/bin/sh\n{commands}\nEND\nchmod +x bin/rt"
+            "cat >bin/rt <<'END'\n#!/bin/sh\n[ \"${{PWD#*/crates/}}\" = sheet ] && cd ../.. || exit 1\n{commands}\nEND\nchmod +x bin/rt"
         ));
         folder
     }
@@ -235,8 +236,8 @@ echo 'fn codec::copy: proved'
 echo 'a note' >&2
 echo 'rt: codec proved (2 s)'
 echo 'rt: sheet proved (3 s)'
-mkdir -p target/bin
-cp \"$ROOT/target/bin/sheet\" target/bin
+mkdir -p crates/sheet/out
+cp \"$ROOT/crates/sheet/out/sheet\" crates/sheet/out
 echo \"$@\" >asked";
 
 #[test]
@@ -252,12 +253,34 @@ fn first_build_has_a_line_a_crate() {
         said[1..],
         ["sheet: codec proved (2 s)", "sheet: sheet proved (3 s)"]
     );
-    assert_eq!(folder.file("asked"), "check sheet\n");
+    assert_eq!(folder.file("asked"), "run\n");
     let log = folder.file("target/sheet.log");
     assert!(log.starts_with("fn codec::copy: proved\na note\nrt: codec proved (2 s)\n"));
 }
 
-/// It is built once, and again after a change of a crate.
+/// Of what `rt run` says of a crate, this is shown.
+#[test]
+fn line_a_crate_of_what_rt_says() {
+    let says = "exec >&2
+echo 'rt: codec: begins with what a check kept in elsewhere'
+echo 'rt: chose --jobs 2 for codec'
+echo 'crate codec: modules loaded=380 checked=4'
+echo 'logic=proved functions=13 native=nat,char,string'
+echo 'rt: waiting for another rt to finish in crates/sheet'
+echo 'rt: running out/sheet; to give it other input, run that file yourself'";
+    let folder = Folder::with_rt("says", &format!("{says}\n{BUILDS}"));
+    let run = ended(folder.script(), &example("curve.txt"));
+    let said: Vec<&str> = run.said.lines().collect();
+    let shown = [
+        "sheet: codec proved",
+        "sheet: waiting for another rt to finish in crates/sheet",
+    ];
+    assert_eq!(said.len(), 5, "{}", run.said);
+    assert_eq!(said[1..3], shown, "{}", run.said);
+}
+
+/// It is built once, and again after a change of a crate, and not for what `rt`
+/// made.
 #[test]
 fn built_again_after_a_change() {
     let (folder, form) = (Folder::with_rt("again", BUILDS), example("curve.txt"));
@@ -269,6 +292,8 @@ fn built_again_after_a_change() {
     assert_eq!((lines(), lines()), (3, 0));
     folder.make("sleep 0.1; touch crates/new");
     assert_eq!((lines(), lines()), (3, 0));
+    folder.make("sleep 0.1; touch crates/sheet/out/new");
+    assert_eq!(lines(), 0);
 }
 
 /// What is changed while the program is built is not in it.
@@ -301,7 +326,7 @@ fn build_that_fails() {
 #[test]
 fn build_that_fails_beside_an_older_program() {
     let folder = Folder::with_rt("older", "printf 'not proved'; exit 1");
-    folder.make("mkdir -p target/bin; cp \"$ROOT/target/bin/sheet\" target/bin; sleep 0.1; touch crates/new");
+    folder.make("mkdir -p crates/sheet/out; cp \"$ROOT/crates/sheet/out/sheet\" crates/sheet/out; sleep 0.1; touch crates/new");
     let run = ended(folder.script(), &example("curve.txt"));
     assert_eq!((run.status, run.wrote.len()), (Some(1), 0), "{}", run.said);
 }
@@ -310,7 +335,7 @@ fn build_that_fails_beside_an_older_program() {
 #[test]
 fn program_without_a_listing() {
     let silent =
-        "mkdir -p target/bin; echo '#!/bin/sh' >target/bin/sheet; chmod +x target/bin/sheet";
+        "mkdir -p crates/sheet/out; cd crates/sheet/out; echo '#!/bin/sh' >sheet; chmod +x sheet";
     let folder = Folder::with_rt("silent", silent);
     assert_eq!(ended(folder.script(), b"").status, Some(1));
     ended(folder.script(), b"").refused(1, "the program wrote nothing");

@@ -1,7 +1,8 @@
 //! The C interface of the proved store, as `include/quote_store.h` declares it:
 //! what each call does, and what the caller owes, stands there.
 //!
-//! The library is target/staticlib/libstore.a, which `rt staticlib store` makes.
+//! The library is crates/store/out/libstore.a, which `rt lib` makes in
+//! crates/store.
 
 #![no_std]
 

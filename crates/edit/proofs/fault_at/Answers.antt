@@ -1,6 +1,7 @@
 -- `fault_at`: each test is one of `fault_in`'s, by the numbers that stand at the edit.
 -- Assumes nothing.
 use Prim.Native.Nat.{ℕ}
+use native.Mathlib.Omega.{arith}
 use mathlib.Core.Path.{sym, ap, ◌∙◌}
 use Rattle.codec.specs.Lists.{pick}
 use Rattle.image.specs.Calls.{key_ok}
@@ -21,12 +22,12 @@ returns-then-n-gt200 c =
 
 pub returns-then-is_empty : goal.returns-then-is_empty
 returns-then-is_empty c =
-    sym (fault-empty c.args.list.now c.args.at c.if-left-lt10.false c.wide-n.result c.wide-n.ensures.0 (sym c.bad_head.ensures ∙ c.if-bad_head.false) c.if-n-gt200.false (sym c.is_empty.ensures ∙ c.if-is_empty.true))
+    sym (fault-empty c.args.list.now c.args.at c.if-left-lt10.false c.wide-n.result c.wide-n.ensures.0 (sym c.bad_head.ensures ∙ c.if-bad_head.false) (omega arith) (sym c.is_empty.ensures ∙ c.if-is_empty.true))
 
 pub returns-then-left-whole : goal.returns-then-left-whole
 returns-then-left-whole c =
-    sym (fault-cut c.args.list.now c.args.at c.if-left-lt10.false c.wide-n.result c.wide-n.ensures.0 (sym c.bad_head.ensures ∙ c.if-bad_head.false) c.if-n-gt200.false (sym c.is_empty.ensures ∙ c.if-is_empty.false) c.if-left-whole.true)
+    sym (fault-cut c.args.list.now c.args.at c.if-left-lt10.false c.wide-n.result c.wide-n.ensures.0 (sym c.bad_head.ensures ∙ c.if-bad_head.false) (omega arith) (sym c.is_empty.ensures ∙ c.if-is_empty.false) c.if-left-whole.true)
 
 pub returns : goal.returns
 returns c =
-    c.key_fault.ensures ∙ ap (λ (k : ℕ). pick (key_ok k) 0 6) c.long_at.ensures ∙ sym (fault-key c.args.list.now c.args.at c.if-left-lt10.false c.wide-n.result c.wide-n.ensures.0 (sym c.bad_head.ensures ∙ c.if-bad_head.false) c.if-n-gt200.false (sym c.is_empty.ensures ∙ c.if-is_empty.false) c.if-left-whole.false)
+    c.key_fault.ensures ∙ ap (λ (k : ℕ). pick (key_ok k) 0 6) c.long_at.ensures ∙ sym (fault-key c.args.list.now c.args.at c.if-left-lt10.false c.wide-n.result c.wide-n.ensures.0 (sym c.bad_head.ensures ∙ c.if-bad_head.false) (omega arith) (sym c.is_empty.ensures ∙ c.if-is_empty.false) c.if-left-whole.false)

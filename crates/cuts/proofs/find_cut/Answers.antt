@@ -39,7 +39,7 @@ kept c =
     c.seek-place.auto.pending ∙ front_length (length c.args.choices.now) 1024 c.requires.choices_len_bound
 
 again : (c : After-seek-place) → take (length c.args.choices.now) (c.seek-place.new.pending ++ drop (length c.args.choices.now) (replicate 1024 0)) ≡ c.seek-place.new.pending
-again c = take_at _ _ _ (let kept : length c.seek-place.new.pending ≡ length c.args.choices.now = c.seek-place.auto.pending ∙ front_length (length c.args.choices.now) 1024 c.requires.choices_len_bound in kept)
+again c = take_at _ _ _ (kept c)
 
 pub returns-then-count-commands : goal.returns-then-count-commands
 returns-then-count-commands c =

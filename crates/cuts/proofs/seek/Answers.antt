@@ -18,14 +18,14 @@ inside : (c : Else-at-tape) → c.loop-product.at < length c.args.tape.now
 inside c = omega (arith, c.loop-product.invariant.3.in_tape, c.if-at-tape.false)
 
 here : (c : Else-at-tape) → is_command (64 * length c.args.pending.now) (drop c.loop-product.at c.args.tape.now) ≡ true
-here c = walk-command _ _ _ _ _ _ _ _ _ _ _ c.loop-product.invariant.3 (let inside : c.loop-product.at < length c.args.tape.now = omega (arith, c.loop-product.invariant.3.in_tape, c.if-at-tape.false) in inside)
+here c = walk-command _ _ _ _ _ _ _ _ _ _ _ c.loop-product.invariant.3 (inside c)
 
 -- what it is
-described : (c : After-command_at-next) → Describes (front (64 * length c.args.pending.now) (drop c.loop-product.at c.args.tape.now)) c.command_at-next.result
-described c = c.command_at-next.ensures (64 * length c.args.pending.now) (let here : is_command (64 * length c.args.pending.now) (drop c.loop-product.at c.args.tape.now) ≡ true = walk-command _ _ _ _ _ _ _ _ _ _ _ c.loop-product.invariant.3 (let inside : c.loop-product.at < length c.args.tape.now = omega (arith, c.loop-product.invariant.3.in_tape, c.if-at-tape.false) in inside) in here)
+described : (c : After-command_at-next) → (is_command (64 * length c.args.pending.now) (drop c.loop-product.at c.args.tape.now) ≡ true) → Describes (front (64 * length c.args.pending.now) (drop c.loop-product.at c.args.tape.now)) c.command_at-next.result
+described c here = c.command_at-next.ensures (64 * length c.args.pending.now) here
 
-room : (c : After-command_at-next) → Room (length c.args.pending.now) c.args.tape.now c.loop-product.at c.loop-product.commands c.loop-product.product c.loop-product.later c.loop-product.pending c.loop-product.unflushed c.command_at-next.result
-room c = walk-room _ _ _ _ _ _ _ _ _ _ _ c.loop-product.invariant.3 (let inside : c.loop-product.at < length c.args.tape.now = omega (arith, c.loop-product.invariant.3.in_tape, c.if-at-tape.false) in inside) _ (let described : Describes (front (64 * length c.args.pending.now) (drop c.loop-product.at c.args.tape.now)) c.command_at-next.result = c.command_at-next.ensures (64 * length c.args.pending.now) (let here : is_command (64 * length c.args.pending.now) (drop c.loop-product.at c.args.tape.now) ≡ true = walk-command _ _ _ _ _ _ _ _ _ _ _ c.loop-product.invariant.3 (let inside : c.loop-product.at < length c.args.tape.now = omega (arith, c.loop-product.invariant.3.in_tape, c.if-at-tape.false) in inside) in here) in described) c.requires.tape_value.1
+room : (c : After-command_at-next) → (c.loop-product.at < length c.args.tape.now) → (is_command (64 * length c.args.pending.now) (drop c.loop-product.at c.args.tape.now) ≡ true) → Room (length c.args.pending.now) c.args.tape.now c.loop-product.at c.loop-product.commands c.loop-product.product c.loop-product.later c.loop-product.pending c.loop-product.unflushed c.command_at-next.result
+room c inside here = walk-room _ _ _ _ _ _ _ _ _ _ _ c.loop-product.invariant.3 inside _ (described c here) c.requires.tape_value.1
 
 pub loop-product-init : goal.loop-product-init
 loop-product-init c =
@@ -51,10 +51,10 @@ pub command_at-next-requires : goal.command_at-next-requires
 command_at-next-requires c = head_at _ _ _ (inside (goal.at.command_at-next-requires c).Else-at-tape) (here (goal.at.command_at-next-requires c).Else-at-tape)
 
 pub offset_bounds-named-commands : goal.offset_bounds-named-commands
-offset_bounds-named-commands c = omega (arith, (room (goal.at.offset_bounds-named-commands c).After-command_at-next).another)
+offset_bounds-named-commands c = omega (arith, (room (goal.at.offset_bounds-named-commands c).After-command_at-next (inside (goal.at.offset_bounds-named-commands c).Else-at-tape) (here (goal.at.offset_bounds-named-commands c).Else-at-tape)).another)
 
 pub bounds-named-commands : goal.bounds-named-commands
-bounds-named-commands c = omega (arith, (room (goal.at.bounds-named-commands c).After-command_at-next).another, c.loop-product.invariant.2)
+bounds-named-commands c = omega (arith, (room (goal.at.bounds-named-commands c).After-command_at-next (inside (goal.at.bounds-named-commands c).Else-at-tape) (here (goal.at.bounds-named-commands c).Else-at-tape)).another, c.loop-product.invariant.2)
 
 -- the line of a command, among as many
 line-in : (d : Does) (l m n : ℕ) → m ≡ n → LineIn d l n → LineIn d l m
@@ -63,32 +63,32 @@ line-in d l m n e h = subst (LineIn d l) (sym e) h
 pub count_pending-product-requires : goal.count_pending-product-requires
 count_pending-product-requires c =
     let loop = c.loop-product in
-    let r = room (goal.at.count_pending-product-requires c).After-command_at-next in
+    let r = room (goal.at.count_pending-product-requires c).After-command_at-next (inside (goal.at.count_pending-product-requires c).Else-at-tape) (here (goal.at.count_pending-product-requires c).Else-at-tape) in
     record { line_in = (line-in _ _ _ _ loop.invariant.0 r.in_image, loop.invariant.1 ∙ sym loop.invariant.0, omega (arith, loop.invariant.0, c.requires.by_index.3), r.pending_few); product_value = (loop.invariant.3.choices, loop.invariant.3.choices_later, r.product_few) }
 
 pub count_unflushed-later-requires : goal.count_unflushed-later-requires
 count_unflushed-later-requires c =
     let loop = c.loop-product in
-    let r = room (goal.at.count_unflushed-later-requires c).After-command_at-next in
+    let r = room (goal.at.count_unflushed-later-requires c).After-command_at-next (inside (goal.at.count_unflushed-later-requires c).Else-at-tape) (here (goal.at.count_unflushed-later-requires c).Else-at-tape) in
     record { line_in = (line-in _ _ _ _ loop.invariant.1 r.in_image, r.unflushed_few); later_value = (loop.invariant.3.choices_later, r.later_few) }
 
 pub overflow_add-at : goal.overflow_add-at
-overflow_add-at c = omega (arith, (room (goal.at.overflow_add-at c).After-command_at-next).in_tape)
+overflow_add-at c = omega (arith, (room (goal.at.overflow_add-at c).After-command_at-next (inside (goal.at.overflow_add-at c).Else-at-tape) (here (goal.at.overflow_add-at c).Else-at-tape)).in_tape)
 
 pub overflow_add-commands : goal.overflow_add-commands
-overflow_add-commands c = omega (arith, (room (goal.at.overflow_add-commands c).After-command_at-next).another)
+overflow_add-commands c = omega (arith, (room (goal.at.overflow_add-commands c).After-command_at-next (inside (goal.at.overflow_add-commands c).Else-at-tape) (here (goal.at.overflow_add-commands c).Else-at-tape)).another)
 
 pub loop-product-smaller : goal.loop-product-smaller
-loop-product-smaller c = let r = room (goal.at.loop-product-smaller c).After-command_at-next in omega (arith, r.in_tape, r.some)
+loop-product-smaller c = let r = room (goal.at.loop-product-smaller c).After-command_at-next (inside (goal.at.loop-product-smaller c).Else-at-tape) (here (goal.at.loop-product-smaller c).Else-at-tape) in omega (arith, r.in_tape, r.some)
 
 pub loop-product-preserved : goal.loop-product-preserved
 loop-product-preserved c =
     let l = c.loop-product in
-    let r = room (goal.at.loop-product-preserved c).After-command_at-next in (
+    let r = room (goal.at.loop-product-preserved c).After-command_at-next (inside (goal.at.loop-product-preserved c).Else-at-tape) (here (goal.at.loop-product-preserved c).Else-at-tape) in (
       c.count_pending-product.auto.pending ∙ l.invariant.0,
       c.count_unflushed-later.auto.unflushed ∙ l.invariant.1,
       simp length-set l.invariant.2,
-      walk-next _ _ _ _ _ _ _ _ _ _ _ l.invariant.3 (inside (goal.at.loop-product-preserved c).Else-at-tape) _ (described (goal.at.loop-product-preserved c).After-command_at-next) _ _ _ _ c.loop-product-test.true r.in_tape (omega (arith, r.another, l.invariant.2)) c.count_pending-product.ensures.pending_after c.count_pending-product.ensures.value
+      walk-next _ _ _ _ _ _ _ _ _ _ _ l.invariant.3 (inside (goal.at.loop-product-preserved c).Else-at-tape) _ (described (goal.at.loop-product-preserved c).After-command_at-next (here (goal.at.loop-product-preserved c).Else-at-tape)) _ _ _ _ c.loop-product-test.true r.in_tape (omega (arith, r.another, l.invariant.2)) c.count_pending-product.ensures.pending_after c.count_pending-product.ensures.value
           c.count_unflushed-later.ensures.unflushed_after c.count_unflushed-later.ensures.value,
     )
 

@@ -28,8 +28,7 @@ more c =
 
 -- a command stands at the place reached
 here : (c : In-loop-todo) → is_command (length c.args.work.now) (drop c.loop-todo.at c.args.tape.now) ≡ true
-here c = good-command _ _ _ (let s = c.before.before.before.before.before.before in
-    more-at (length s.args.work.now) c.loop-todo.at s.args.tape.now (omega arith)) c.loop-todo.invariant.3
+here c = good-command _ _ _ (more c) c.loop-todo.invariant.3
 
 pub bounds-tape-at : goal.bounds-tape-at
 bounds-tape-at c = more (goal.at.bounds-tape-at c).In-loop-todo
@@ -41,26 +40,20 @@ pub number_at-place-requires : goal.number_at-place-requires
 number_at-place-requires c = let k = head_at _ _ _ (more (goal.at.number_at-place-requires c).In-loop-todo) (here (goal.at.number_at-place-requires c).In-loop-todo) in omega arith
 
 -- the word store, the line store, or what is no store, that was read
-word : (c : Then-kind-eq1) → StoreAt (length c.args.work.now) c.args.tape.now c.loop-todo.at (8 * c.number_at-place.result) 8
-word c = word_at _ _ _ (let s = c.before.before.before.before.before.before in
-    more-at (length s.args.work.now) c.loop-todo.at s.args.tape.now (omega arith)) (good-command _ _ _ (let s = c.before.before.before.before.before.before in
-    more-at (length s.args.work.now) c.loop-todo.at s.args.tape.now (omega arith)) c.loop-todo.invariant.3) _ c.number_at-place.ensures.0 c.if-kind-eq1.true
+word : (c : Then-kind-eq1) → (c.loop-todo.at < length c.args.tape.now) → (is_command (length c.args.work.now) (drop c.loop-todo.at c.args.tape.now) ≡ true) → StoreAt (length c.args.work.now) c.args.tape.now c.loop-todo.at (8 * c.number_at-place.result) 8
+word c more here = word_at _ _ _ more here _ c.number_at-place.ensures.0 c.if-kind-eq1.true
 
-line : (c : Then-kind-eq2) → StoreAt (length c.args.work.now) c.args.tape.now c.loop-todo.at (64 * c.number_at-place.result) 64
-line c = line_at _ _ _ (let s = c.before.before.before.before.before.before in
-    more-at (length s.args.work.now) c.loop-todo.at s.args.tape.now (omega arith)) (good-command _ _ _ (let s = c.before.before.before.before.before.before in
-    more-at (length s.args.work.now) c.loop-todo.at s.args.tape.now (omega arith)) c.loop-todo.invariant.3) _ c.number_at-place.ensures.0 c.if-kind-eq2.true
+line : (c : Then-kind-eq2) → (c.loop-todo.at < length c.args.tape.now) → (is_command (length c.args.work.now) (drop c.loop-todo.at c.args.tape.now) ≡ true) → StoreAt (length c.args.work.now) c.args.tape.now c.loop-todo.at (64 * c.number_at-place.result) 64
+line c more here = line_at _ _ _ more here _ c.number_at-place.ensures.0 c.if-kind-eq2.true
 
-quiet : (c : Else-kind-eq2) → QuietAt (length c.args.work.now) c.args.tape.now c.loop-todo.at c.number_at-place.result
-quiet c = quiet_at _ _ _ (let s = c.before.before.before.before.before.before in
-    more-at (length s.args.work.now) c.loop-todo.at s.args.tape.now (omega arith)) (good-command _ _ _ (let s = c.before.before.before.before.before.before in
-    more-at (length s.args.work.now) c.loop-todo.at s.args.tape.now (omega arith)) c.loop-todo.invariant.3) _ c.number_at-place.ensures.0 c.if-kind-eq1.false c.if-kind-eq2.false
+quiet : (c : Else-kind-eq2) → (c.loop-todo.at < length c.args.tape.now) → (is_command (length c.args.work.now) (drop c.loop-todo.at c.args.tape.now) ≡ true) → QuietAt (length c.args.work.now) c.args.tape.now c.loop-todo.at c.number_at-place.result
+quiet c more here = quiet_at _ _ _ more here _ c.number_at-place.ensures.0 c.if-kind-eq1.false c.if-kind-eq2.false
 
 pub keep_word-requires : goal.keep_word-requires
-keep_word-requires c = let k = word (goal.at.keep_word-requires c).Then-kind-eq1 in (omega arith, k.in_tape, omega arith, omega arith)
+keep_word-requires c = let k = word (goal.at.keep_word-requires c).Then-kind-eq1 (more (goal.at.keep_word-requires c).In-loop-todo) (here (goal.at.keep_word-requires c).In-loop-todo) in (omega arith, k.in_tape, omega arith, omega arith)
 
 pub overflow_add-at-then-kind-eq1 : goal.overflow_add-at-then-kind-eq1
-overflow_add-at-then-kind-eq1 c = let k = word (goal.at.overflow_add-at-then-kind-eq1 c).Then-kind-eq1 in omega arith
+overflow_add-at-then-kind-eq1 c = let k = word (goal.at.overflow_add-at-then-kind-eq1 c).Then-kind-eq1 (more (goal.at.overflow_add-at-then-kind-eq1 c).In-loop-todo) (here (goal.at.overflow_add-at-then-kind-eq1 c).In-loop-todo) in omega arith
 
 pub overflow_sub-todo : goal.overflow_sub-todo
 overflow_sub-todo c = omega arith
@@ -71,7 +64,7 @@ loop-todo-smaller-then-kind-eq1 c = omega arith
 pub loop-todo-preserved-then-kind-eq1 : goal.loop-todo-preserved-then-kind-eq1
 loop-todo-preserved-then-kind-eq1 c =
     let loop-test = c.loop-todo-test in
-    let k = word (goal.at.loop-todo-preserved-then-kind-eq1 c).Then-kind-eq1 in
+    let k = word (goal.at.loop-todo-preserved-then-kind-eq1 c).Then-kind-eq1 (more (goal.at.loop-todo-preserved-then-kind-eq1 c).In-loop-todo) (here (goal.at.loop-todo-preserved-then-kind-eq1 c).In-loop-todo) in
     let l = c.loop-todo in (
       k.in_tape,
       omega (arith, c.keep_word.auto.work),
@@ -83,10 +76,10 @@ loop-todo-preserved-then-kind-eq1 c =
     )
 
 pub keep_line-requires : goal.keep_line-requires
-keep_line-requires c = let k = line (goal.at.keep_line-requires c).Then-kind-eq2 in (omega arith, k.in_tape, omega arith, omega arith)
+keep_line-requires c = let k = line (goal.at.keep_line-requires c).Then-kind-eq2 (more (goal.at.keep_line-requires c).In-loop-todo) (here (goal.at.keep_line-requires c).In-loop-todo) in (omega arith, k.in_tape, omega arith, omega arith)
 
 pub overflow_add-at-then-kind-eq2 : goal.overflow_add-at-then-kind-eq2
-overflow_add-at-then-kind-eq2 c = let k = line (goal.at.overflow_add-at-then-kind-eq2 c).Then-kind-eq2 in omega arith
+overflow_add-at-then-kind-eq2 c = let k = line (goal.at.overflow_add-at-then-kind-eq2 c).Then-kind-eq2 (more (goal.at.overflow_add-at-then-kind-eq2 c).In-loop-todo) (here (goal.at.overflow_add-at-then-kind-eq2 c).In-loop-todo) in omega arith
 
 pub overflow_sub-todo-then-kind-eq2 : goal.overflow_sub-todo-then-kind-eq2
 overflow_sub-todo-then-kind-eq2 c = omega arith
@@ -97,7 +90,7 @@ loop-todo-smaller-then-kind-eq2 c = omega arith
 pub loop-todo-preserved-then-kind-eq2 : goal.loop-todo-preserved-then-kind-eq2
 loop-todo-preserved-then-kind-eq2 c =
     let loop-test = c.loop-todo-test in
-    let k = line (goal.at.loop-todo-preserved-then-kind-eq2 c).Then-kind-eq2 in
+    let k = line (goal.at.loop-todo-preserved-then-kind-eq2 c).Then-kind-eq2 (more (goal.at.loop-todo-preserved-then-kind-eq2 c).In-loop-todo) (here (goal.at.loop-todo-preserved-then-kind-eq2 c).In-loop-todo) in
     let l = c.loop-todo in (
       k.in_tape,
       omega (arith, c.keep_line.auto.work),
@@ -109,7 +102,7 @@ loop-todo-preserved-then-kind-eq2 c =
     )
 
 pub overflow_add-at-else-kind-eq2 : goal.overflow_add-at-else-kind-eq2
-overflow_add-at-else-kind-eq2 c = let k = quiet (goal.at.overflow_add-at-else-kind-eq2 c).Else-kind-eq2 in omega arith
+overflow_add-at-else-kind-eq2 c = let k = quiet (goal.at.overflow_add-at-else-kind-eq2 c).Else-kind-eq2 (more (goal.at.overflow_add-at-else-kind-eq2 c).In-loop-todo) (here (goal.at.overflow_add-at-else-kind-eq2 c).In-loop-todo) in omega arith
 
 pub overflow_sub-todo-else-kind-eq2 : goal.overflow_sub-todo-else-kind-eq2
 overflow_sub-todo-else-kind-eq2 c = omega arith
@@ -120,7 +113,7 @@ loop-todo-smaller c = omega arith
 pub loop-todo-preserved : goal.loop-todo-preserved
 loop-todo-preserved c =
     let loop-test = c.loop-todo-test in
-    let k = quiet (goal.at.loop-todo-preserved c).Else-kind-eq2 in
+    let k = quiet (goal.at.loop-todo-preserved c).Else-kind-eq2 (more (goal.at.loop-todo-preserved c).In-loop-todo) (here (goal.at.loop-todo-preserved c).In-loop-todo) in
     let l = c.loop-todo in (
       k.in_tape,
       l.invariant.1,

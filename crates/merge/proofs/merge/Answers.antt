@@ -31,11 +31,11 @@ sized c = sym c.is_image_size.ensures ∙ not-false _ c.if-not-is_image_size.fal
 first-checked : (c : In-Accepted) → check_call c.args.first.now ≡ answers.Accepted
 first-checked c = sym c.check.ensures ∙ c.in-Accepted.is
 
-begun : (c : In-Accepted-check) → let a = c.args in Begun a.first.now a.second.now a.out.now
-begun c = record { size = (let sized : is_image_size (length c.args.out.now) ≡ true = sym c.is_image_size.ensures ∙ not-false _ c.if-not-is_image_size.false-raw in sized); first = (let first-checked : check_call c.args.first.now ≡ answers.Accepted = sym c.check.ensures ∙ c.in-Accepted.is in first-checked); second = sym c.check-in-Accepted.ensures ∙ c.in-Accepted-check.is }
+begun : (c : In-Accepted-check) → (is_image_size (length c.args.out.now) ≡ true) → (check_call c.args.first.now ≡ answers.Accepted) → let a = c.args in Begun a.first.now a.second.now a.out.now
+begun c sized first-checked = record { size = sized; first = first-checked; second = sym c.check-in-Accepted.ensures ∙ c.in-Accepted-check.is }
 
 pub merge_sound-requires : goal.merge_sound-requires
-merge_sound-requires c = let b = begun (goal.at.merge_sound-requires c).In-Accepted-check in (check_sound _ b.first, check_sound _ b.second, b.size)
+merge_sound-requires c = let b = begun (goal.at.merge_sound-requires c).In-Accepted-check (sized (goal.at.merge_sound-requires c).Else-not-is_image_size) (first-checked (goal.at.merge_sound-requires c).In-Accepted) in (check_sound _ b.first, check_sound _ b.second, b.size)
 
 pub returns-in-Refused : goal.returns-in-Refused
 returns-in-Refused c = let whole =
@@ -52,5 +52,5 @@ returns-in-Refused-check c = let whole =
 pub returns-in-Accepted-check : goal.returns-in-Accepted-check
 returns-in-Accepted-check c =
     let a = c.args in
-    let done = said (merge_call a.first.now a.second.now a.out.now) (merge_tables (table a.first.now) (table a.second.now) a.out.now) (begun-call _ _ _ (begun (goal.at.returns-in-Accepted-check c).In-Accepted-check)) in
+    let done = said (merge_call a.first.now a.second.now a.out.now) (merge_tables (table a.first.now) (table a.second.now) a.out.now) (begun-call _ _ _ (begun (goal.at.returns-in-Accepted-check c).In-Accepted-check (sized (goal.at.returns-in-Accepted-check c).Else-not-is_image_size) (first-checked (goal.at.returns-in-Accepted-check c).In-Accepted))) in
     record { value = c.merge_sound.ensures.value ∙ done.0; out_after = c.merge_sound.ensures.out_after ∙ done.1 }

@@ -47,15 +47,15 @@ storable c =
     both-storable _ _ c.requires.first_value.0 c.requires.first_value.1 c.requires.second_value.0 (omega (arith, c.if-leaves-gt28.false, c.requires.second_value.1))
 
 -- page 1 lies in the image
-page-one : (c : After-fill_leaves-seps) → page_size * 1 + page_size ≤ length c.fill_leaves-seps.new.out
-page-one c = omega (arith, (let fits : page_size * (c.args.leaves + 2) ≤ length c.put_blank.new.image = omega (arith, c.if-out-leaves.false, c.put_blank.auto.image) in fits), c.fill_leaves-seps.auto.out)
+page-one : (c : After-fill_leaves-seps) → (page_size * (c.args.leaves + 2) ≤ length c.put_blank.new.image) → page_size * 1 + page_size ≤ length c.fill_leaves-seps.new.out
+page-one c fits = omega (arith, fits, c.fill_leaves-seps.auto.out)
 
 pub slice_bounds-fill_index-end : goal.slice_bounds-fill_index-end
-slice_bounds-fill_index-end c = omega (arith, page-one (goal.at.slice_bounds-fill_index-end c).After-fill_leaves-seps)
+slice_bounds-fill_index-end c = omega (arith, page-one (goal.at.slice_bounds-fill_index-end c).After-fill_leaves-seps (fits (goal.at.slice_bounds-fill_index-end c).After-put_blank))
 
 pub fill_index-requires : goal.fill_index-requires
 fill_index-requires c = (
-  length-lent c.fill_leaves-seps.new.out 1 (page-one (goal.at.fill_index-requires c).After-fill_leaves-seps),
+  length-lent c.fill_leaves-seps.new.out 1 (page-one (goal.at.fill_index-requires c).After-fill_leaves-seps (fits (goal.at.fill_index-requires c).After-put_blank)),
   c.if-leaves-gt28.false,
   subst (All (λ (s : ℕ). s ≤ top_key)) (sym c.fill_leaves-seps.ensures.1) (seps-low _ (storable (goal.at.fill_index-requires c).Else-leaves-gt28).good),
 )
@@ -67,7 +67,7 @@ returns c =
     let room : length ls + 2 ≤ n = omega (arith, c.if-out-leaves.false, c.requires.second_value.1) in
     let done = said (store_leaves ls c.args.out.now) (accepted (stored n ls)) (store-fits ls c.args.out.now (omega (arith, c.if-leaves-gt28.false, c.requires.second_value.1)) room) in record {
       value = done.0;
-      out_after = back c.fill_leaves-seps.new.out 1 c.fill_index.new.page _ (page-one (goal.at.returns c).After-fill_leaves-seps) c.fill_index.auto.page (c.fill_index.ensures ∙ ap (λ (p : List ℕ). fill p index_kind 1 (named 2 (take c.args.leaves c.fill_leaves-seps.result))) (lent c.fill_leaves-seps.new.out 1))
+      out_after = back c.fill_leaves-seps.new.out 1 c.fill_index.new.page _ (page-one (goal.at.returns c).After-fill_leaves-seps (fits (goal.at.returns c).After-put_blank)) c.fill_index.auto.page (c.fill_index.ensures ∙ ap (λ (p : List ℕ). fill p index_kind 1 (named 2 (take c.args.leaves c.fill_leaves-seps.result))) (lent c.fill_leaves-seps.new.out 1))
           ∙ index-stored n ls (storable (goal.at.returns c).Else-leaves-gt28) (omega (arith, room)) c.put_blank.new.image c.fill_leaves-seps.new.out c.put_blank.ensures c.fill_leaves-seps.ensures.0 _ c.fill_leaves-seps.ensures.1
           ∙ done.1;
     }

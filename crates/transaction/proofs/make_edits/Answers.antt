@@ -32,17 +32,17 @@ pub copy_all-requires-in-Stopped : goal.copy_all-requires-in-Stopped
 copy_all-requires-in-Stopped c =
     ((c.edit_list.auto.work ∙ c.copy_all.auto.dst ∙ c.requires.1), (image-size c.args.image.now c.requires.0).high)
 
-ended : (c : In-Finished) → Ended c.args.image.now c.marks_of-before.result (edits_of (edit_list c.args.list.now)) c.edit_list.new.work c.in-Finished.end
-ended c =
-    made-ended (let begun : Begun c.args.image.now c.copy_all.new.dst c.marks_of-before.result c.root_of-root.result = record { is_sound = c.requires.0; copied = c.copy_all.ensures; is_root = c.root_of-root.ensures; marks = c.marks_of-before.ensures.marks } in begun) _ (list-proper c.args.list.now _ c.requires.2) _ _ c.edit_list.ensures _ c.in-Finished.is
+ended : (c : In-Finished) → (Begun c.args.image.now c.copy_all.new.dst c.marks_of-before.result c.root_of-root.result) → Ended c.args.image.now c.marks_of-before.result (edits_of (edit_list c.args.list.now)) c.edit_list.new.work c.in-Finished.end
+ended c begun =
+    made-ended begun _ (list-proper c.args.list.now _ c.requires.2) _ _ c.edit_list.ensures _ c.in-Finished.is
 
 pub finish-requires : goal.finish-requires
 finish-requires c =
-    ((ended (goal.at.finish-requires c).In-Finished).good (c.edit_list.auto.work ∙ c.copy_all.auto.dst ∙ c.requires.1), sym (c.edit_list.auto.work ∙ c.copy_all.auto.dst ∙ c.requires.1), (ended (goal.at.finish-requires c).In-Finished).spared)
+    ((ended (goal.at.finish-requires c).In-Finished (begun (goal.at.finish-requires c).After-marks_of-before)).good (c.edit_list.auto.work ∙ c.copy_all.auto.dst ∙ c.requires.1), sym (c.edit_list.auto.work ∙ c.copy_all.auto.dst ∙ c.requires.1), (ended (goal.at.finish-requires c).In-Finished (begun (goal.at.finish-requires c).After-marks_of-before)).spared)
 
 pub commit_edits-requires : goal.commit_edits-requires
 commit_edits-requires c =
-    let edited = (ended (goal.at.commit_edits-requires c).In-Finished).edited _ c.finish.ensures in
+    let edited = (ended (goal.at.commit_edits-requires c).In-Finished (begun (goal.at.commit_edits-requires c).After-marks_of-before)).edited _ c.finish.ensures in
     (c.requires.0, edited, marks-at c.args.image.now c.marks_of-before.result _ c.root_of-root.ensures c.marks_of-before.ensures.marks c.marks_of-before.ensures.by_index)
 
 pub returns-in-Stopped : goal.returns-in-Stopped
@@ -51,4 +51,4 @@ returns-in-Stopped c = let whole =
 
 pub returns-in-Finished : goal.returns-in-Finished
 returns-in-Finished c = let whole =
-    finished-shows c.args.way c.args.image.now c.args.tape.now _ _ (ended (goal.at.returns-in-Finished c).In-Finished).finishes _ c.finish.ensures _ (c.commit_edits.ensures.value, (c.commit_edits.ensures.work_after, c.commit_edits.ensures.tape_after)) in record { value = whole.0; work_after = whole.1.0; tape_after = whole.1.1 }
+    finished-shows c.args.way c.args.image.now c.args.tape.now _ _ (ended (goal.at.returns-in-Finished c).In-Finished (begun (goal.at.returns-in-Finished c).After-marks_of-before)).finishes _ c.finish.ensures _ (c.commit_edits.ensures.value, (c.commit_edits.ensures.work_after, c.commit_edits.ensures.tape_after)) in record { value = whole.0; work_after = whole.1.0; tape_after = whole.1.1 }

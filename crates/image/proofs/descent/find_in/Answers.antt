@@ -33,36 +33,35 @@ slot_at-at-requires c = (laid (goal.at.slot_at-at-requires c).Start, found (goal
 
 -- the page's number is of two bytes, and the record's head lies in the page
 room : (c : After-slot_at-at) →
-    let a = c.args in
+    (laid_out c.args.page.now ≡ true) → (c.in-At.i < length (records c.args.page.now)) → let a = c.args in
     (a.own < 65536) × (c.slot_at-at.result + 16 ≤ length a.page.now) × (length a.page.now ≡ page_size)
-room c =
+room c laid found =
     let a = c.args in
     let p = a.page.now in
-    let k = (ok-is p (let laid : laid_out c.args.page.now ≡ true = (page_ok-true leaf_kind c.args.own c.args.page.now c.requires).laid in laid)).body in (
+    let k = (ok-is p laid).body in (
       omega (arith, k.head.own_fits, (page_ok-true leaf_kind a.own p c.requires).own),
       omega (
         arith,
         c.slot_at-at.ensures,
-        value_in p (let laid : laid_out c.args.page.now ≡ true = (page_ok-true leaf_kind c.args.own c.args.page.now c.requires).laid in laid) c.in-At.i (let found : c.in-At.i < length (records c.args.page.now) = let a = c.args in
-            (search-at leaf_kind a.own a.own a.page.now c.requires a.key c.in-At.i (sym c.find.ensures ∙ c.in-At.is)).0 in found) (rec_of 0 []),
+        value_in p laid c.in-At.i found (rec_of 0 []),
       ),
       k.whole,
     )
 
 pub overflow_mul-result : goal.overflow_mul-result
-overflow_mul-result c = omega (arith, room (goal.at.overflow_mul-result c).After-slot_at-at)
+overflow_mul-result c = omega (arith, room (goal.at.overflow_mul-result c).After-slot_at-at (laid (goal.at.overflow_mul-result c).Start) (found (goal.at.overflow_mul-result c).In-At))
 
 pub overflow_add-result : goal.overflow_add-result
-overflow_add-result c = omega (arith, room (goal.at.overflow_add-result c).After-slot_at-at)
+overflow_add-result c = omega (arith, room (goal.at.overflow_add-result c).After-slot_at-at (laid (goal.at.overflow_add-result c).Start) (found (goal.at.overflow_add-result c).In-At))
 
 pub overflow_add-result-in-At : goal.overflow_add-result-in-At
-overflow_add-result-in-At c = omega (arith, room (goal.at.overflow_add-result-in-At c).After-slot_at-at)
+overflow_add-result-in-At c = omega (arith, room (goal.at.overflow_add-result-in-At c).After-slot_at-at (laid (goal.at.overflow_add-result-in-At c).Start) (found (goal.at.overflow_add-result-in-At c).In-At))
 
 pub overflow_add-at : goal.overflow_add-at
-overflow_add-at c = omega (arith, room (goal.at.overflow_add-at c).After-slot_at-at)
+overflow_add-at c = omega (arith, room (goal.at.overflow_add-at c).After-slot_at-at (laid (goal.at.overflow_add-at c).Start) (found (goal.at.overflow_add-at c).In-At))
 
 pub number_at-requires : goal.number_at-requires
-number_at-requires c = omega (arith, room (goal.at.number_at-requires c).After-slot_at-at)
+number_at-requires c = omega (arith, room (goal.at.number_at-requires c).After-slot_at-at (laid (goal.at.number_at-requires c).Start) (found (goal.at.number_at-requires c).In-At))
 
 pub returns-in-At : goal.returns-in-At
 returns-in-At c =

@@ -40,22 +40,18 @@ not_last (Refused r) y h = refl
 
 -- where it has none
 after : (c : In-Last) →
-    let a = c.args in
+    (next_from c.args.image.now c.args.key (roots.At c.args.root) ≡ or_else c.next_at-here.result (next_after c.args.image.now c.args.root c.args.key c.leaf_for-leaf.result)) → let a = c.args in
     next_from a.image.now a.key (roots.At a.root) ≡ next_after a.image.now a.root a.key c.leaf_for-leaf.result
-unfolding next_from
-after c =
+after c either =
     let a = c.args in
-    (let either : let a = c.args in
-    next_from a.image.now a.key (roots.At a.root) ≡ or_else c.next_at-here.result (next_after a.image.now a.root a.key c.leaf_for-leaf.result) = let a = c.args in
-    ap (λ (p : Place). or_else (leaf_next a.image.now a.root a.key p) (next_after a.image.now a.root a.key p)) (sym c.leaf_for-leaf.ensures)
-    ∙ ap (λ (x : Next). or_else x (next_after a.image.now a.root a.key c.leaf_for-leaf.result)) (sym c.next_at-here.ensures) in either) ∙ ap (λ (x : Next). or_else x (next_after a.image.now a.root a.key c.leaf_for-leaf.result)) c.in-Last.is
+    either ∙ ap (λ (x : Next). or_else x (next_after a.image.now a.root a.key c.leaf_for-leaf.result)) c.in-Last.is
 
 pub returns-in_default : goal.returns-in_default
 returns-in_default c = not_last c.next_at-here.result _ (opened c.in_default.in_default-own.keys2) ∙ sym (either (goal.at.returns-in_default c).After-next_at-here)
 
 pub returns-then-leaf-gt-TOP_KEY : goal.returns-then-leaf-gt-TOP_KEY
 unfolding next_after
-returns-then-leaf-gt-TOP_KEY c = sym (after (goal.at.returns-then-leaf-gt-TOP_KEY c).In-Last ∙ rw (lt-leb _ top_key c.if-leaf-gt-TOP_KEY.true))
+returns-then-leaf-gt-TOP_KEY c = sym (after (goal.at.returns-then-leaf-gt-TOP_KEY c).In-Last (either (goal.at.returns-then-leaf-gt-TOP_KEY c).After-next_at-here) ∙ rw (lt-leb _ top_key c.if-leaf-gt-TOP_KEY.true))
 
 pub next_at-requires : goal.next_at-requires
 next_at-requires c = (c.requires, leaf-fits c.args.image.now c.args.root c.requires _ _ c.leaf_for.ensures)
@@ -66,4 +62,4 @@ returns c =
     let a = c.args in
     c.next_at.ensures
     ∙ ap (leaf_next a.image.now a.root a.key) c.leaf_for.ensures
-    ∙ sym (after (goal.at.returns c).In-Last ∙ rw (le-leb _ top_key c.if-leaf-gt-TOP_KEY.false))
+    ∙ sym (after (goal.at.returns c).In-Last (either (goal.at.returns c).After-next_at-here) ∙ rw (le-leb _ top_key c.if-leaf-gt-TOP_KEY.false))

@@ -32,8 +32,7 @@ good : (c : Else-not-leaf_sound) →
     page_ok leaf_kind a.leaf.page (page_of a.image.now a.leaf.page) ≡ true
 good c =
     let a = c.args in
-    sound-page a.image.now a.root a.leaf (let judged : let a = c.args in
-    leaf_sound a.image.now a.root a.leaf ≡ true = sym c.leaf_sound.ensures ∙ not-false _ c.if-not-leaf_sound.false-raw in judged)
+    sound-page a.image.now a.root a.leaf (judged c)
 
 pub returns-then-key-ge-TOP_KEY : goal.returns-then-key-ge-TOP_KEY
 unfolding leaf_next

@@ -60,26 +60,21 @@ unfolding root_of
 returns-then-mark-eq0 c = rw c.long_at-root.ensures (sym (zero-ready _ (bytes (goal.at.returns-then-mark-eq0 c).After-shared_slice_known-1) (size-true _ c.requires) (past (goal.at.returns-then-mark-eq0 c).Else-not-zero_words) (sym c.long_at-mark.ensures ∙ c.if-mark-eq0.true)))
 
 no-mark : (c : Else-mark-eq0) →
-    let a = c.args in
+    (Bytes c.args.image.now) → (Past c.args.image.now) → let a = c.args in
     (Mark (page_count a.image.now) (number (part a.image.now 0 8)) → ⊥) → Wrong ≡ page_zero a.image.now
-unfolding root_of
-no-mark c h = sym (zero-bad-mark _ (let bytes : Bytes c.args.image.now = λ i. omega (arith, c.type_inv.image i) in bytes) (size-true _ c.requires) (let past : Past c.args.image.now = record {
-  root = ap (is_page (page_count c.args.image.now)) (sym c.long_at-root.ensures) ∙ sym c.is_page.ensures ∙ not-false _ c.if-not-is_page.false-raw;
-  second = sym c.long_at.ensures ∙ c.if-long_at-n.false;
-  rest = sym c.zero_words.ensures ∙ not-false _ c.if-not-zero_words.false-raw;
-} in past) (λ e. c.if-mark-eq0.false (c.long_at-mark.ensures ∙ e)) h)
+no-mark c bytes past h = sym (zero-bad-mark _ bytes (size-true _ c.requires) past (λ e. c.if-mark-eq0.false (c.long_at-mark.ensures ∙ e)) h)
 
 pub returns-then-mark-ne1 : goal.returns-then-mark-ne1
-returns-then-mark-ne1 c = no-mark (goal.at.returns-then-mark-ne1 c).Else-mark-eq0 (λ k. c.if-mark-ne1.true (ap (λ (m : ℕ). m % 256) c.long_at-mark.ensures ∙ k.one))
+returns-then-mark-ne1 c = no-mark (goal.at.returns-then-mark-ne1 c).Else-mark-eq0 (bytes (goal.at.returns-then-mark-ne1 c).After-shared_slice_known-1) (past (goal.at.returns-then-mark-ne1 c).Else-not-zero_words) (λ k. c.if-mark-ne1.true (ap (λ (m : ℕ). m % 256) c.long_at-mark.ensures ∙ k.one))
 
 pub returns-then-headers-lt1 : goal.returns-then-headers-lt1
-returns-then-headers-lt1 c = no-mark (goal.at.returns-then-headers-lt1 c).Else-mark-eq0 (λ k. omega (arith, c.if-headers-lt1.true, c.long_at-mark.ensures, k.some))
+returns-then-headers-lt1 c = no-mark (goal.at.returns-then-headers-lt1 c).Else-mark-eq0 (bytes (goal.at.returns-then-headers-lt1 c).After-shared_slice_known-1) (past (goal.at.returns-then-headers-lt1 c).Else-not-zero_words) (λ k. omega (arith, c.if-headers-lt1.true, c.long_at-mark.ensures, k.some))
 
 pub returns-then-headers-gt15 : goal.returns-then-headers-gt15
-returns-then-headers-gt15 c = no-mark (goal.at.returns-then-headers-gt15 c).Else-mark-eq0 (λ k. omega (arith, c.if-headers-gt15.true, c.long_at-mark.ensures, k.few))
+returns-then-headers-gt15 c = no-mark (goal.at.returns-then-headers-gt15 c).Else-mark-eq0 (bytes (goal.at.returns-then-headers-gt15 c).After-shared_slice_known-1) (past (goal.at.returns-then-headers-gt15 c).Else-not-zero_words) (λ k. omega (arith, c.if-headers-gt15.true, c.long_at-mark.ensures, k.few))
 
 pub returns-then-not-is_page-2 : goal.returns-then-not-is_page-2
-returns-then-not-is_page-2 c = no-mark (goal.at.returns-then-not-is_page-2 c).Else-mark-eq0 (λ k. true≢false (sym k.page ∙ ap (λ (m : ℕ). is_page (page_count c.args.image.now) (m / 65536)) (sym c.long_at-mark.ensures) ∙ sym c.is_page-2.ensures ∙ not-true _ c.if-not-is_page-2.true-raw))
+returns-then-not-is_page-2 c = no-mark (goal.at.returns-then-not-is_page-2 c).Else-mark-eq0 (bytes (goal.at.returns-then-not-is_page-2 c).After-shared_slice_known-1) (past (goal.at.returns-then-not-is_page-2 c).Else-not-zero_words) (λ k. true≢false (sym k.page ∙ ap (λ (m : ℕ). is_page (page_count c.args.image.now) (m / 65536)) (sym c.long_at-mark.ensures) ∙ sym c.is_page-2.ensures ∙ not-true _ c.if-not-is_page-2.true-raw))
 
 pub returns : goal.returns
 returns c =

@@ -31,9 +31,7 @@ known c =
 laid : (c : After-page_of-page) → laid_out c.page_of-page.result.now ≡ true
 laid c =
     let a = c.args in
-    index-laid a.image.now a.root (let known : let a = c.args in
-    Index a.image.now a.root = let a = c.args in
-    index-facts a.image.now a.root c.requires.2 in known) _ c.page_of-page.ensures
+    index-laid a.image.now a.root (known c) _ c.page_of-page.ensures
 
 pub count-leaves-requires : goal.count-leaves-requires
 count-leaves-requires c = laid (goal.at.count-leaves-requires c).After-page_of-page

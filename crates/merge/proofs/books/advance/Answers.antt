@@ -42,8 +42,8 @@ returns-then-slot-count c = (
 
 -- ---- past it
 
-past : (c : Else-slot-count) → length (records (page_of c.args.image.now c.args.at.page)) ≤ c.args.at.slot + 1
-past c = omega (arith, c.if-slot-count.false, (let listed : c.count.result ≡ length (records (page_of c.args.image.now c.args.at.page)) = c.count.ensures ∙ ap (λ (p : List ℕ). length (records p)) c.page_of-p.ensures in listed))
+past : (c : Else-slot-count) → (c.count.result ≡ length (records (page_of c.args.image.now c.args.at.page))) → length (records (page_of c.args.image.now c.args.at.page)) ≤ c.args.at.slot + 1
+past c listed = omega (arith, c.if-slot-count.false, listed)
 
 pub root_of-requires : goal.root_of-requires
 root_of-requires c = root-read c.args.image.now c.requires.0.is_sound
@@ -78,16 +78,16 @@ on_leaf-requires c =
 pub returns-then-leaf-count : goal.returns-then-leaf-count
 returns-then-leaf-count c = (
   c.on_leaf.ensures.0,
-  c.on_leaf.ensures.1 ∙ sym (ap (drop 1) (left-next c.requires.0 c.requires.1 0) ∙ left-past (stands-leaf c.requires.0) _ 0 (past (goal.at.returns-then-leaf-count c).Else-slot-count)),
+  c.on_leaf.ensures.1 ∙ sym (ap (drop 1) (left-next c.requires.0 c.requires.1 0) ∙ left-past (stands-leaf c.requires.0) _ 0 (past (goal.at.returns-then-leaf-count c).Else-slot-count (listed (goal.at.returns-then-leaf-count c).After-count))),
 )
 
 -- no leaf after
 last : (c : Else-leaf-count) →
-    length (children c.args.image.now (root_of c.args.image.now)) ≤ c.args.at.leaf + 1
-last c =
-    omega (arith, c.if-leaf-count.false, c.count-2.ensures, leaf-count c.args.image.now c.requires.0.is_sound _ (let the-index : c.page_of-index.result.now ≡ page_of c.args.image.now (root_of c.args.image.now) = c.page_of-index.ensures ∙ ap (page_of c.args.image.now) c.root_of.ensures in the-index))
+    (c.page_of-index.result.now ≡ page_of c.args.image.now (root_of c.args.image.now)) → length (children c.args.image.now (root_of c.args.image.now)) ≤ c.args.at.leaf + 1
+last c the-index =
+    omega (arith, c.if-leaf-count.false, c.count-2.ensures, leaf-count c.args.image.now c.requires.0.is_sound _ the-index)
 
 pub returns : goal.returns
 returns c =
     let f = stands-leaf c.requires.0 in
-    (stands-end f _ _ refl (left-none f _ _ (past (goal.at.returns c).Else-slot-count) (last (goal.at.returns c).Else-leaf-count)), sym (ap (drop 1) (left-next c.requires.0 c.requires.1 _)))
+    (stands-end f _ _ refl (left-none f _ _ (past (goal.at.returns c).Else-slot-count (listed (goal.at.returns c).After-count)) (last (goal.at.returns c).Else-leaf-count (the-index (goal.at.returns c).After-page_of-index))), sym (ap (drop 1) (left-next c.requires.0 c.requires.1 _)))

@@ -22,7 +22,7 @@ the-index : (c : After-page_of-index) → c.page_of-index.result.now ≡ page_of
 the-index c = c.page_of-index.ensures ∙ ap (page_of c.args.image.now) c.root_of.ensures
 
 first-less : (c : After-page_of-index) → 0 < length (records c.page_of-index.result.now)
-first-less c = omega (arith, some-leaf c.args.image.now c.requires, leaf-count c.args.image.now c.requires _ (let the-index : c.page_of-index.result.now ≡ page_of c.args.image.now (root_of c.args.image.now) = c.page_of-index.ensures ∙ ap (page_of c.args.image.now) c.root_of.ensures in the-index))
+first-less c = omega (arith, some-leaf c.args.image.now c.requires, leaf-count c.args.image.now c.requires _ (the-index c))
 
 pub child_at-requires : goal.child_at-requires
 child_at-requires c = child-asked c.args.image.now c.requires _ (the-index (goal.at.child_at-requires c).After-page_of-index) 0 (first-less (goal.at.child_at-requires c).After-page_of-index)

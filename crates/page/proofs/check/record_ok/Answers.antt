@@ -41,7 +41,7 @@ good : (c : Else-not-length_ok) → length_b c.args.kind c.long_at-n.result ≡ 
 good c = sym c.length_ok.ensures ∙ not-false _ c.if-not-length_ok.false-raw
 
 few : (c : Else-not-length_ok) → c.long_at-n.result ≤ value_most
-few c = length-few c.args.kind c.long_at-n.result (let good : length_b c.args.kind c.long_at-n.result ≡ true = sym c.length_ok.ensures ∙ not-false _ c.if-not-length_ok.false-raw in good)
+few c = length-few c.args.kind c.long_at-n.result (good c)
 
 pub overflow_add-end-2 : goal.overflow_add-end-2
 overflow_add-end-2 c = omega (arith, few (goal.at.overflow_add-end-2 c).Else-not-length_ok)

@@ -13,12 +13,10 @@ use Rattle.codec.proofs.Tests.{first, second}
 use Rattle.device.specs.Tape.{Op, decode, well_formed}
 use Rattle.device.specs.Cut.{after, cut_image}
 use Rattle.device.specs.Counts.{scanned, Tells, Found}
-use Rattle.device.specs.Calls.{is_image_size, Ran, accepted, refused, unless, run_call, cut_tape, cut_call}
+use Rattle.device.specs.Calls.{Answer, is_image_size, Ran, accepted, refused, unless, run_call, cut_tape, cut_call}
 use Rattle.device.specs.declared.Refusal.{Refusal}
-use Rattle.device.specs.declared.Answer.TheVariants.{Accepted, Refused}
-use Rattle.device.specs.declared.Scan.TheVariants.{Commands, Broken}
+use Rattle.std.specs.Prelude.{Option, Some, None, Ok, Err}
 use Rattle.device.specs.declared.Judged.{Judged}
-use Rattle.device.specs.declared.Judged.TheVariants.{Good, Bad}
 
 module _ (test : Bool) (k : ℕ) (old : List ℕ) (ran : Ran) where
   pub holds : test ≡ true → unless test k old ran ≡ ran
@@ -51,12 +49,12 @@ pub record Cuttable (image work tape choices : List ℕ) (c : ℕ) : Type 0 wher
   pub formed : well_formed (decode (length image) tape) ≡ true
   pub few : c ≤ length (decode (length image) tape)
 
-passed : (test : Bool) (k : ℕ) (old : List ℕ) (ran : Ran) → (unless test k old ran).answer ≡ Accepted → (test ≡ true) × (ran.answer ≡ Accepted)
+passed : (test : Bool) (k : ℕ) (old : List ℕ) (ran : Ran) → (unless test k old ran).answer ≡ Ok tt → (test ≡ true) × (ran.answer ≡ Ok tt)
 unfolding unless
 passed true k old ran e = (refl, e)
 passed false k old ran e = let z : ◌≡◌ {A = ℕ} 0 1 = cc in absurd (omega arith)
 
-pub cut-accepted : (image work tape choices : List ℕ) (c : ℕ) → (cut_call image work tape c choices).answer ≡ Accepted → Cuttable image work tape choices c
+pub cut-accepted : (image work tape choices : List ℕ) (c : ℕ) → (cut_call image work tape c choices).answer ≡ Ok tt → Cuttable image work tape choices c
 unfolding cut_call cut_tape
 cut-accepted image work tape choices c e =
     let a = passed _ _ _ _ e in
@@ -77,32 +75,32 @@ pub said : (call done : Ran) → call ≡ done → (done.answer ≡ call.answer)
 said call done e = (sym (ap (λ (r : Ran). r.answer) e), sym (ap (λ (r : Ran). r.work) e))
 
 -- a refusal is no acceptance
-pub not-accepted : (r : Refusal) → Refused r ≡ Accepted → ⊥
+pub not-accepted : (r : Refusal) → ◌≡◌ {A = Answer} (Err r) (Ok tt) → ⊥
 not-accepted r e = let z : ◌≡◌ {A = ℕ} 0 1 = cc in omega arith
 
 pub image-size-le : (n : ℕ) → is_image_size n ≡ true → n ≤ 65536
 image-size-le n e = leb-true n 65536 (first (leb n 65536) (eqb (n % 1024) 0) (second (leb 8192 n) (leb n 65536 && eqb (n % 1024) 0) e))
 
-pub scanned-broken : (cs : List Op) → scanned cs ≡ Broken → well_formed cs ≡ false
-scanned-broken cs = go (well_formed cs)
+pub scanned-none : (cs : List Op) → scanned cs ≡ None → well_formed cs ≡ false
+scanned-none cs = go (well_formed cs)
   where
-    go : (b : Bool) → pick b (Commands (length cs)) Broken ≡ Broken → b ≡ false
+    go : (b : Bool) → pick b (Some (length cs)) None ≡ None → b ≡ false
     go true e = let z : ◌≡◌ {A = ℕ} 0 1 = cc in absurd (omega arith)
     go false e = refl
 
-pub scanned-commands : (cs : List Op) (k : ℕ) → scanned cs ≡ Commands k → (well_formed cs ≡ true) × (k ≡ length cs)
-scanned-commands cs k = go (well_formed cs)
+pub scanned-some : (cs : List Op) (k : ℕ) → scanned cs ≡ Some k → (well_formed cs ≡ true) × (k ≡ length cs)
+scanned-some cs k = go (well_formed cs)
   where
-    go : (b : Bool) → pick b (Commands (length cs)) Broken ≡ Commands k → (b ≡ true) × (k ≡ length cs)
+    go : (b : Bool) → pick b (Some (length cs)) None ≡ Some k → (b ≡ true) × (k ≡ length cs)
     go true e = (refl, cc)
     go false e = let z : ◌≡◌ {A = ℕ} 0 1 = cc in absurd (omega arith)
 
 -- what a cut's first pass found, by its answer
-pub found-bad : (c : ℕ) (cs : List Op) (flushes : List ℕ) (r : Judged) → Found c cs flushes r → r ≡ Bad → well_formed cs ≡ false
+pub found-none : (c : ℕ) (cs : List Op) (flushes : List ℕ) → Found c cs flushes None → well_formed cs ≡ false
 unfolding Found
-found-bad c cs flushes r f e = rw e at f
+found-none c cs flushes f = f
 
-pub found-good : (c : ℕ) (cs : List Op) (flushes : List ℕ) (r : Judged) (count fence : ℕ) → Found c cs flushes r → r ≡ Good count fence →
-    (well_formed cs ≡ true) × (count ≡ length cs) × Tells flushes fence (take c cs)
+pub found-some : (c : ℕ) (cs : List Op) (flushes : List ℕ) (j : Judged) → Found c cs flushes (Some j) →
+    (well_formed cs ≡ true) × (j.count ≡ length cs) × Tells flushes j.fence (take c cs)
 unfolding Found
-found-good c cs flushes r count fence f e = rw e at f
+found-some c cs flushes j f = f

@@ -1,21 +1,18 @@
 -- What the code of run and cut keeps count of: a command's size by its head, the commands of a tape, and where each line's flushes end.
 -- Assumes nothing.
-use Rattle.std.specs.Prelude.{ℕ, ◌+◌, ◌-◌, ◌/◌, ◌<◌, ◌≡◌, true, false, ◌||◌, List, [], ◌∷◌, length, take, get_or, set, ltb, leb, eqb}
+use Rattle.std.specs.Prelude.{ℕ, ◌+◌, ◌-◌, ◌/◌, ◌<◌, ◌≡◌, true, false, ◌||◌, List, [], ◌∷◌, length, take, get_or, set, ltb, leb, eqb, Option, Some, None}
 use Rattle.codec.specs.Lists.{pick, splice}
 use Rattle.device.specs.Tape.{Op, store, flush, barrier, malformed, well_formed, is_barrier}
 use Rattle.device.specs.Cut.{flushes_line, some}
-use Rattle.device.specs.declared.Scan.{Scan}
-use Rattle.device.specs.declared.Scan.TheVariants.{Commands, Broken}
 use Rattle.device.specs.declared.Judged.{Judged}
-use Rattle.device.specs.declared.Judged.TheVariants.{Good, Bad}
 
 -- the bytes of a command whose kind and zero byte are this number of two bytes; 0 if it is none
 unfoldable pub size_of : ℕ → ℕ
 size_of head = pick (eqb head 1) 12 (pick (eqb head 2) 68 (pick (eqb head 3) 4 (pick (eqb head 4) 4 0)))
 
 -- the number of commands, unless one is malformed
-abbrev pub scanned : List Op → Scan
-scanned cs = pick (well_formed cs) (Commands (length cs)) Broken
+abbrev pub scanned : List Op → Option ℕ
+scanned cs = pick (well_formed cs) (Some (length cs)) None
 
 -- the commands up to the last barrier, that one too: those whose flushes are waited for
 unfoldable pub finished : List Op → List Op
@@ -44,9 +41,9 @@ abbrev pub Tells : List ℕ → ℕ → List Op → Type 0
 Tells flushes fence cs = (l : ℕ) → l < length flushes / 2 → flush_done flushes fence l ≡ flush_end l 0 (finished cs)
 
 -- what reading these commands finds: a malformed one, or how many they are, and then the notes tell of the first c
-unfoldable pub Found : ℕ → List Op → List ℕ → Judged → Type 0
-Found c cs flushes (Good count fence) = (well_formed cs ≡ true) × (count ≡ length cs) × Tells flushes fence (take c cs)
-Found c cs flushes Bad = well_formed cs ≡ false
+unfoldable pub Found : ℕ → List Op → List ℕ → Option Judged → Type 0
+Found c cs flushes (Some j) = (well_formed cs ≡ true) × (j.count ≡ length cs) × Tells flushes j.fence (take c cs)
+Found c cs flushes None = well_formed cs ≡ false
 
 -- a store at `at` of the tape, of these bytes at p in `line`: it is made if the line's last flush that is done ends past it or its choice is not used
 -- up, of which it takes one in the second case

@@ -7,84 +7,64 @@ ghost use Rattle.codec.specs.Numbers.{number};
 ghost use Rattle.device.specs.Tape.{decode, front, extent, place_ok, well_formed, head_bytes, word_bytes, line_bytes, flush_bytes, barrier_bytes};
 ghost use Rattle.device.specs.Cut.{after, cut_image};
 ghost use Rattle.device.specs.Counts.{size_of, scanned, flush_done, note_flush, Tells, Found, Kept};
-ghost use Rattle.device.specs.Calls.{refusal, is_image_size, run_call, cut_tape, cut_call};
+ghost use Rattle.device.specs.Calls.{cause_number, of_cause, is_image_size, run_call, cut_tape, cut_call};
 
-// A refusal: its number, and the number of the edit that it names.
-#[derive(Clone, Copy)]
+// Why a call is refused; the number beside each is the one by which document 01 names it, and document 02 those past 16.
+#[derive(Clone, Copy, Debug, PartialEq, Eq)]
+pub enum Cause {
+    ImageSize = 1,
+    WorkSize = 2,
+    MarkWaits = 3,
+    Unsound = 4,
+    BadList = 5,
+    KeyRange = 6,
+    LongValue = 7,
+    KeyPresent = 8,
+    KeyMissing = 9,
+    IndexFull = 10,
+    PagesOut = 11,
+    LogFull = 12,
+    TapeShort = 13,
+    BadTape = 14,
+    PastEnd = 15,
+    BadChoices = 16,
+    LongTape = 17,
+    NoSuchCut = 18,
+    EmptyValue = 19,
+    KeyInBoth = 20,
+}
+
+impl Cause {
+    // The number of the refusal.
+    pub fn number(self) -> u8
+        ensures { result ≡ cause_number self }
+    {
+        self as u8
+    }
+}
+
+// A refusal: why, and the number of the edit that it names.
+#[derive(Clone, Copy, Debug, PartialEq, Eq)]
 pub struct Refusal {
-    pub number: u8,
+    pub cause: Cause,
     pub edit: u8,
 }
 
 impl Refusal {
-    pub const IMAGE_SIZE: u8 = 1;
-
-    pub const WORK_SIZE: u8 = 2;
-
-    pub const MARK_WAITS: u8 = 3;
-
-    pub const UNSOUND: u8 = 4;
-
-    pub const BAD_LIST: u8 = 5;
-
-    pub const KEY_RANGE: u8 = 6;
-
-    pub const LONG_VALUE: u8 = 7;
-
-    pub const KEY_PRESENT: u8 = 8;
-
-    pub const KEY_MISSING: u8 = 9;
-
-    pub const INDEX_FULL: u8 = 10;
-
-    pub const PAGES_OUT: u8 = 11;
-
-    pub const LOG_FULL: u8 = 12;
-
-    pub const TAPE_SHORT: u8 = 13;
-
-    pub const BAD_TAPE: u8 = 14;
-
-    pub const PAST_END: u8 = 15;
-
-    pub const BAD_CHOICES: u8 = 16;
-
-    pub const LONG_TAPE: u8 = 17;
-
-    pub const NO_SUCH_CUT: u8 = 18;
-
-    pub const EMPTY_VALUE: u8 = 19;
-
-    pub const KEY_IN_BOTH: u8 = 20;
-
     // A refusal that names no edit.
-    pub fn of(number: u8) -> Refusal
-        ensures { result ≡ refusal number }
+    pub fn of(cause: Cause) -> Refusal
+        ensures { result ≡ of_cause cause }
     {
-        Refusal { number, edit: 0 }
+        Refusal { cause, edit: 0 }
     }
-}
-
-// What the calls answer that give nothing more.
-#[derive(Clone, Copy)]
-pub enum Answer {
-    Accepted,
-    Refused(Refusal),
-}
-
-// What reading a whole tape finds: how many commands there are, unless one is malformed.
-#[derive(Clone, Copy)]
-pub enum Scan {
-    Commands(usize),
-    Broken,
 }
 
 // What a cut's first pass over the tape finds: how many commands there are, and where the last barrier among the first ones ends, unless one is
 // malformed.
 #[derive(Clone, Copy)]
-enum Judged {
-    Good(usize, usize),
-    Bad,
+struct Judged {
+    count: usize,
+    fence: usize,
 }
 
 // The bytes of a command by the two bytes that it starts with; 0 if it is none.
@@ -137,7 +117,7 @@ fn size_at(tape: &[u8], at: usize, n: usize) -> usize
 }
 
 // Judges the whole tape over an image of n bytes and counts its commands.
-pub fn count_commands(tape: &[u8], n: usize) -> Scan
+pub fn count_commands(tape: &[u8], n: usize) -> Option<usize>
     ensures { result ≡ scanned (decode n tape.now) }
 {
     let mut at = 0;
@@ -145,12 +125,12 @@ pub fn count_commands(tape: &[u8], n: usize) -> Scan
     while at < tape.len() {
         let size = size_at(tape, at, n);
         if size == 0 {
-            return Scan::Broken;
+            return None;
         }
         at = at + size;
         count = count + 1;
     }
-    Scan::Commands(count)
+    Some(count)
 }
 
 // Makes every store of a well-formed tape.
@@ -188,25 +168,23 @@ pub fn is_image_size(n: usize) -> bool
 }
 
 // The image after all the tape's stores, in work.
-pub fn run(image: &[u8], work: &mut [u8], tape: &[u8]) -> Answer
+pub fn run(image: &[u8], work: &mut [u8], tape: &[u8]) -> Result<(), Refusal>
     ensures value { result ≡ (run_call image.now work.old tape.now).answer }
     ensures work_after { work.new ≡ (run_call image.now work.old tape.now).work }
 {
     let n = image.len();
     if !is_image_size(n) {
-        return Answer::Refused(Refusal::of(Refusal::IMAGE_SIZE));
+        return Err(Refusal::of(Cause::ImageSize));
     }
     if work.len() != n {
-        return Answer::Refused(Refusal::of(Refusal::WORK_SIZE));
+        return Err(Refusal::of(Cause::WorkSize));
     }
-    match count_commands(tape, n) {
-        Scan::Broken => Answer::Refused(Refusal::of(Refusal::BAD_TAPE)),
-        Scan::Commands(_) => {
-            codec::copy_all(work, image);
-            play(work, tape);
-            Answer::Accepted
-        }
-    }
+    let Some(_) = count_commands(tape, n) else {
+        return Err(Refusal::of(Cause::BadTape));
+    };
+    codec::copy_all(work, image);
+    play(work, tape);
+    Ok(())
 }
 
 // Where the line's last flush ends that a barrier comes after, 0 if there is none: its last flush, if the last barrier ends past it, else the one
@@ -244,7 +222,7 @@ fn note(flushes: &mut [usize], tape: &[u8], at: usize, fence: usize) -> usize
 
 // Judges the whole tape over an image of n bytes and counts its commands, and notes the flushes of the first c: one that no barrier comes after among
 // these is not waited for when c commands are done, and so makes nothing durable.
-fn judge(flushes: &mut [usize], tape: &[u8], n: usize, c: usize) -> Judged
+fn judge(flushes: &mut [usize], tape: &[u8], n: usize, c: usize) -> Option<Judged>
     requires { (n ≤ 64 * (length flushes.old / 2)) × ((l : ℕ) → get_or flushes.old l 0 ≡ 0) }
     ensures { Found c (decode n tape.now) flushes.new result }
 {
@@ -254,7 +232,7 @@ fn judge(flushes: &mut [usize], tape: &[u8], n: usize, c: usize) -> Judged
     while at < tape.len() {
         let size = size_at(tape, at, n);
         if size == 0 {
-            return Judged::Bad;
+            return None;
         }
         if count < c {
             fence = note(flushes, tape, at, fence);
@@ -262,7 +240,7 @@ fn judge(flushes: &mut [usize], tape: &[u8], n: usize, c: usize) -> Judged
         at = at + size;
         count = count + 1;
     }
-    Judged::Good(count, fence)
+    Some(Judged { count, fence })
 }
 
 // Whether a store at `at` of the tape is kept: the line's last flush that is done ends later, so that it is durable, or its choice is not used up,
@@ -356,27 +334,25 @@ fn cut_tape(
     c: usize,
     left: &mut [u8],
     flushes: &mut [usize],
-) -> Answer
+) -> Result<(), Refusal>
     requires image_len_bound { (length image.now ≤ 65536) × (length work.old ≡ length image.now) × (length image.now ≤ 64 * length left.old) × (length image.now ≤ 64 * (length flushes.old / 2)) }
     requires by_index { (l : ℕ) → get_or flushes.old l 0 ≡ 0 }
     ensures value { result ≡ (cut_tape image.now work.old tape.now c (λ l. get_or left.old l 0)).answer }
     ensures work_after { work.new ≡ (cut_tape image.now work.old tape.now c (λ l. get_or left.old l 0)).work }
 {
-    match judge(flushes, tape, image.len(), c) {
-        Judged::Bad => Answer::Refused(Refusal::of(Refusal::BAD_TAPE)),
-        Judged::Good(count, fence) => {
-            if count < c {
-                return Answer::Refused(Refusal::of(Refusal::PAST_END));
-            }
-            codec::copy_all(work, image);
-            replay(work, left, flushes, fence, tape, c);
-            Answer::Accepted
-        }
+    let Some(found) = judge(flushes, tape, image.len(), c) else {
+        return Err(Refusal::of(Cause::BadTape));
+    };
+    if found.count < c {
+        return Err(Refusal::of(Cause::PastEnd));
     }
+    codec::copy_all(work, image);
+    replay(work, left, flushes, found.fence, tape, c);
+    Ok(())
 }
 
 // The same, with room for the lines of any image.
-fn cut_large(image: &[u8], work: &mut [u8], tape: &[u8], c: usize, choices: &[u8]) -> Answer
+fn cut_large(image: &[u8], work: &mut [u8], tape: &[u8], c: usize, choices: &[u8]) -> Result<(), Refusal>
     requires { (length image.now ≤ 65536) × (length work.old ≡ length image.now) × (length choices.now ≡ length image.now / 64) }
     ensures value { result ≡ (cut_tape image.now work.old tape.now c (λ l. get_or choices.now l 0)).answer }
     ensures work_after { work.new ≡ (cut_tape image.now work.old tape.now c (λ l. get_or choices.now l 0)).work }
@@ -388,7 +364,7 @@ fn cut_large(image: &[u8], work: &mut [u8], tape: &[u8], c: usize, choices: &[u8
 }
 
 // The same, with room for the lines of the smallest image, which it takes less time to clear.
-fn cut_small(image: &[u8], work: &mut [u8], tape: &[u8], c: usize, choices: &[u8]) -> Answer
+fn cut_small(image: &[u8], work: &mut [u8], tape: &[u8], c: usize, choices: &[u8]) -> Result<(), Refusal>
     requires { (length image.now ≡ 8192) × (length work.old ≡ length image.now) × (length choices.now ≡ length image.now / 64) }
     ensures value { result ≡ (cut_tape image.now work.old tape.now c (λ l. get_or choices.now l 0)).answer }
     ensures work_after { work.new ≡ (cut_tape image.now work.old tape.now c (λ l. get_or choices.now l 0)).work }
@@ -400,19 +376,19 @@ fn cut_small(image: &[u8], work: &mut [u8], tape: &[u8], c: usize, choices: &[u8
 }
 
 // The image that a cut after c commands leaves, in work: each line keeps as many of its pending stores as its choice says.
-pub fn cut(image: &[u8], work: &mut [u8], tape: &[u8], c: usize, choices: &[u8]) -> Answer
+pub fn cut(image: &[u8], work: &mut [u8], tape: &[u8], c: usize, choices: &[u8]) -> Result<(), Refusal>
     ensures value { result ≡ (cut_call image.now work.old tape.now c choices.now).answer }
     ensures work_after { work.new ≡ (cut_call image.now work.old tape.now c choices.now).work }
 {
     let n = image.len();
     if !is_image_size(n) {
-        return Answer::Refused(Refusal::of(Refusal::IMAGE_SIZE));
+        return Err(Refusal::of(Cause::ImageSize));
     }
     if work.len() != n {
-        return Answer::Refused(Refusal::of(Refusal::WORK_SIZE));
+        return Err(Refusal::of(Cause::WorkSize));
     }
     if choices.len() != n / 64 {
-        return Answer::Refused(Refusal::of(Refusal::BAD_CHOICES));
+        return Err(Refusal::of(Cause::BadChoices));
     }
     if n == 8192 {
         return cut_small(image, work, tape, c, choices);

@@ -6,7 +6,7 @@ use mathlib.Core.List.{[]}
 use native.Mathlib.Omega.{arith}
 use lib.ListN.{length, drop}
 use Rattle.device.specs.Tape.{decode, well_formed}
-use Rattle.device.specs.declared.Scan.TheVariants.{Commands}
+use Rattle.std.specs.Prelude.{Some}
 use Rattle.device.proofs.Decode.{past-at, broken-at, decode-end, well_formed-next}
 use Rattle.device.proofs.count_commands.Goals as goal
 
@@ -48,4 +48,4 @@ returns c =
     let none : decode a.n (drop l.at a.tape.now) ≡ [] = decode-end a.n l.at a.tape.now c.loop-at-test.false in
     let f : well_formed (decode a.n a.tape.now) ≡ true = sym l.invariant.2 ∙ ap well_formed none in
     let g : l.count ≡ length (decode a.n a.tape.now) = omega (arith, ap length none) in
-    rw f (ap Commands g)
+    rw f (ap Some g)

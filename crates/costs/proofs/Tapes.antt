@@ -1,5 +1,6 @@
 -- The longest tapes: stage A's and what follows it, and a recovery's; so 13 does not come where so many bytes are lent.
 -- Assumes nothing.
+use Rattle.std.specs.Prelude.{Err, Ok}
 use Prim.Native.Nat.{ℕ, ◌+◌, ◌-◌, ◌*◌, ◌≤◌, ◌<◌}
 use mathlib.Core.Path.{◌≡◌, refl, ap, ◌∙◌}
 use mathlib.Core.Logic.{◌⊎◌, inl, inr}
@@ -11,7 +12,7 @@ use lib.Dec.{eqb, leb}
 use borrow.Author.Tests.{leb-false}
 use Rattle.codec.specs.Lists.{pick}
 use Rattle.device.specs.Tape.{tape_bytes, flush_count}
-use Rattle.device.specs.Calls.{is_image_size}
+use Rattle.device.specs.Calls.{is_image_size, number_in, refusal_at}
 use Rattle.device.specs.declared.Refusal.{Refusal}
 use Rattle.image.specs.PageZero.{page_count, page_zero}
 use Rattle.image.specs.Image.{sound}
@@ -44,16 +45,14 @@ use Rattle.tape_write.proofs.LogLines.{logged-lines, logged-length}
 use Rattle.tape_write.proofs.Endings.{replay-size}
 use Rattle.tape_write.proofs.StageWords.{stage-start}
 use Rattle.tape_write.proofs.Committing.{taken-size}
-use Rattle.transaction.specs.Calls.{Result, refused_with, accepted_with, transaction_call}
+use Rattle.transaction.specs.Calls.{Called, refused_with, accepted_with, transaction_call}
 use Rattle.transaction.specs.Answers.{Answers, bad-size, bad-work, bad-image, bad-list, bad-edit, no-log, no-tape, accepted}
-use Rattle.transaction.specs.declared.Transacted.TheVariants as transactions
 use Rattle.transaction.proofs.Answers.{refused-is, call-answers}
 use Rattle.transaction.proofs.Joining.{images}
 use Rattle.transaction.proofs.Demand2.{acceptance, was-sound, target, target-edited, answer-is}
 use Rattle.recovery.specs.Calls.{recover_call}
 use Rattle.recovery.specs.Calls as recoveries
 use Rattle.recovery.specs.declared.Redone.{Redone}
-use Rattle.recovery.specs.declared.Recovered.TheVariants as answers
 use Rattle.costs.specs.Tapes.{tape_most, TapeUsed, TapeSuffices, redo_most, RedoUsed, RedoSuffices}
 use Rattle.costs.proofs.Lines.{stage-most}
 
@@ -94,12 +93,12 @@ tape-used way a work tape bytes c e =
     omega (arith, used, tape-most way a w (was-sound way a work tape bytes c e) (target-edited way a work tape bytes c e) (acceptance way a work tape bytes c e).few)
 
 -- the refusals before it have other numbers
-check-other : (a : List ℕ) (r : Refusal) → NotOpened a r ⊎ (record { number = 4; edit = 0 } ≡ r) → r.number ≡ 13 → ⊥
+check-other : (a : List ℕ) (r : Refusal) → NotOpened a r ⊎ ((refusal_at 4 0) ≡ r) → (number_in r) ≡ 13 → ⊥
 check-other a _ (inl (image.bad-size s)) e = omega arith
 check-other a _ (inl (image.wrong-zero s z)) e = omega arith
 check-other a _ (inl (image.mark-waits s k root z)) e = omega arith
 check-other a _ (inl (image.bad-index s root z i)) e = omega arith
-check-other a r (inr four) e = omega (arith, ap (λ (x : Refusal). x.number) four)
+check-other a r (inr four) e = omega (arith, ap (λ (x : Refusal). number_in x) four)
 
 list-other : (k : ℕ) → ((5 ≤ k) × (k ≤ 7)) ⊎ (k ≡ 19) → k ≡ 13 → ⊥
 list-other k (inl h) e = omega (arith, h.1)
@@ -109,13 +108,13 @@ pub tape-suffices : TapeSuffices
 unfolding accepted_with
 tape-suffices way a work tape bytes long r e thirteen = go (transaction_call way a work tape bytes) (call-answers way a work tape bytes) e
   where
-    said : (n i : ℕ) (left : List ℕ) → (refused_with n i left tape).answer ≡ transactions.Refused r → n ≡ 13
-    said n i left e = ap (λ (x : Refusal). x.number) (refused-is n i left tape r e) ∙ thirteen
+    said : (n i : ℕ) (left : List ℕ) → (refused_with n i left tape).answer ≡ Err r → n ≡ 13
+    said n i left e = ap (λ (x : Refusal). number_in x) (refused-is n i left tape r e) ∙ thirteen
 
-    go : (x : Result) → Answers way a work tape bytes x → x.answer ≡ transactions.Refused r → ⊥
+    go : (x : Called) → Answers way a work tape bytes x → x.answer ≡ Err r → ⊥
     go _ (bad-size _) e = omega (arith, said 1 0 work e)
     go _ (bad-work _ _) e = omega (arith, said 2 0 work e)
-    go _ (bad-image _ _ s c) e = let z : s ≡ r = cc in check-other a s (check-refused a s c) (ap (λ (x : Refusal). x.number) z ∙ thirteen)
+    go _ (bad-image _ _ s c) e = let z : s ≡ r = cc in check-other a s (check-refused a s c) (ap (λ (x : Refusal). number_in x) z ∙ thirteen)
     go _ (bad-list _ k i f) e = list-other k (list-numbered bytes k i f) (said k i work e)
     go _ (bad-edit B es reads k i low g) e =
         let made = grounds-refuse a (check_sound a B.checked) es (list-proper bytes es reads) k i g (λ z. omega arith) in
@@ -146,7 +145,7 @@ redo-most way a (Waiting k root) e =
 
 module _ (way : Way) (a work tape : List ℕ) where
   -- what holds of the refusals but 13, of 13 where the tape is too short, and of the acceptance, holds of the call
-  recover-all : (P : recoveries.Result → Type 0) → ((n : ℕ) → n ≤ 4 → P (recoveries.refused_with n work tape)) →
+  recover-all : (P : recoveries.Called → Type 0) → ((n : ℕ) → n ≤ 4 → P (recoveries.refused_with n work tape)) →
       (length tape < length (tape_bytes (recovery_tape way a (page_zero a))) → P (recoveries.refused_with 13 a tape)) →
       P (recoveries.accepted_with (recovery_tape way a (page_zero a)) (replay_from a (page_zero a)) tape) → P (recover_call way a work tape)
   unfolding recover_call
@@ -161,7 +160,7 @@ module _ (way : Way) (a work tape : List ℕ) where
 pub redo-used : RedoUsed
 unfolding recoveries.refused_with recoveries.accepted_with
 redo-used way a work tape c =
-    recover-all way a work tape (λ (x : recoveries.Result). x.answer ≡ answers.Accepted c → c.bytes ≤ redo_most way) (λ n h e. let z : ◌≡◌ {A = ℕ} 0 1 = cc in absurd (omega arith))
+    recover-all way a work tape (λ (x : recoveries.Called). x.answer ≡ Ok c → c.bytes ≤ redo_most way) (λ n h e. let z : ◌≡◌ {A = ℕ} 0 1 = cc in absurd (omega arith))
     (λ h e. let z : ◌≡◌ {A = ℕ} 0 1 = cc in absurd (omega arith))
     (λ e. let cs = recovery_tape way a (page_zero a) in
     let z : record { bytes = length (tape_bytes cs); flushes = flush_count cs } ≡ c = cc in
@@ -170,7 +169,7 @@ redo-used way a work tape c =
 pub redo-suffices : RedoSuffices
 unfolding recoveries.refused_with recoveries.accepted_with
 redo-suffices way a work tape long r =
-    recover-all way a work tape (λ (x : recoveries.Result). x.answer ≡ answers.Refused r → r.number ≡ 13 → ⊥)
-    (λ n h e thirteen. let z : record { number = n; edit = 0 } ≡ r = cc in omega (arith, ap (λ (x : Refusal). x.number) z))
+    recover-all way a work tape (λ (x : recoveries.Called). x.answer ≡ Err r → (number_in r) ≡ 13 → ⊥)
+    (λ n h e thirteen. let z : (refusal_at n 0) ≡ r = cc in omega (arith, ap (λ (x : Refusal). number_in x) z))
     (λ short e thirteen. omega (arith, redo-most way a (page_zero a) refl))
     (λ e thirteen. let z : ◌≡◌ {A = ℕ} 0 1 = cc in omega arith)

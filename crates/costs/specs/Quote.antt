@@ -1,7 +1,7 @@
 -- "The cost of one quote" (document 02 (f) and (h)): the flushes and barriers of an accepted transaction of one edit on the line-store device. That
 -- its image is sound is part of the acceptance.
 -- Assumes nothing.
-use Rattle.std.specs.Prelude.{ℕ, ◌+◌, ◌≤◌, ◌<◌, ◌≡◌, List, [], ◌∷◌, length}
+use Rattle.std.specs.Prelude.{ℕ, ◌+◌, ◌≤◌, ◌<◌, ◌≡◌, List, [], ◌∷◌, length, Ok}
 use Rattle.device.specs.Tape.{Op, barrier_count}
 use Rattle.page.specs.Layout.{rec_of, size, read_head}
 use Rattle.page.specs.Page.{records}
@@ -14,11 +14,10 @@ use Rattle.journal.specs.Cost.{Costs}
 use Rattle.journal.specs.declared.Way.TheVariants.{ByLine}
 use Rattle.journal.specs.declared.Commit.{Commit}
 use Rattle.transaction.specs.Calls.{commands_on, transaction_call}
-use Rattle.transaction.specs.declared.Transacted.TheVariants.{Accepted}
 
 -- the transaction of a list of the one edit e is accepted with the answer c; the leaf that the key of e belongs to, as each key does to one
 pub record OneEdit (a work tape bytes : List ℕ) (e : Edit) (c : Commit) : Type 0 where
-  pub is_accepted : (transaction_call ByLine a work tape bytes).answer ≡ Accepted c
+  pub is_accepted : (transaction_call ByLine a work tape bytes).answer ≡ Ok c
   pub only : edit_list bytes ≡ listed (e ∷ [])
   pub leaf : Belongs (key_of e) (children a (root_of a))
 

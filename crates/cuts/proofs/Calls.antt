@@ -1,5 +1,6 @@
 -- The calls' definitions by their grounds, each exactly where it holds.
 -- Assumes nothing.
+use Rattle.std.specs.Prelude.{Err, Ok, Result}
 use Prim.Native.Nat.{ℕ, ◌*◌, ◌/◌, ◌%◌, ◌≤◌, ◌<◌}
 use mathlib.Core.Path.{◌≡◌, refl, sym, ap, ◌∙◌, subst}
 use mathlib.Core.Bool.{Bool, true, false, ◌&&◌}
@@ -18,8 +19,6 @@ use Rattle.cuts.specs.All.{cuts}
 use Rattle.cuts.specs.Calls.{unless, most_commands, small_tape, cuts_of, count_call, nth_of, Given, with_cut, nth_call}
 use Rattle.cuts.specs.Products.{cuts_over}
 use Rattle.cuts.specs.Says.{Small, NotSmall, bad-size, bad-tape, long-tape, CountSays, count-refused, count-given, NthSays, nth-refused, bad-choices, no-such-cut, nth-given}
-use Rattle.cuts.specs.declared.Counted.{Counted}
-use Rattle.cuts.specs.declared.Counted.TheVariants.{Number, Refused}
 use Rattle.cuts.proofs.Listed.{listed-some}
 
 -- an image is whole lines
@@ -32,18 +31,18 @@ whole-lines n e =
 
 module _ (all : List (List ℕ)) (r : ℕ) where
   -- the first number of a listed cut is its count of commands
-  pub found-cut : (c : ℕ) (bytes : List ℕ) → r < length all → get_or all r [] ≡ c ∷ bytes → nth_of all r ≡ Number c
+  pub found-cut : (c : ℕ) (bytes : List ℕ) → r < length all → get_or all r [] ≡ c ∷ bytes → nth_of all r ≡ Ok c
   unfolding nth_of unless
   found-cut c bytes h e = rw (lt-ltb r (length all) h, e)
 
-  pub no_cut : length all ≤ r → nth_of all r ≡ Refused (refusal 18)
+  pub no_cut : length all ≤ r → nth_of all r ≡ Err (refusal 18)
   unfolding nth_of unless
   no_cut h = rw (le-ltb r (length all) h)
 
   -- the answer stays, with a cut beside it or without
-  with-answer : (room : List ℕ) (a : Counted) → (with_cut all r room a).answer ≡ a
-  with-answer room (Number c) = refl
-  with-answer room (Refused k) = refl
+  with-answer : (room : List ℕ) (a : Result ℕ Refusal) → (with_cut all r room a).answer ≡ a
+  with-answer room (Ok c) = refl
+  with-answer room (Err k) = refl
 
 -- what a call is said to do, in two parts
 pub said : (call done : Given) → call ≡ done → (done.answer ≡ call.answer) × (done.choices ≡ call.choices)
@@ -52,13 +51,13 @@ said call done e = (sym (ap (λ (g : Given). g.answer) e), sym (ap (λ (g : Give
 -- ---- a small tape
 
 module _ (image tape : List ℕ) where
-  pub not-small : (k : ℕ) → NotSmall image tape k → small_tape image tape ≡ Refused (refusal k)
+  pub not-small : (k : ℕ) → NotSmall image tape k → small_tape image tape ≡ Err (refusal k)
   unfolding small_tape unless
   not-small k (bad-size a) = rw a
   not-small k (bad-tape a b) = rw (a, b)
   not-small k (long-tape a b h) = rw (a, b, lt-leb (length (decode (length image) tape)) most_commands (omega arith))
 
-  pub is-small : Small image tape → small_tape image tape ≡ Number (length (decode (length image) tape))
+  pub is-small : Small image tape → small_tape image tape ≡ Ok (length (decode (length image) tape))
   unfolding small_tape unless
   is-small s = rw (s.size, s.formed, le-leb (length (decode (length image) tape)) most_commands (omega (arith, s.few)))
 
@@ -76,26 +75,26 @@ module _ (image tape : List ℕ) where
       go true e true f true g = inl (record { size = e; formed = f; few = leb-true n 12 g })
 
   -- what the code of both calls asks first
-  pub small_is : (k : ℕ) → small_tape image tape ≡ Number k → Small image tape × (k ≡ length (decode (length image) tape))
+  pub small_is : (k : ℕ) → small_tape image tape ≡ Ok k → Small image tape × (k ≡ length (decode (length image) tape))
   small_is k e = go either
     where
       go : Small image tape ⊎ ((j : ℕ) × NotSmall image tape j) → Small image tape × (k ≡ length (decode (length image) tape))
       go (inl s) = (s, same (sym e ∙ is-small s))
         where
-          same : {i j : ℕ} → Number i ≡ Number j → i ≡ j
+          same : {i j : ℕ} → ◌≡◌ {A = Result ℕ Refusal} (Ok i) (Ok j) → i ≡ j
           same q = cc
       go (inr (j, f)) = absurd (apart (sym (not-small j f) ∙ e))
         where
-          apart : Refused (refusal j) ≡ Number k → ⊥
+          apart : ◌≡◌ {A = Result ℕ Refusal} (Err (refusal j)) (Ok k) → ⊥
           apart q = let z : ◌≡◌ {A = ℕ} 0 1 = cc in omega arith
 
   -- ---- the counting call
 
-  pub count-refuses : (r : Refusal) → small_tape image tape ≡ Refused r → count_call image tape ≡ Refused r
+  pub count-refuses : (r : Refusal) → small_tape image tape ≡ Err r → count_call image tape ≡ Err r
   unfolding count_call
   count-refuses r e = rw e
 
-  pub says-count : (a : Counted) → CountSays image tape a → count_call image tape ≡ a
+  pub says-count : (a : Result ℕ Refusal) → CountSays image tape a → count_call image tape ≡ a
   unfolding count_call
   says-count a (count-refused k f) = rw (not-small k f)
   says-count a (count-given s) = rw (is-small s)
@@ -110,7 +109,7 @@ module _ (image tape : List ℕ) where
   -- ---- the other
 
   module _ (r : ℕ) (room : List ℕ) where
-    pub nth-refuses : (k : Refusal) → small_tape image tape ≡ Refused k → nth_call image tape r room ≡ record { answer = Refused k; choices = room }
+    pub nth-refuses : (k : Refusal) → small_tape image tape ≡ Err k → nth_call image tape r room ≡ record { answer = Err k; choices = room }
     unfolding nth_call
     nth-refuses k e = rw e
 
@@ -120,7 +119,7 @@ module _ (image tape : List ℕ) where
     nth-decides s e = rw (is-small s, eq-eqb (length room) (length image / 64) e)
 
     -- the same over the room's lines
-    pub nth-over : Small image tape → length room ≡ length image / 64 → (a : Counted) → a ≡ nth_of (cuts_over (length room) tape) r →
+    pub nth-over : Small image tape → length room ≡ length image / 64 → (a : Result ℕ Refusal) → a ≡ nth_of (cuts_over (length room) tape) r →
         (a ≡ (nth_call image tape r room).answer) × ((with_cut (cuts_over (length room) tape) r room a).choices ≡ (nth_call image tape r room).choices)
     nth-over s e a h =
         let all = cuts_over (length room) tape in

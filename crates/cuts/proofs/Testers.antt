@@ -1,5 +1,6 @@
 -- What the list is for: `cut` takes each cut given, every cut is given, and whatever `cut` can leave is left by one of them.
 -- Assumes nothing.
+use Rattle.std.specs.Prelude.{Ok}
 use Prim.Native.Nat.{ℕ, zero, suc, ◌/◌, ◌≤◌, ◌<◌}
 use mathlib.Core.Path.{◌≡◌, refl, sym, ap, ◌∙◌, subst}
 use mathlib.Core.Bool.{Bool, true, false}
@@ -14,13 +15,11 @@ use Rattle.codec.specs.Lists.{pick}
 use Rattle.device.specs.Tape.{Op, decode}
 use Rattle.device.specs.Cut.{pending, cut_image}
 use Rattle.device.specs.Calls.{Ran, accepted, cut_call}
-use Rattle.device.specs.declared.Answer.TheVariants.{Accepted}
 use Rattle.device.proofs.Calls.{cut-accepts, cut-accepted}
 use Rattle.device.proofs.Pending.{Alike, cut-alike}
 use Rattle.cuts.specs.All.{pendings}
 use Rattle.cuts.specs.Calls.{Given, nth_call}
 use Rattle.cuts.specs.Says.{IsCut, Small, NthSays, nth-refused, bad-choices, no-such-cut, nth-given, Gives, Serves}
-use Rattle.cuts.specs.declared.Counted.TheVariants.{Number}
 use Rattle.cuts.proofs.Pendings.{length-pendings, get_or-pendings}
 use Rattle.cuts.proofs.Listed.{every-cut, only-cuts}
 use Rattle.cuts.proofs.Calls.{says-nth, nth-says}
@@ -28,7 +27,7 @@ use Rattle.cuts.proofs.Calls.{says-nth, nth-says}
 -- ---- `cut` accepts each one given
 
 module _ (image work tape room : List ℕ) (r c : ℕ) (same : length work ≡ length image) where
-  accepts : (g : Given) → NthSays image tape r room g → g.answer ≡ Number c → (cut_call image work tape c g.choices).answer ≡ Accepted
+  accepts : (g : Given) → NthSays image tape r room g → g.answer ≡ Ok c → (cut_call image work tape c g.choices).answer ≡ Ok tt
   accepts g (nth-refused k f) e = let z : ◌≡◌ {A = ℕ} 0 1 = cc in absurd (omega arith)
   accepts g (bad-choices s h) e = let z : ◌≡◌ {A = ℕ} 0 1 = cc in absurd (omega arith)
   accepts g (no-such-cut s n h) e = let z : ◌≡◌ {A = ℕ} 0 1 = cc in absurd (omega arith)
@@ -37,7 +36,7 @@ module _ (image work tape room : List ℕ) (r c : ℕ) (same : length work ≡ l
       let is = only-cuts (length image / 64) (decode (length image) tape) r d bytes l in
       ap (λ (x : Ran). x.answer) (cut-accepts image work tape bytes c s.size same is.per_line s.formed (omega (arith, is.within, count)))
 
-  pub given-accepted : (nth_call image tape r room).answer ≡ Number c → (cut_call image work tape c (nth_call image tape r room).choices).answer ≡ Accepted
+  pub given-accepted : (nth_call image tape r room).answer ≡ Ok c → (cut_call image work tape c (nth_call image tape r room).choices).answer ≡ Ok tt
   given-accepted = accepts (nth_call image tape r room) (nth-says image tape r room)
 
 -- ---- every cut is given
@@ -103,7 +102,7 @@ module _ (lines : ℕ) (cs : List Op) (c : ℕ) (choices : List ℕ) (bytes : le
           inl (none ∙ sym neither)
 
 -- "the image that `cut` leaves for any count and any choice bytes at all"
-pub any-cut : (image work tape choices room : List ℕ) (c : ℕ) → (cut_call image work tape c choices).answer ≡ Accepted → length (decode (length image) tape) ≤ 12 → length room ≡ length image / 64 →
+pub any-cut : (image work tape choices room : List ℕ) (c : ℕ) → (cut_call image work tape c choices).answer ≡ Ok tt → length (decode (length image) tape) ≤ 12 → length room ≡ length image / 64 →
     Serves image work tape c choices room
 any-cut image work tape choices room c e few fits =
     let lines = length image / 64 in

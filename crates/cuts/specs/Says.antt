@@ -1,13 +1,12 @@
 -- What is promised of the list of cuts, without the functions that make it (document 02 (e)).
 -- Assumes nothing.
-use Rattle.std.specs.Prelude.{ℕ, ◌≤◌, ◌<◌, ◌/◌, ◌≡◌, ◌⊎◌, true, false, List, [], ◌∷◌, length, get_or, take}
+use Rattle.std.specs.Prelude.{ℕ, ◌≤◌, ◌<◌, ◌/◌, ◌≡◌, ◌⊎◌, true, false, List, [], ◌∷◌, length, get_or, take, Err, Ok, Result}
+use Rattle.device.specs.declared.Refusal.{Refusal}
 use Rattle.device.specs.Tape.{Op, decode, well_formed}
 use Rattle.device.specs.Cut.{pending}
 use Rattle.device.specs.Calls.{refusal, is_image_size, cut_call}
 use Rattle.cuts.specs.All.{cuts}
 use Rattle.cuts.specs.Calls.{cuts_of, Given, nth_call}
-use Rattle.cuts.specs.declared.Counted.{Counted}
-use Rattle.cuts.specs.declared.Counted.TheVariants.{Number, Refused}
 
 -- ---- the list
 
@@ -48,17 +47,17 @@ pub data NotSmall (image tape : List ℕ) : ℕ → Type 0 where
   long-tape : is_image_size (length image) ≡ true → well_formed (decode (length image) tape) ≡ true → 13 ≤ length (decode (length image) tape) → NotSmall image tape 17
 
 -- what the counting call answers
-pub data CountSays (image tape : List ℕ) : Counted → Type 0 where
-  count-refused : (k : ℕ) → NotSmall image tape k → CountSays image tape (Refused (refusal k))
-  count-given : Small image tape → CountSays image tape (Number (length (cuts_of image tape)))
+pub data CountSays (image tape : List ℕ) : Result ℕ Refusal → Type 0 where
+  count-refused : (k : ℕ) → NotSmall image tape k → CountSays image tape (Err (refusal k))
+  count-given : Small image tape → CountSays image tape (Ok (length (cuts_of image tape)))
 
 -- what the other answers and leaves in the choices buffer: "then 16 for the choices buffer, then 18 if r is not below the number"
 pub data NthSays (image tape : List ℕ) (r : ℕ) (room : List ℕ) : Given → Type 0 where
-  nth-refused : (k : ℕ) → NotSmall image tape k → NthSays image tape r room (record { answer = Refused (refusal k); choices = room })
-  bad-choices : Small image tape → (length room ≡ length image / 64 → ⊥) → NthSays image tape r room (record { answer = Refused (refusal 16); choices = room })
-  no-such-cut : Small image tape → length room ≡ length image / 64 → length (cuts_of image tape) ≤ r → NthSays image tape r room (record { answer = Refused (refusal 18); choices = room })
+  nth-refused : (k : ℕ) → NotSmall image tape k → NthSays image tape r room (record { answer = Err (refusal k); choices = room })
+  bad-choices : Small image tape → (length room ≡ length image / 64 → ⊥) → NthSays image tape r room (record { answer = Err (refusal 16); choices = room })
+  no-such-cut : Small image tape → length room ≡ length image / 64 → length (cuts_of image tape) ≤ r → NthSays image tape r room (record { answer = Err (refusal 18); choices = room })
   nth-given : Small image tape → length room ≡ length image / 64 → (c : ℕ) (bytes : List ℕ) → Listed (length image / 64) (decode (length image) tape) r c bytes →
-      NthSays image tape r room (record { answer = Number c; choices = bytes })
+      NthSays image tape r room (record { answer = Ok c; choices = bytes })
 
 -- ---- what it is for
 
@@ -66,7 +65,7 @@ pub data NthSays (image tape : List ℕ) (r : ℕ) (room : List ℕ) : Given →
 pub record Gives (image tape room : List ℕ) (c : ℕ) (bytes : List ℕ) : Type 0 where
   pub number : ℕ
   pub below : number < length (cuts_of image tape)
-  pub gives : nth_call image tape number room ≡ record { answer = Number c; choices = bytes }
+  pub gives : nth_call image tape number room ≡ record { answer = Ok c; choices = bytes }
 
 -- a cut that the call gives, for which `cut` answers and leaves the same as for these choices
 pub record Serves (image work tape : List ℕ) (c : ℕ) (choices room : List ℕ) : Type 0 where

@@ -8,14 +8,7 @@ ghost use Rattle.cuts.specs.All.{choices_up_to};
 ghost use Rattle.cuts.specs.Products.{Describes, pending_after, unflushed_after, LineIn, cuts_over, ways, Names, Highest, Sought};
 ghost use Rattle.cuts.specs.Calls.{small_tape, count_call, nth_of, with_cut, nth_call};
 
-use device::{Refusal, Scan};
-
-// What the calls answer: the number of cuts, or a cut's count of commands.
-#[derive(Clone, Copy)]
-pub enum Counted {
-    Number(usize),
-    Refused(Refusal),
-}
+use device::{Cause, Refusal};
 
 // What a command does: a barrier waits for the flushes before it.
 #[derive(Clone, Copy)]
@@ -41,22 +34,20 @@ pub struct Place {
 }
 
 // The number of the tape's commands, at most 12.
-fn small_tape(image: &[u8], tape: &[u8]) -> Counted
+fn small_tape(image: &[u8], tape: &[u8]) -> Result<usize, Refusal>
     ensures { result ≡ small_tape image.now tape.now }
 {
     let n = image.len();
     if !device::is_image_size(n) {
-        return Counted::Refused(Refusal::of(Refusal::IMAGE_SIZE));
+        return Err(Refusal::of(Cause::ImageSize));
     }
-    match device::count_commands(tape, n) {
-        Scan::Broken => Counted::Refused(Refusal::of(Refusal::BAD_TAPE)),
-        Scan::Commands(count) => {
-            if 12 < count {
-                return Counted::Refused(Refusal::of(Refusal::LONG_TAPE));
-            }
-            Counted::Number(count)
-        }
+    let Some(count) = device::count_commands(tape, n) else {
+        return Err(Refusal::of(Cause::BadTape));
+    };
+    if 12 < count {
+        return Err(Refusal::of(Cause::LongTape));
     }
+    Ok(count)
 }
 
 // The command at `at` of the tape.
@@ -254,17 +245,15 @@ fn number_of_cuts(tape: &[u8], lines: usize) -> usize
 }
 
 // The number of cuts of a tape of at most 12 commands on an image.
-pub fn count_cuts(image: &[u8], tape: &[u8]) -> Counted
+pub fn count_cuts(image: &[u8], tape: &[u8]) -> Result<usize, Refusal>
     ensures { result ≡ count_call image.now tape.now }
 {
-    match small_tape(image, tape) {
-        Counted::Refused(refusal) => Counted::Refused(refusal),
-        Counted::Number(_) => Counted::Number(number_of_cuts(tape, image.len() / 64)),
-    }
+    small_tape(image, tape)?;
+    Ok(number_of_cuts(tape, image.len() / 64))
 }
 
 // Cut number r of a small tape of `count` commands, if there is one.
-fn find_cut(choices: &mut [u8], tape: &[u8], r: usize, count: usize) -> Counted
+fn find_cut(choices: &mut [u8], tape: &[u8], r: usize, count: usize) -> Result<usize, Refusal>
     requires choices_len_bound { length choices.old ≤ 1024 }
     requires tape_value { (well_formed (decode (64 * length choices.old) tape.now) ≡ true) × (length (decode (64 * length choices.old) tape.now) ≡ count) × (count ≤ 12) }
     ensures value { result ≡ nth_of (cuts_over (length choices.old) tape.now) r }
@@ -283,24 +272,20 @@ fn find_cut(choices: &mut [u8], tape: &[u8], r: usize, count: usize) -> Counted
     );
     let commands = place.commands;
     if count < commands {
-        return Counted::Refused(Refusal::of(Refusal::NO_SUCH_CUT));
+        return Err(Refusal::of(Cause::NoSuchCut));
     }
     put_choices(choices, &pending[..lines], &named[..commands], place.rest);
-    Counted::Number(commands)
+    Ok(commands)
 }
 
 // Cut number r of a tape of at most 12 commands on an image, from 0: its count of commands, and its choice bytes in `choices`.
-pub fn nth_cut(image: &[u8], tape: &[u8], r: usize, choices: &mut [u8]) -> Counted
+pub fn nth_cut(image: &[u8], tape: &[u8], r: usize, choices: &mut [u8]) -> Result<usize, Refusal>
     ensures value { result ≡ (nth_call image.now tape.now r choices.old).answer }
     ensures choices_after { choices.new ≡ (nth_call image.now tape.now r choices.old).choices }
 {
-    match small_tape(image, tape) {
-        Counted::Refused(refusal) => Counted::Refused(refusal),
-        Counted::Number(count) => {
-            if choices.len() != image.len() / 64 {
-                return Counted::Refused(Refusal::of(Refusal::BAD_CHOICES));
-            }
-            find_cut(choices, tape, r, count)
-        }
+    let count = small_tape(image, tape)?;
+    if choices.len() != image.len() / 64 {
+        return Err(Refusal::of(Cause::BadChoices));
     }
+    find_cut(choices, tape, r, count)
 }

@@ -1,10 +1,12 @@
 -- Recoveries, refused or cut: the table that a recovery would give stays, and one that completes gives it.
 -- Assumes nothing.
+use Rattle.std.specs.Prelude.{Err, Ok}
 use Prim.Native.Nat.{ℕ, ◌≤◌}
 use mathlib.Core.Path.{◌≡◌, refl, sym, ap, ◌∙◌, subst}
 use mathlib.Core.Bool.{true}
 use mathlib.Core.List.{List, [], ◌∷◌}
 use lib.ListN.{length, take}
+use Rattle.device.specs.declared.Refusal.{Refusal}
 use Rattle.codec.specs.Lists.{splice}
 use Rattle.device.specs.Tape.{decode, tape_bytes, flush_count}
 use Rattle.device.specs.Cut.{after, cut_image}
@@ -18,10 +20,8 @@ use Rattle.journal.proofs.Replay.{recovery-run, recovery-cut}
 use Rattle.journal.proofs.Fitting.{recovery-decode}
 use Rattle.journal.proofs.Stated.{front-back}
 use Rattle.transaction.specs.Calls.{commands_on}
-use Rattle.recovery.specs.Calls.{Result, accepted_with, recover_call}
+use Rattle.recovery.specs.Calls.{Called, accepted_with, recover_call}
 use Rattle.recovery.specs.declared.Redone.{Redone}
-use Rattle.recovery.specs.declared.Recovered.{Recovered}
-use Rattle.recovery.specs.declared.Recovered.TheVariants.{Accepted, Refused}
 use Rattle.durability.specs.Demand.{Attempt, cut_by, attempted, attempted_all, Allowed, AllAllowed}
 use Rattle.durability.proofs.Recovered.{only-room, accepted-tape, accepts}
 
@@ -30,12 +30,12 @@ module _ (t : List Rec) (img : List ℕ) (h : Holds t img) where
   holds-allowed way = only-room way img (holds-size img h) h.is_replayable h.is_sound
 
   -- given room, it is accepted
-  pub holds-accepted : (way : Way) (work tape : List ℕ) → length work ≡ length img → length (tape_bytes (tape_of way img)) ≤ length tape → (e : Redone) × ((recover_call way img work tape).answer ≡ Accepted e)
+  pub holds-accepted : (way : Way) (work tape : List ℕ) → length work ≡ length img → length (tape_bytes (tape_of way img)) ≤ length tape → (e : Redone) × ((recover_call way img work tape).answer ≡ Ok e)
   unfolding accepted_with
-  holds-accepted way work tape w r = (_, ap (λ (x : Result). x.answer) (accepts way img (holds-size img h) h.is_replayable h.is_sound work tape w r))
+  holds-accepted way work tape w r = (_, ap (λ (x : Called). x.answer) (accepts way img (holds-size img h) h.is_replayable h.is_sound work tape w r))
 
   -- an accepted recovery's bytes say its commands
-  pub commands-are : (way : Way) (work tape : List ℕ) (e : Redone) → (recover_call way img work tape).answer ≡ Accepted e → commands_on img e.bytes (recover_call way img work tape).tape ≡ tape_of way img
+  pub commands-are : (way : Way) (work tape : List ℕ) (e : Redone) → (recover_call way img work tape).answer ≡ Ok e → commands_on img e.bytes (recover_call way img work tape).tape ≡ tape_of way img
   commands-are way work tape e q =
       let r = accepted-tape way img (holds-size img h) h.is_replayable h.is_sound work tape e q in
       ap (λ (b : List ℕ). decode (length img) (take e.bytes b)) r.1
@@ -44,7 +44,7 @@ module _ (t : List Rec) (img : List ℕ) (h : Holds t img) where
       ∙ recovery-decode way img h
 
   -- and its answer counts their flushes
-  pub flushes-are : (way : Way) (work tape : List ℕ) (e : Redone) → (recover_call way img work tape).answer ≡ Accepted e → e.flushes ≡ flush_count (tape_of way img)
+  pub flushes-are : (way : Way) (work tape : List ℕ) (e : Redone) → (recover_call way img work tape).answer ≡ Ok e → e.flushes ≡ flush_count (tape_of way img)
   flushes-are way work tape e q = (accepted-tape way img (holds-size img h) h.is_replayable h.is_sound work tape e q).3
 
   -- refused or cut, it leaves an image that holds the same
@@ -52,13 +52,13 @@ module _ (t : List Rec) (img : List ℕ) (h : Holds t img) where
   unfolding cut_by
   attempt-holds x = go (recover_call x.way img x.work x.tape).answer refl
     where
-      go : (r : Recovered) → (recover_call x.way img x.work x.tape).answer ≡ r → Holds t (cut_by img r (recover_call x.way img x.work x.tape).tape x.stop x.choices)
-      go (Accepted e) q =
+      go : (r : Result Redone Refusal) → (recover_call x.way img x.work x.tape).answer ≡ r → Holds t (cut_by img r (recover_call x.way img x.work x.tape).tape x.stop x.choices)
+      go (Ok e) q =
           subst (Holds t) (ap (cut_image img x.choices x.stop) (sym (commands-are x.way x.work x.tape e q))) (recovery-cut x.way img x.choices x.stop h)
-      go (Refused r) q = h
+      go (Err r) q = h
 
   -- one that completes gives the sound store with the table t
-  pub completed : (way : Way) (work tape : List ℕ) (e : Redone) → (recover_call way img work tape).answer ≡ Accepted e →
+  pub completed : (way : Way) (work tape : List ℕ) (e : Redone) → (recover_call way img work tape).answer ≡ Ok e →
       (sound (after img (commands_on img e.bytes (recover_call way img work tape).tape)) ≡ true) × (table (after img (commands_on img e.bytes (recover_call way img work tape).tape)) ≡ t)
   completed way work tape e q =
       let same : after img (commands_on img e.bytes (recover_call way img work tape).tape) ≡ replay img = ap (after img) (commands-are way work tape e q) ∙ recovery-run way img h in

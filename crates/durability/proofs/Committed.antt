@@ -1,6 +1,7 @@
 -- The commit store of an accepted transaction stands on its tape where the definition of its place finds it, with its flush next and a
 -- barrier after it; and what a cut of the tape leaves, by that place.
 -- Assumes nothing.
+use Rattle.std.specs.Prelude.{Ok}
 use Prim.Native.Nat.{ℕ, suc, ◌+◌, ◌-◌, ◌≤◌}
 use mathlib.Core.Path.{◌≡◌, refl, sym, ap, ap₂, ◌∙◌, subst}
 use mathlib.Core.Logic.{inl, inr}
@@ -33,7 +34,6 @@ use Rattle.journal.proofs.Crash.{past-command, commit-live}
 use Rattle.journal.proofs.Follows.{Follows, follows-shape}
 use Rattle.journal.proofs.Taken.{taken-follows, taken-cut}
 use Rattle.journal.proofs.Fitting.{taken-fits}
-use Rattle.transaction.specs.declared.Transacted.TheVariants.{Accepted}
 use Rattle.transaction.specs.Calls.{commands_on}
 use Rattle.transaction.proofs.Demand2.{was-sound, target, target-edited, room, answer-is, commands-are}
 use Rattle.durability.specs.Demand.{Call, on_image, place_offset, store_at, commit_at, PastBarrier, CommitStands}
@@ -145,7 +145,7 @@ module _ (way : Way) (a w : List ℕ) (s : sound a ≡ true) (d : Edited a w) (r
 
 -- ---- the call
 
-module _ (a : List ℕ) (k : Call) (d : Commit) (e : (on_image a k).answer ≡ Accepted d) where
+module _ (a : List ℕ) (k : Call) (d : Commit) (e : (on_image a k).answer ≡ Ok d) where
   -- its edited image, and the transaction to it
   abbrev w : List ℕ
   w = target k.way a k.work k.tape k.edits d e

@@ -1,6 +1,7 @@
 -- Demand 3: after any list of transactions, a power failure at any command of the next accepted one, and any recoveries, the store holds
 -- exactly the transactions that it must.
 -- Assumes nothing.
+use Rattle.std.specs.Prelude.{Ok}
 use Prim.Native.Nat.{ℕ, suc, ◌+◌, ◌≤◌}
 use mathlib.Core.Path.{◌≡◌, refl, sym, ap, ap₂, ◌∙◌, subst}
 use mathlib.Core.Logic.{◌⊎◌, inl, inr}
@@ -22,7 +23,6 @@ use Rattle.edit.proofs.Counts.{ledger-count, table-last, table-next}
 use Rattle.journal.specs.declared.Commit.{Commit}
 use Rattle.journal.specs.Holds.{Holds, CutHolds}
 use Rattle.transaction.specs.Calls.{is_accepted}
-use Rattle.transaction.specs.declared.Transacted.TheVariants as transacted
 use Rattle.transaction.proofs.Demand2.{target, target-table}
 use Rattle.durability.specs.Demand.{Call, on_image, played, image_after, accepted_in, feed_of, feeds, Attempt, place_offset, commit_at, Issued, PastBarrier, commands, failed, last, history, ledger, accepted, Survives, Demand3}
 use Rattle.durability.proofs.Transactions.{accepted-feed, played-table}
@@ -49,7 +49,7 @@ module _ (a : List ℕ) (ks : List Call) (k : Call) where
   table-at-n =
       ap (λ (j : ℕ). table_at j (opened (table a)) fed_all) (sym (count-accepted a ks)) ∙ table-last (opened (table a)) (feeds a ks) (feed_of (played a ks) k ∷ [])
 
-  pub table-at-next : (d : Commit) → (on_image (played a ks) k).answer ≡ transacted.Accepted d →
+  pub table-at-next : (d : Commit) → (on_image (played a ks) k).answer ≡ Ok d →
       table_at (suc (accepted_in a ks)) (opened (table a)) fed_all ≡ apply_edits (edits_of (edit_list k.edits)) (ledger_after (opened (table a)) (feeds a ks)).table
   table-at-next d e =
       ap₂ (λ (j : ℕ) (g : Feed). table_at (suc j) (opened (table a)) (feeds a ks ++ (g ∷ []))) (sym (count-accepted a ks)) (accepted-feed (played a ks) k d e)
@@ -58,7 +58,7 @@ module _ (a : List ℕ) (ks : List Call) (k : Call) where
 -- ---- every cut
 
 module _ (a : List ℕ) (ks : List Call) (k : Call) (c : ℕ) (f : ℕ → ℕ) (xs : List Attempt) (d : Commit) (s : sound a ≡ true)
-    (e : (on_image (played a ks) k).answer ≡ transacted.Accepted d) where
+    (e : (on_image (played a ks) k).answer ≡ Ok d) where
   abbrev img : List ℕ
   img = played a ks
 

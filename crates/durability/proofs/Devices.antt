@@ -1,5 +1,6 @@
 -- The tapes without line stores are of words alone, and the two calls answer alike but for 13, and leave the same image but for log lines.
 -- Assumes nothing.
+use Rattle.std.specs.Prelude.{Err, Ok}
 use Prim.Native.Nat.{ℕ, ◌≤◌}
 use mathlib.Core.Path.{◌≡◌, refl, sym, ap, ◌∙◌, subst}
 use mathlib.Core.Logic.{◌⊎◌, inl, inr}
@@ -13,7 +14,6 @@ use Rattle.codec.proofs.Tests.{first, second}
 use Rattle.device.specs.Tape.{tape_bytes, flush_count}
 use Rattle.device.specs.Calls.{is_image_size, image_size, work_size, unsound, tape_short, refusal}
 use Rattle.device.specs.declared.Refusal.{Refusal}
-use Rattle.device.specs.declared.Answer.TheVariants as answers
 use Rattle.device.proofs.Calls.{not-accepted}
 use Rattle.image.specs.PageZero.{log_most, page_zero}
 use Rattle.image.specs.Image.{sound}
@@ -42,19 +42,17 @@ use Rattle.tree.proofs.Accepted.{edits-accepted}
 use Rattle.transaction.specs.Calls as transaction
 use Rattle.transaction.specs.Calls.{commands_on, transaction_call}
 use Rattle.transaction.specs.Answers.{Begun, Done, Answers, bad-size, bad-work, bad-image, bad-list, bad-edit, no-log, no-tape, accepted}
-use Rattle.transaction.specs.declared.Transacted.TheVariants as transacted
 use Rattle.transaction.proofs.Answers.{call-answers, answers-call}
 use Rattle.transaction.proofs.Demand2.{was-sound, target, target-edited, answer-is, commands-are, demand-2}
-use Rattle.recovery.specs.Calls.{Result, refused_with, accepted_with, recover_call}
+use Rattle.recovery.specs.Calls.{Called, refused_with, accepted_with, recover_call}
 use Rattle.recovery.specs.declared.Redone.{Redone}
-use Rattle.recovery.specs.declared.Recovered.TheVariants as recovered
 use Rattle.durability.specs.Devices.{TransactionGroups, RecoveryGroups, WordTape, TransactionWords, RecoveryWords, transaction_says, recovery_says, AtTape, Alike, refused, at-tape, BothCalls, BothRecoveries}
 use Rattle.durability.proofs.Recovered.{refused-not}
 use Rattle.durability.proofs.Attempts as attempts
 
 -- ---- the transaction without line stores
 
-module _ (a work tape bytes : List ℕ) (c : Commit) (e : (transaction_call ByWords a work tape bytes).answer ≡ transacted.Accepted c) where
+module _ (a work tape bytes : List ℕ) (c : Commit) (e : (transaction_call ByWords a work tape bytes).answer ≡ Ok c) where
   abbrev w : List ℕ
   w = target ByWords a work tape bytes c e
 
@@ -82,21 +80,21 @@ transaction-words = transaction-word
 -- ---- both transactions
 
 module _ (v u : Way) (a work s t bytes : List ℕ) where
-  abbrev R : transaction.Result
+  abbrev R : transaction.Called
   R = transaction_call v a work s bytes
 
-  abbrev Q : transaction.Result
+  abbrev Q : transaction.Called
   Q = transaction_call u a work t bytes
 
   abbrev AlikeHere : Type 0
   AlikeHere = Alike SameButLog (transaction_says R.answer) (transaction_says Q.answer) R.work Q.work
 
   -- the same ground refuses both
-  both-refused : (x : Refusal) (m : List ℕ) → R ≡ record { answer = transacted.Refused x; work = m; tape = s } → Q ≡ record { answer = transacted.Refused x; work = m; tape = t } → AlikeHere
+  both-refused : (x : Refusal) (m : List ℕ) → R ≡ record { answer = Err x; work = m; tape = s } → Q ≡ record { answer = Err x; work = m; tape = t } → AlikeHere
   unfolding transaction_says
   both-refused x m e f =
-      refused x (ap (λ (r : transaction.Result). transaction_says r.answer) e) (ap (λ (r : transaction.Result). transaction_says r.answer) f)
-      (ap (λ (r : transaction.Result). r.work) e ∙ sym (ap (λ (r : transaction.Result). r.work) f))
+      refused x (ap (λ (r : transaction.Called). transaction_says r.answer) e) (ap (λ (r : transaction.Called). transaction_says r.answer) f)
+      (ap (λ (r : transaction.Called). r.work) e ∙ sym (ap (λ (r : transaction.Called). r.work) f))
 
   -- past 12
   module _ (B : Begun a work) (es : List Edit) (st : State) (D : Done a bytes es st) (few : length (changed_pages a (edited_image a st)) ≤ 15) where
@@ -124,13 +122,13 @@ module _ (v u : Way) (a work s t bytes : List ℕ) where
     end-at way tape (inr e) = rw e refl
 
     -- accepted, work is the edited image but for log lines
-    left : (way : Way) (tape : List ℕ) → Ends way tape → transaction_says (transaction_call way a work tape bytes).answer ≡ answers.Accepted → SameButLog (transaction_call way a work tape bytes).work new
+    left : (way : Way) (tape : List ℕ) → Ends way tape → transaction_says (transaction_call way a work tape bytes).answer ≡ Ok tt → SameButLog (transaction_call way a work tape bytes).work new
     unfolding transaction_says transaction.accepted_with transaction.refused_with room_in_log
-    left way tape (inr e) h = absurd (not-accepted (refusal tape_short) (sym (ap (λ (r : transaction.Result). transaction_says r.answer) e) ∙ h))
+    left way tape (inr e) h = absurd (not-accepted (refusal tape_short) (sym (ap (λ (r : transaction.Called). transaction_says r.answer) e) ∙ h))
     left way tape (inl e) h =
         let sa = check_sound a B.checked in
         let d = edits-accepted a sa es (list-proper bytes es D.reads) st D.makes in
-        subst (λ (x : List ℕ). SameButLog x new) (sym (ap (λ (r : transaction.Result). r.work) e)) (taken-work way a new sa d (le-leb (length (changed_pages a new)) log_most few))
+        subst (λ (x : List ℕ). SameButLog x new) (sym (ap (λ (r : transaction.Called). r.work) e)) (taken-work way a new sa d (le-leb (length (changed_pages a new)) log_most few))
 
     both-at-tape : AlikeHere
     both-at-tape =
@@ -142,7 +140,7 @@ module _ (v u : Way) (a work s t bytes : List ℕ) where
   unfolding transaction.refused_with
   both-call = go R (call-answers v a work s bytes) refl
     where
-      go : (r : transaction.Result) → Answers v a work s bytes r → R ≡ r → AlikeHere
+      go : (r : transaction.Called) → Answers v a work s bytes r → R ≡ r → AlikeHere
       go _ (bad-size e) q = both-refused _ work q (answers-call u a work t bytes _ (bad-size e))
       go _ (bad-work e other) q = both-refused _ work q (answers-call u a work t bytes _ (bad-work e other))
       go _ (bad-image e same x c) q = both-refused x work q (answers-call u a work t bytes _ (bad-image e same x c))
@@ -165,11 +163,11 @@ module _ (a work : List ℕ) where
   abbrev fits : Way → List ℕ → Bool
   fits way tape = leb (length (tape_bytes (recovery_tape way a (page_zero a)))) (length tape)
 
-  abbrev on_tape : Way → List ℕ → Bool → Result
+  abbrev on_tape : Way → List ℕ → Bool → Called
   on_tape way tape b = pick b (accepted_with (recovery_tape way a (page_zero a)) (replay_from a (page_zero a)) tape) (refused_with tape_short a tape)
 
   -- by the three tests, which no device and no tape has a part in
-  abbrev decided : Way → List ℕ → Bool → Bool → Bool → Result
+  abbrev decided : Way → List ℕ → Bool → Bool → Bool → Called
   decided way tape b c d = pick b (pick c (pick d (on_tape way tape (fits way tape)) (refused_with unsound work tape)) (refused_with work_size work tape)) (refused_with image_size work tape)
 
   decides : (way : Way) (tape : List ℕ) → recover_call way a work tape ≡ decided way tape (is_image_size (length a)) (eqb (length work) (length a)) ok
@@ -177,10 +175,10 @@ module _ (a work : List ℕ) where
   decides way tape = refl
 
   -- accepted, the image can be replayed, and its replay is sound
-  accepted-holds : (way : Way) (tape : List ℕ) (e : Redone) → (recover_call way a work tape).answer ≡ recovered.Accepted e → Holds (table (replay a)) a
-  accepted-holds way tape e q = go (is_image_size (length a)) (eqb (length work) (length a)) ok refl (ap (λ (r : Result). r.answer) (sym (decides way tape)) ∙ q)
+  accepted-holds : (way : Way) (tape : List ℕ) (e : Redone) → (recover_call way a work tape).answer ≡ Ok e → Holds (table (replay a)) a
+  accepted-holds way tape e q = go (is_image_size (length a)) (eqb (length work) (length a)) ok refl (ap (λ (r : Called). r.answer) (sym (decides way tape)) ∙ q)
     where
-      go : (b c d : Bool) → ok ≡ d → (decided way tape b c d).answer ≡ recovered.Accepted e → Holds (table (replay a)) a
+      go : (b c d : Bool) → ok ≡ d → (decided way tape b c d).answer ≡ Ok e → Holds (table (replay a)) a
       go false c d z h = absurd (refused-not image_size work tape e h)
       go true false d z h = absurd (refused-not work_size work tape e h)
       go true true false z h = absurd (refused-not unsound work tape e h)
@@ -196,7 +194,7 @@ module _ (a work : List ℕ) where
   on-at way tape true = tt
   on-at way tape false = refl
 
-  on-work : (way : Way) (tape : List ℕ) (b : Bool) → recovery_says (on_tape way tape b).answer ≡ answers.Accepted → (on_tape way tape b).work ≡ replay a
+  on-work : (way : Way) (tape : List ℕ) (b : Bool) → recovery_says (on_tape way tape b).answer ≡ Ok tt → (on_tape way tape b).work ≡ replay a
   unfolding recovery_says accepted_with refused_with
   on-work way tape true h = refl
   on-work way tape false h = absurd (not-accepted (refusal tape_short) h)

@@ -1,5 +1,6 @@
 -- What a recovery answers, case by case.
 -- Assumes nothing.
+use Rattle.std.specs.Prelude.{Ok}
 use Prim.Native.Nat.{ℕ, ◌≤◌}
 use mathlib.Core.Path.{◌≡◌, refl, sym, ap, ◌∙◌}
 use mathlib.Core.Logic.{inl, inr}
@@ -16,12 +17,11 @@ use Rattle.image.specs.PageZero.{page_zero}
 use Rattle.image.specs.Image.{sound}
 use Rattle.journal.specs.Recovery.{replay_from, recovery_tape, replayable}
 use Rattle.journal.specs.declared.Way.{Way}
-use Rattle.recovery.specs.Calls.{Result, refused_with, accepted_with, recover_call}
+use Rattle.recovery.specs.Calls.{Called, refused_with, accepted_with, recover_call}
 use Rattle.recovery.specs.declared.Redone.{Redone}
-use Rattle.recovery.specs.declared.Recovered.TheVariants.{Accepted}
 use Rattle.durability.specs.Demand.{Allowed}
 
-pub refused-not : (k : ℕ) (work tape : List ℕ) (e : Redone) → (refused_with k work tape).answer ≡ Accepted e → ⊥
+pub refused-not : (k : ℕ) (work tape : List ℕ) (e : Redone) → (refused_with k work tape).answer ≡ Ok e → ⊥
 unfolding refused_with
 refused-not k work tape e q = let z : ◌≡◌ {A = ℕ} 0 1 = cc in omega arith
 
@@ -46,17 +46,17 @@ module _ (way : Way) (a : List ℕ) (size : is_image_size (length a) ≡ true) (
       go true true = tt
 
   -- accepted: the bytes used, the tape, and its flushes
-  pub accepted-tape : (work tape : List ℕ) (e : Redone) → (recover_call way a work tape).answer ≡ Accepted e →
+  pub accepted-tape : (work tape : List ℕ) (e : Redone) → (recover_call way a work tape).answer ≡ Ok e →
       (e.bytes ≡ length (tape_bytes (recovery_tape way a (page_zero a))))
       × ((recover_call way a work tape).tape ≡ splice tape 0 (tape_bytes (recovery_tape way a (page_zero a))))
       × (length (tape_bytes (recovery_tape way a (page_zero a))) ≤ length tape)
       × (e.flushes ≡ flush_count (recovery_tape way a (page_zero a)))
   unfolding accepted_with
   accepted-tape work tape e q =
-      rw (by-room work tape) (go (eqb (length work) (length a)) (leb (length (tape_bytes (recovery_tape way a (page_zero a)))) (length tape)) refl (ap (λ (r : Result). r.answer) (sym (by-room work tape)) ∙ q))
+      rw (by-room work tape) (go (eqb (length work) (length a)) (leb (length (tape_bytes (recovery_tape way a (page_zero a)))) (length tape)) refl (ap (λ (r : Called). r.answer) (sym (by-room work tape)) ∙ q))
     where
       go : (b c : Bool) → leb (length (tape_bytes (recovery_tape way a (page_zero a)))) (length tape) ≡ c →
-          (pick b (pick c (accepted_with (recovery_tape way a (page_zero a)) (replay_from a (page_zero a)) tape) (refused_with tape_short a tape)) (refused_with work_size work tape)).answer ≡ Accepted e →
+          (pick b (pick c (accepted_with (recovery_tape way a (page_zero a)) (replay_from a (page_zero a)) tape) (refused_with tape_short a tape)) (refused_with work_size work tape)).answer ≡ Ok e →
           (e.bytes ≡ length (tape_bytes (recovery_tape way a (page_zero a))))
           × ((pick b (pick c (accepted_with (recovery_tape way a (page_zero a)) (replay_from a (page_zero a)) tape) (refused_with tape_short a tape)) (refused_with work_size work tape)).tape ≡ splice tape 0 (tape_bytes (recovery_tape way a (page_zero a))))
           × (length (tape_bytes (recovery_tape way a (page_zero a))) ≤ length tape)
@@ -65,10 +65,10 @@ module _ (way : Way) (a : List ℕ) (size : is_image_size (length a) ≡ true) (
       go true false r s = absurd (refused-not tape_short a tape e s)
       go true true r s = (bytes s, refl, leb-true _ _ r, flushes s)
         where
-          bytes : (accepted_with (recovery_tape way a (page_zero a)) (replay_from a (page_zero a)) tape).answer ≡ Accepted e → e.bytes ≡ length (tape_bytes (recovery_tape way a (page_zero a)))
+          bytes : (accepted_with (recovery_tape way a (page_zero a)) (replay_from a (page_zero a)) tape).answer ≡ Ok e → e.bytes ≡ length (tape_bytes (recovery_tape way a (page_zero a)))
           bytes s = cc
 
-          flushes : (accepted_with (recovery_tape way a (page_zero a)) (replay_from a (page_zero a)) tape).answer ≡ Accepted e → e.flushes ≡ flush_count (recovery_tape way a (page_zero a))
+          flushes : (accepted_with (recovery_tape way a (page_zero a)) (replay_from a (page_zero a)) tape).answer ≡ Ok e → e.flushes ≡ flush_count (recovery_tape way a (page_zero a))
           flushes s = cc
 
   -- given a work buffer of the image's length and room on the tape, it is accepted

@@ -1,7 +1,7 @@
 -- What a store holds after any list of days, each of them transactions, a power failure in the next one, recoveries that are refused or cut,
 -- and one that completes (document 01, 'The plain ledger', and the desk's third demand).
 -- Assumes nothing.
-use Rattle.std.specs.Prelude.{ℕ, ◌+◌, ◌≡◌, Bool, true, false, List, [], ◌∷◌, ◌++◌}
+use Rattle.std.specs.Prelude.{ℕ, ◌+◌, ◌≡◌, Bool, true, false, List, [], ◌∷◌, ◌++◌, Ok}
 use Rattle.codec.specs.Lists.{pick}
 use Rattle.device.specs.Tape.{Op}
 use Rattle.device.specs.Cut.{after}
@@ -12,10 +12,8 @@ use Rattle.edit.specs.Ledger.{opened, Feed, ledger_after}
 use Rattle.journal.specs.declared.Way.{Way}
 use Rattle.journal.specs.declared.Commit.{Commit}
 use Rattle.transaction.specs.Calls.{commands_on}
-use Rattle.transaction.specs.declared.Transacted.TheVariants as transacted
 use Rattle.recovery.specs.Calls as recovery
 use Rattle.recovery.specs.declared.Redone.{Redone}
-use Rattle.recovery.specs.declared.Recovered.TheVariants as recovered
 use Rattle.durability.specs.Demand.{Call, on_image, played, accepted_in, feeds, Attempt, AllAllowed, Issued, PastBarrier, commands, failed, last}
 
 -- ---- a day
@@ -48,8 +46,8 @@ last_of a y = last a y.calls y.next y.stop y.choices y.attempts y.commit
 
 -- the day's two accepted calls answer as it says
 pub record DayRuns (a : List ℕ) (y : Day) : Type 0 where
-  pub accepts : (on_image (played a y.calls) y.next).answer ≡ transacted.Accepted y.commit
-  pub recovers : (recovery.recover_call y.way (last_of a y) y.work y.tape).answer ≡ recovered.Accepted y.redone
+  pub accepts : (on_image (played a y.calls) y.next).answer ≡ Ok y.commit
+  pub recovers : (recovery.recover_call y.way (last_of a y) y.work y.tape).answer ≡ Ok y.redone
 
 -- "An accepted call has run to the end, or completes, when its whole tape is done. It then leaves the image after its tape": the last recovery's
 unfoldable pub day_end : List ℕ → Day → List ℕ

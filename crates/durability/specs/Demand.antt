@@ -2,11 +2,12 @@
 -- ledger', and the desk's third demand). Each call is of either device (document 02 (d), "The recovered count is stated again for this device"): with
 -- line stores alone, with words alone, or mixed.
 -- Assumes nothing.
-use Rattle.std.specs.Prelude.{ℕ, suc, ◌+◌, ◌*◌, ◌≤◌, ◌<◌, ◌≡◌, ◌⊎◌, true, false, List, [], ◌∷◌, ◌++◌, length, take, drop, eqb}
+use Rattle.std.specs.Prelude.{ℕ, suc, ◌+◌, ◌*◌, ◌≤◌, ◌<◌, ◌≡◌, ◌⊎◌, true, false, List, [], ◌∷◌, ◌++◌, length, take, drop, eqb, Err, Ok, Result}
+use Rattle.device.specs.declared.Refusal.{Refusal}
 use Rattle.codec.specs.Lists.{pick}
 use Rattle.device.specs.Tape.{Op, store, flush, barrier, malformed, tape_bytes}
 use Rattle.device.specs.Cut.{after, cut_image, durable, line_of, touches}
-use Rattle.device.specs.Calls.{work_size, tape_short}
+use Rattle.device.specs.Calls.{work_size, tape_short, number_in}
 use Rattle.page.specs.Layout.{page_size}
 use Rattle.image.specs.PageZero.{page_zero}
 use Rattle.image.specs.Image.{sound}
@@ -20,12 +21,8 @@ use Rattle.journal.specs.declared.CommitPlace.TheVariants.{Header, Root, Log}
 use Rattle.journal.specs.declared.Commit.{Commit}
 use Rattle.transaction.specs.Calls as transaction
 use Rattle.transaction.specs.Calls.{commands_on}
-use Rattle.transaction.specs.declared.Transacted.{Transacted}
-use Rattle.transaction.specs.declared.Transacted.TheVariants as transacted
 use Rattle.recovery.specs.Calls as recovery
 use Rattle.recovery.specs.declared.Redone.{Redone}
-use Rattle.recovery.specs.declared.Recovered.{Recovered}
-use Rattle.recovery.specs.declared.Recovered.TheVariants as recovered
 
 -- ---- transactions, each on the image that the last left
 
@@ -37,14 +34,14 @@ pub record Call : Type 0 where
   pub edits : List ℕ
 
 -- the transaction k on the image a
-abbrev pub on_image : List ℕ → Call → transaction.Result
+abbrev pub on_image : List ℕ → Call → transaction.Called
 on_image a k = transaction.transaction_call k.way a k.work k.tape k.edits
 
 -- "An accepted call has run to the end, or completes, when its whole tape is done. It then leaves the image after its tape; ..
 -- a refused one the image it was given."
-unfoldable pub left_by : List ℕ → Transacted → List ℕ → List ℕ
-left_by a (transacted.Accepted c) tape = after a (commands_on a c.bytes tape)
-left_by a (transacted.Refused r) tape = a
+unfoldable pub left_by : List ℕ → Result Commit Refusal → List ℕ → List ℕ
+left_by a (Ok c) tape = after a (commands_on a c.bytes tape)
+left_by a (Err r) tape = a
 
 abbrev pub image_after : List ℕ → Call → List ℕ
 image_after a k = left_by a (on_image a k).answer (on_image a k).tape
@@ -126,9 +123,9 @@ pub record Attempt : Type 0 where
   pub choices : ℕ → ℕ
 
 -- "a cut one leaves what the cut keeps, a refused one the image it was given"
-unfoldable pub cut_by : List ℕ → Recovered → List ℕ → ℕ → (ℕ → ℕ) → List ℕ
-cut_by a (recovered.Accepted d) tape c f = cut_image a f c (commands_on a d.bytes tape)
-cut_by a (recovered.Refused r) tape c f = a
+unfoldable pub cut_by : List ℕ → Result Redone Refusal → List ℕ → ℕ → (ℕ → ℕ) → List ℕ
+cut_by a (Ok d) tape c f = cut_image a f c (commands_on a d.bytes tape)
+cut_by a (Err r) tape c f = a
 
 abbrev pub attempted : List ℕ → Attempt → List ℕ
 attempted a x =
@@ -140,9 +137,9 @@ attempted_all a [] = a
 attempted_all a (x ∷ xs) = attempted_all (attempted a x) xs
 
 -- "no recovery in the list is refused but with 2 or 13"
-unfoldable pub Allowed : Recovered → Type 0
-Allowed (recovered.Accepted d) = Unit {0}
-Allowed (recovered.Refused r) = (r.number ≡ work_size) ⊎ (r.number ≡ tape_short)
+unfoldable pub Allowed : Result Redone Refusal → Type 0
+Allowed (Ok d) = Unit {0}
+Allowed (Err r) = ((number_in r) ≡ work_size) ⊎ ((number_in r) ≡ tape_short)
 
 unfoldable pub AllAllowed : List ℕ → List Attempt → Type 0
 AllAllowed a [] = Unit {0}
@@ -188,13 +185,13 @@ module _ (a : List ℕ) (ks : List Call) (k : Call) (c : ℕ) (f : ℕ → ℕ) 
     pub next_only_room : (way : Way) (work tape : List ℕ) → Allowed (recovery.recover_call way last work tape).answer
     -- and with a work buffer of the image's length and room on the tape, the next one completes
     pub room_completes : (way : Way) (work tape : List ℕ) → length work ≡ length last → length (tape_bytes (recovery_tape way last (page_zero last))) ≤ length tape →
-        (e : Redone) × ((recovery.recover_call way last work tape).answer ≡ recovered.Accepted e)
+        (e : Redone) × ((recovery.recover_call way last work tape).answer ≡ Ok e)
     -- one that completes leaves a store that holds `held` transactions
-    pub completes : (way : Way) (work tape : List ℕ) (e : Redone) → (recovery.recover_call way last work tape).answer ≡ recovered.Accepted e →
+    pub completes : (way : Way) (work tape : List ℕ) (e : Redone) → (recovery.recover_call way last work tape).answer ≡ Ok e →
         HoldsCount held ledger history (after last (commands_on last e.bytes (recovery.recover_call way last work tape).tape))
 
 -- Demand 3, for every image, list, call, cut and recoveries
 abbrev pub Demand3 : Type 0
 Demand3 =
     (a : List ℕ) (ks : List Call) (k : Call) (c : ℕ) (f : ℕ → ℕ) (xs : List Attempt) (d : Commit) →
-    sound a ≡ true → (on_image (played a ks) k).answer ≡ transacted.Accepted d → Survives a ks k c f xs d
+    sound a ≡ true → (on_image (played a ks) k).answer ≡ Ok d → Survives a ks k c f xs d

@@ -1,5 +1,6 @@
 -- The laws that the judge of the edit list cites: one edit's fault read at its place in the list, and one edit more judged.
 -- Assumes nothing.
+use Rattle.std.specs.Prelude.{Err, Ok}
 use Prim.Native.Nat.{ℕ, zero, suc, ◌+◌, ◌-◌, ◌≤◌, ◌<◌}
 use mathlib.Core.Path.{◌≡◌, refl, sym, ap, ◌∙◌}
 use mathlib.Core.Bool.{Bool, true, false, ◌&&◌, ◌||◌}
@@ -11,6 +12,7 @@ use lib.ListN.{length, get_or, drop, length-drop, drop_of_length-le}
 use lib.Seq.{drop-drop, drop-cons, get_or-drop}
 use lib.Dec.{ltb, eqb}
 use borrow.Author.Tests.{lt-ltb, le-ltb, eq-eqb, ne_eqb}
+use Rattle.device.specs.Calls.{number_in, refusal_at}
 use Rattle.codec.specs.Lists.{pick, part}
 use Rattle.codec.specs.Numbers.{number}
 use Rattle.codec.proofs.Lists.{part-drop}
@@ -20,7 +22,6 @@ use Rattle.image.specs.Calls.{key_ok}
 use Rattle.edit.specs.EditList.{Edit, edits_most, head_size, kind_in, length_in, key_in, edit_in, fault_in, Listed, joined, edits_in, edit_list, listed, faulty, edits_of}
 use Rattle.edit.specs.Judged.{judged_of}
 use Rattle.edit.proofs.Reading.{faultless}
-use Rattle.edit.specs.declared.Judged.TheVariants.{Good, Faulty}
 
 -- ---- one edit, at its place in the list
 
@@ -76,7 +77,7 @@ module _ (l : List ℕ) (at : ℕ) where
 
 -- ---- the list, from an edit on
 
-pub judged-none : (l : List ℕ) → length l ≡ 0 → judged_of (edit_list l) ≡ Faulty (record { number = 5; edit = 0 })
+pub judged-none : (l : List ℕ) → length l ≡ 0 → judged_of (edit_list l) ≡ Err (refusal_at 5 0)
 unfolding judged_of edit_list
 judged-none [] e = refl
 judged-none (b ∷ l) e = absurd (omega arith)
@@ -93,17 +94,17 @@ judged-joined e (listed es) = refl
 judged-joined e (faulty k i) = refl
 
 module _ (l : List ℕ) (at : ℕ) where
-  pub judged-end : (n i : ℕ) → length l ≤ at → judged_of (edits_in n i (drop at l)) ≡ Good
+  pub judged-end : (n i : ℕ) → length l ≤ at → judged_of (edits_in n i (drop at l)) ≡ Ok tt
   unfolding judged_of edits_in
   judged-end n i h = rw (drop_of_length-le l {i = at} h) (go n)
     where
-      go : (m : ℕ) → judged_of (edits_in m i []) ≡ Good
+      go : (m : ℕ) → judged_of (edits_in m i []) ≡ Ok tt
       go zero = refl
       go (suc m) = refl
 
   module _ (more : at < length l) (n i : ℕ) where
     -- "a seventeenth"
-    pub judged-past : n ≡ 0 → judged_of (edits_in n i (drop at l)) ≡ Faulty (record { number = 5; edit = i })
+    pub judged-past : n ≡ 0 → judged_of (edits_in n i (drop at l)) ≡ Err (refusal_at 5 i)
     unfolding judged_of edits_in
     judged-past e = rw (e, drop-cons l at 0 more)
 
@@ -113,7 +114,7 @@ module _ (l : List ℕ) (at : ℕ) where
       unfolding edits_in
       step = rw (some, drop-cons l at 0 more)
 
-      pub judged-fault : (k : ℕ) → k ≡ fault_in (drop at l) → (k ≡ 0 → ⊥) → judged_of (edits_in n i (drop at l)) ≡ Faulty (record { number = k; edit = i })
+      pub judged-fault : (k : ℕ) → k ≡ fault_in (drop at l) → (k ≡ 0 → ⊥) → judged_of (edits_in n i (drop at l)) ≡ Err (refusal_at k i)
       unfolding judged_of
       judged-fault k e h = step ∙ rw (← e, ne_eqb k 0 h)
 
@@ -131,12 +132,12 @@ module _ (l : List ℕ) (at : ℕ) where
 
 -- ---- what the answer says of the list
 
-pub good-listed : (l : Listed) → judged_of l ≡ Good → l ≡ listed (edits_of l)
+pub good-listed : (l : Listed) → judged_of l ≡ Ok tt → l ≡ listed (edits_of l)
 unfolding judged_of
 good-listed (listed es) e = refl
 good-listed (faulty k i) e = let z : ◌≡◌ {A = ℕ} 0 1 = cc in absurd (omega arith)
 
-pub faulty-listed : (l : Listed) (r : Refusal) → judged_of l ≡ Faulty r → l ≡ faulty r.number r.edit
+pub faulty-listed : (l : Listed) (r : Refusal) → judged_of l ≡ Err r → l ≡ faulty (number_in r) r.edit
 unfolding judged_of
 faulty-listed (listed es) r e = let z : ◌≡◌ {A = ℕ} 0 1 = cc in absurd (omega arith)
-faulty-listed (faulty k i) r e = let z : record { number = k; edit = i } ≡ r = cc in ap (λ (x : Refusal). faulty x.number x.edit) z
+faulty-listed (faulty k i) r e = let z : (refusal_at k i) ≡ r = cc in ap (λ (x : Refusal). faulty x.number x.edit) z

@@ -1,15 +1,16 @@
 -- The key rules: the number is that of the broken rule and of no other, the first edit that is refused decides, what a table then holds for the
 -- edit's own key and for any other, and that of what is read for a key only what is found there decides.
 -- Assumes nothing.
+use Rattle.std.specs.Prelude.{Err, None, Ok, Option, Some}
 use Prim.Native.Nat.{ℕ, suc, ◌+◌, ◌≤◌}
 use mathlib.Core.Path.{◌≡◌, refl, sym, ap, ◌∙◌, subst}
 use mathlib.Core.Bool.{Bool, true, false}
 use mathlib.Core.List.{List, [], ◌∷◌, ◌++◌}
-use mathlib.Core.Option.{Option, none, some}
 use native.Mathlib.Omega.{arith}
 use lib.ListN.{length}
 use lib.Dec.{eqb}
 use borrow.Author.Tests.{ne_eqb, eqb-true, eqb-false}
+use Rattle.device.specs.Calls.{Answer, number_in, refusal_at}
 use Rattle.codec.specs.Lists.{pick, All}
 use Rattle.codec.proofs.Tests.{All-map}
 use Rattle.device.specs.declared.Refusal.{Refusal}
@@ -19,39 +20,37 @@ use Rattle.edit.specs.EditList.{Edit, insert, update, delete, key_of}
 use Rattle.edit.specs.Ledger.{apply_edit, apply_edits}
 use Rattle.edit.specs.Keys.{is_some, holds, key_rule, Source, wholly, made_in, made, made_all, key_fault, or_fault, keys_from, on_if_good, keys_read}
 use Rattle.edit.specs.Keys.{Kept, Broken, present, no-update, no-delete, KeptIn, AllKeptBy, FaultIn, untrusted, rule, FirstFault, AllKept, FirstBroken}
-use Rattle.edit.specs.declared.Judged.{Judged}
-use Rattle.edit.specs.declared.Judged.TheVariants.{Good, Faulty}
 use Rattle.edit.proofs.General.{by-test}
 use Rattle.edit.proofs.Ledger.{find-lacks, find-add-same, find-replace-same, find-without-same, find-add-other, find-replace-other, find-without-other}
 
 -- ---- whether a table holds a key
 
-pub found_some : (o : Option (List ℕ)) → (o ≡ none → ⊥) → is_some o ≡ true
-found_some none h = absurd (h refl)
-found_some (some v) h = refl
+pub found_some : (o : Option (List ℕ)) → (o ≡ None → ⊥) → is_some o ≡ true
+found_some None h = absurd (h refl)
+found_some (Some v) h = refl
 
-some-found : (o : Option (List ℕ)) → is_some o ≡ true → o ≡ none → ⊥
-some-found none h e = let z : ◌≡◌ {A = ℕ} 0 1 = cc in omega arith
-some-found (some v) h e = let z : ◌≡◌ {A = ℕ} 0 1 = cc in omega arith
+some-found : (o : Option (List ℕ)) → is_some o ≡ true → o ≡ None → ⊥
+some-found None h e = let z : ◌≡◌ {A = ℕ} 0 1 = cc in omega arith
+some-found (Some v) h e = let z : ◌≡◌ {A = ℕ} 0 1 = cc in omega arith
 
-not_some : (o : Option (List ℕ)) → is_some o ≡ false → o ≡ none
-not_some none h = refl
-not_some (some v) h = let z : ◌≡◌ {A = ℕ} 0 1 = cc in absurd (omega arith)
+not_some : (o : Option (List ℕ)) → is_some o ≡ false → o ≡ None
+not_some None h = refl
+not_some (Some v) h = let z : ◌≡◌ {A = ℕ} 0 1 = cc in absurd (omega arith)
 
 module _ (k : ℕ) (t : List Rec) where
-  pub found-holds : (find k t ≡ none → ⊥) → holds k t ≡ true
+  pub found-holds : (find k t ≡ None → ⊥) → holds k t ≡ true
   unfolding holds
   found-holds = found_some (find k t)
 
-  pub missing-holds : find k t ≡ none → holds k t ≡ false
+  pub missing-holds : find k t ≡ None → holds k t ≡ false
   unfolding holds
   missing-holds e = ap is_some e
 
-  pub holds-found : holds k t ≡ true → find k t ≡ none → ⊥
+  pub holds-found : holds k t ≡ true → find k t ≡ None → ⊥
   unfolding holds
   holds-found = some-found (find k t)
 
-  pub holds-missing : holds k t ≡ false → find k t ≡ none
+  pub holds-missing : holds k t ≡ false → find k t ≡ None
   unfolding holds
   holds-missing = not_some (find k t)
 
@@ -92,27 +91,27 @@ rule-says (delete k) t = by-test (Ruled (delete k) t) (holds k t) (λ e. kept (h
 -- ---- one edit, by what is read for its key
 
 module _ (i : ℕ) (e : Edit) where
-  pub kept-fault : (o : Option (List Rec)) → KeptIn e o → key_fault i e o ≡ Good
+  pub kept-fault : (o : Option (List Rec)) → KeptIn e o → key_fault i e o ≡ Ok tt
   unfolding key_fault
-  kept-fault none h = absurd h
-  kept-fault (some t) h = rw (kept_rule e t h)
+  kept-fault None h = absurd h
+  kept-fault (Some t) h = rw (kept_rule e t h)
 
-  in-fault : (o : Option (List Rec)) (n j : ℕ) → FaultIn e i o n j → key_fault i e o ≡ Faulty (record { number = n; edit = j })
+  in-fault : (o : Option (List Rec)) (n j : ℕ) → FaultIn e i o n j → key_fault i e o ≡ Err (refusal_at n j)
   unfolding key_fault
   in-fault _ _ _ untrusted = refl
   in-fault _ _ _ (rule t n b) = rw (broken-rule e t n b, ne_eqb n 0 (broken-some e t n b))
 
   -- what the answer says of what is read
-  abbrev pub FaultSays : Option (List Rec) → Judged → Type 0
-  FaultSays o Good = KeptIn e o
-  FaultSays o (Faulty r) = FaultIn e i o r.number r.edit
+  abbrev pub FaultSays : Option (List Rec) → Answer → Type 0
+  FaultSays o (Ok tt) = KeptIn e o
+  FaultSays o (Err r) = FaultIn e i o (number_in r) r.edit
 
   pub fault-says : (o : Option (List Rec)) → FaultSays o (key_fault i e o)
   unfolding key_fault
-  fault-says none = untrusted
-  fault-says (some t) = go (key_rule e t) (rule-says e t)
+  fault-says None = untrusted
+  fault-says (Some t) = go (key_rule e t) (rule-says e t)
     where
-      go : (n : ℕ) → Ruled e t n → FaultSays (some t) (pick (eqb n 0) Good (Faulty (record { number = n; edit = i })))
+      go : (n : ℕ) → Ruled e t n → FaultSays (Some t) (pick (eqb n 0) (Ok tt) (Err (refusal_at n i)))
       go _ (kept h) = h
       go _ (broken n b) = rw (ne_eqb n 0 (broken-some e t n b)) (rule t n b)
 
@@ -123,15 +122,15 @@ unfolding apply_edits
 kept_append [] fs t h g = g
 kept_append (e ∷ es) fs t h g = (h.0, kept_append es fs (apply_edit e t) h.1 g)
 
-pub kept-keys : (i : ℕ) (es : List Edit) (s : Source) → AllKeptBy es s → keys_from i es s ≡ Good
+pub kept-keys : (i : ℕ) (es : List Edit) (s : Source) → AllKeptBy es s → keys_from i es s ≡ Ok tt
 unfolding keys_from
 kept-keys i [] s h = refl
 kept-keys i (e ∷ es) s h = rw (kept-fault i e (s (key_of e)) h.0) (kept-keys (suc i) es (made e s) h.1)
 
 -- what the answer says of the edits es, the first of which is edit i
-abbrev KeysSay : ℕ → List Edit → Source → Judged → Type 0
-KeysSay i es s Good = AllKeptBy es s
-KeysSay i es s (Faulty r) = FirstFault i es s r.number r.edit
+abbrev KeysSay : ℕ → List Edit → Source → Answer → Type 0
+KeysSay i es s (Ok tt) = AllKeptBy es s
+KeysSay i es s (Err r) = FirstFault i es s (number_in r) r.edit
 
 fault-at-once : (i : ℕ) (e : Edit) (es : List Edit) (s : Source) (n j : ℕ) → FaultIn e i (s (key_of e)) n j → FirstFault i (e ∷ es) s n j
 fault-at-once i e es s n j h =
@@ -156,16 +155,16 @@ unfolding keys_from
 keys-say i [] s = tt
 keys-say i (e ∷ es) s = go (key_fault i e (s (key_of e))) (fault-says i e (s (key_of e))) (keys_from (suc i) es (made e s)) (keys-say (suc i) es (made e s))
   where
-    go : (a : Judged) → FaultSays i e (s (key_of e)) a → (b : Judged) → KeysSay (suc i) es (made e s) b → KeysSay i (e ∷ es) s (or_fault a b)
-    go Good h Good g = (h, g)
-    go Good h (Faulty r) g = fault-after i e es s r.number r.edit h g
-    go (Faulty r) h b g = fault-at-once i e es s r.number r.edit h
+    go : (a : Answer) → FaultSays i e (s (key_of e)) a → (b : Answer) → KeysSay (suc i) es (made e s) b → KeysSay i (e ∷ es) s (or_fault a b)
+    go (Ok tt) h (Ok tt) g = (h, g)
+    go (Ok tt) h (Err r) g = fault-after i e es s (number_in r) r.edit h g
+    go (Err r) h b g = fault-at-once i e es s (number_in r) r.edit h
 
 module _ (es : List Edit) (s : Source) where
-  pub keys_kept : keys_from 0 es s ≡ Good → AllKeptBy es s
+  pub keys_kept : keys_from 0 es s ≡ Ok tt → AllKeptBy es s
   keys_kept q = subst (KeysSay 0 es s) q (keys-say 0 es s)
 
-  pub keys-fault : (r : Refusal) → keys_from 0 es s ≡ Faulty r → FirstFault 0 es s r.number r.edit
+  pub keys-fault : (r : Refusal) → keys_from 0 es s ≡ Err r → FirstFault 0 es s (number_in r) r.edit
   keys-fault r q = subst (KeysSay 0 es s) q (keys-say 0 es s)
 
 -- edits whose rules are kept leave the rest to decide, whose numbers are higher
@@ -176,11 +175,11 @@ kept-before i (e ∷ es) fs s h =
     let q : suc i + length es ≡ i + suc (length es) = omega arith in
     rw (kept-fault i e (s (key_of e)) h.0) (kept-before (suc i) es fs (made e s) h.1 ∙ ap (λ (j : ℕ). keys_from j fs (made_all es (made e s))) q)
 
-fault-first : (i : ℕ) (e : Edit) (rest : List Edit) (s : Source) (n j : ℕ) → FaultIn e i (s (key_of e)) n j → keys_from i (e ∷ rest) s ≡ Faulty (record { number = n; edit = j })
+fault-first : (i : ℕ) (e : Edit) (rest : List Edit) (s : Source) (n j : ℕ) → FaultIn e i (s (key_of e)) n j → keys_from i (e ∷ rest) s ≡ Err (refusal_at n j)
 unfolding keys_from
 fault-first i e rest s n j h = rw (in-fault i e (s (key_of e)) n j h)
 
-pub fault-keys : (es : List Edit) (s : Source) (n j : ℕ) → FirstFault 0 es s n j → keys_from 0 es s ≡ Faulty (record { number = n; edit = j })
+pub fault-keys : (es : List Edit) (s : Source) (n j : ℕ) → FirstFault 0 es s n j → keys_from 0 es s ≡ Err (refusal_at n j)
 fault-keys es s n j f =
     let bs = f.before in
     ap (λ (l : List Edit). keys_from 0 l s) f.shape ∙ kept-before 0 bs (f.culprit ∷ f.rest) s f.kept
@@ -194,7 +193,7 @@ unfolding apply_edits
 all_made [] t = refl
 all_made (e ∷ es) t = all_made es (apply_edit e t)
 
-pub made-wholly : (es : List Edit) (t : List Rec) (k : ℕ) → made_all es (wholly t) k ≡ some (apply_edits es t)
+pub made-wholly : (es : List Edit) (t : List Rec) (k : ℕ) → made_all es (wholly t) k ≡ Some (apply_edits es t)
 made-wholly es t k = ap (λ (s : Source). s k) (all_made es t)
 
 pub first-broken : (es : List Edit) (t : List Rec) (n i : ℕ) (before : List Edit) (culprit : Edit) (rest : List Edit) → es ≡ before ++ culprit ∷ rest → i ≡ length before → AllKept before t →
@@ -208,11 +207,11 @@ first-broken es t n i before culprit rest shape place h b =
       rest = rest;
       shape = shape;
       kept = h;
-      fault = rw (made-wholly before t (key_of culprit)) (subst (λ (j : ℕ). FaultIn culprit j (some u) n i) at (rule u n b));
+      fault = rw (made-wholly before t (key_of culprit)) (subst (λ (j : ℕ). FaultIn culprit j (Some u) n i) at (rule u n b));
     }
 
 -- a table can always be trusted
-table-rule : (e : Edit) (i : ℕ) (t : List Rec) (n j : ℕ) → FaultIn e i (some t) n j → (j ≡ i) × Broken e t n
+table-rule : (e : Edit) (i : ℕ) (t : List Rec) (n j : ℕ) → FaultIn e i (Some t) n j → (j ≡ i) × Broken e t n
 table-rule e i _ _ _ (rule t n b) = (refl, b)
 
 table-broken : (i : ℕ) (es : List Edit) (t : List Rec) (n j : ℕ) (f : FirstFault i es (wholly t) n j) → (j ≡ i + length f.before) × Broken f.culprit (apply_edits f.before t) n
@@ -244,9 +243,9 @@ broken-later es fs t h n i f =
 
 -- the value that an edit gives its key, if any
 abbrev pub gives : Edit → Option (List ℕ)
-gives (insert k v) = some v
-gives (update k v) = some v
-gives (delete k) = none
+gives (insert k v) = Some v
+gives (update k v) = Some v
+gives (delete k) = None
 
 pub find-own : (e : Edit) (t : List Rec) → Kept e t → find (key_of e) (apply_edit e t) ≡ gives e
 unfolding apply_edit
@@ -264,10 +263,10 @@ find-other (delete k) j t h = find-without-other k j h t
 
 -- both cannot be trusted, or the same is found in both
 abbrev pub SameFor : ℕ → Option (List Rec) → Option (List Rec) → Type 0
-SameFor k none none = Unit {0}
-SameFor k none (some b) = ⊥
-SameFor k (some a) none = ⊥
-SameFor k (some a) (some b) = find k a ≡ find k b
+SameFor k None None = Unit {0}
+SameFor k None (Some b) = ⊥
+SameFor k (Some a) None = ⊥
+SameFor k (Some a) (Some b) = find k a ≡ find k b
 
 rule-same : (e : Edit) (a b : List Rec) → find (key_of e) a ≡ find (key_of e) b → key_rule e a ≡ key_rule e b
 unfolding key_rule holds
@@ -277,21 +276,21 @@ rule-same (delete k) a b h = rw h
 
 fault-same : (i : ℕ) (e : Edit) (o p : Option (List Rec)) → SameFor (key_of e) o p → key_fault i e o ≡ key_fault i e p
 unfolding key_fault
-fault-same i e none none h = refl
-fault-same i e none (some b) h = absurd h
-fault-same i e (some a) none h = absurd h
-fault-same i e (some a) (some b) h = rw (rule-same e a b h)
+fault-same i e None None h = refl
+fault-same i e None (Some b) h = absurd h
+fault-same i e (Some a) None h = absurd h
+fault-same i e (Some a) (Some b) h = rw (rule-same e a b h)
 
 own_same : (e : Edit) (o p : Option (List Rec)) → KeptIn e o → KeptIn e p → SameFor (key_of e) (made_in e o) (made_in e p)
-own_same e none p h g = absurd h
-own_same e (some a) none h g = absurd g
-own_same e (some a) (some b) h g = find-own e a h ∙ sym (find-own e b g)
+own_same e None p h g = absurd h
+own_same e (Some a) None h g = absurd g
+own_same e (Some a) (Some b) h g = find-own e a h ∙ sym (find-own e b g)
 
 other-same : (e : Edit) (j : ℕ) → (key_of e ≡ j → ⊥) → (o p : Option (List Rec)) → SameFor j o p → SameFor j (made_in e o) (made_in e p)
-other-same e j other none none h = tt
-other-same e j other none (some b) h = absurd h
-other-same e j other (some a) none h = absurd h
-other-same e j other (some a) (some b) h = find-other e j a other ∙ h ∙ sym (find-other e j b other)
+other-same e j other None None h = tt
+other-same e j other None (Some b) h = absurd h
+other-same e j other (Some a) None h = absurd h
+other-same e j other (Some a) (Some b) h = find-other e j a other ∙ h ∙ sym (find-other e j b other)
 
 -- an edit whose rule is kept in both leaves the same in both, for every key
 pub made-same : (e : Edit) (s t : Source) → KeptIn e (s (key_of e)) → KeptIn e (t (key_of e)) → (j : ℕ) → SameFor j (s j) (t j) → SameFor j (made e s j) (made e t j)
@@ -312,9 +311,9 @@ keys-same i (e ∷ es) s t h =
     go (key_fault i e (s (key_of e))) (fault-says i e (s (key_of e))) (key_fault i e (t (key_of e))) (fault-says i e (t (key_of e))) (fault-same i e (s (key_of e)) (t (key_of e)) h.0) h.1
     (keys-same (suc i) es (made e s) (made e t))
   where
-    go : (a : Judged) → FaultSays i e (s (key_of e)) a → (b : Judged) → FaultSays i e (t (key_of e)) b → a ≡ b → All (Alike s t) (on_if_good a (keys_read (suc i) es (made e s))) →
+    go : (a : Answer) → FaultSays i e (s (key_of e)) a → (b : Answer) → FaultSays i e (t (key_of e)) b → a ≡ b → All (Alike s t) (on_if_good a (keys_read (suc i) es (made e s))) →
         (All (Alike (made e s) (made e t)) (keys_read (suc i) es (made e s)) → keys_from (suc i) es (made e s) ≡ keys_from (suc i) es (made e t)) →
         or_fault a (keys_from (suc i) es (made e s)) ≡ or_fault b (keys_from (suc i) es (made e t))
-    go Good k Good l same rest on = on (All-map (Alike s t) (Alike (made e s) (made e t)) (λ j. made-same e s t k l j) (keys_read (suc i) es (made e s)) rest)
-    go Good k (Faulty q) l same rest on = let z : ◌≡◌ {A = ℕ} 0 1 = cc in absurd (omega arith)
-    go (Faulty r) k b l same rest on = ap (λ (x : Judged). or_fault x (keys_from (suc i) es (made e t))) same
+    go (Ok tt) k (Ok tt) l same rest on = on (All-map (Alike s t) (Alike (made e s) (made e t)) (λ j. made-same e s t k l j) (keys_read (suc i) es (made e s)) rest)
+    go (Ok tt) k (Err q) l same rest on = let z : ◌≡◌ {A = ℕ} 0 1 = cc in absurd (omega arith)
+    go (Err r) k b l same rest on = ap (λ (x : Answer). or_fault x (keys_from (suc i) es (made e t))) same

@@ -1,11 +1,11 @@
 -- The ledger's edits on a table whose keys rise: the keys go on rising, what is found changes for the edit's own key alone, and an
 -- edit of a table in three parts is made in the part that its key belongs to.
 -- Assumes nothing.
+use Rattle.std.specs.Prelude.{None, Some}
 use Prim.Native.Nat.{ℕ, suc, ◌≤◌, ◌<◌}
 use mathlib.Core.Path.{◌≡◌, refl, sym, ap, ◌∙◌, subst}
 use mathlib.Core.Bool.{Bool, true, false}
 use mathlib.Core.List.{List, [], ◌∷◌, ◌++◌}
-use mathlib.Core.Option.{none, some}
 use native.Mathlib.Omega.{arith}
 use lib.Dec.{ltb, eqb}
 use borrow.Author.Tests.{ltb-true, ltb-false, lt-ltb, le-ltb, eqb-true, eqb-false, eq-eqb, ne_eqb}
@@ -24,17 +24,17 @@ use Rattle.edit.proofs.General.{by-test}
 abbrev pub Lacks : ℕ → List Rec → Type 0
 Lacks k t = All (λ (r : Rec). r.key ≡ k → ⊥) t
 
-pub lacks-find : (k : ℕ) (t : List Rec) → Lacks k t → find k t ≡ none
+pub lacks-find : (k : ℕ) (t : List Rec) → Lacks k t → find k t ≡ None
 unfolding find
 lacks-find k [] h = refl
 lacks-find k (r ∷ t) h = rw (ne_eqb r.key k h.0) (lacks-find k t h.1)
 
-pub find-lacks : (k : ℕ) (t : List Rec) → find k t ≡ none → Lacks k t
+pub find-lacks : (k : ℕ) (t : List Rec) → find k t ≡ None → Lacks k t
 unfolding find
 find-lacks k [] e = tt
 find-lacks k (r ∷ t) e = go (eqb r.key k) refl e (find-lacks k t)
   where
-    go : (b : Bool) → eqb r.key k ≡ b → pick b (some r.value) (find k t) ≡ none → (find k t ≡ none → Lacks k t) → Lacks k (r ∷ t)
+    go : (b : Bool) → eqb r.key k ≡ b → pick b (Some r.value) (find k t) ≡ None → (find k t ≡ None → Lacks k t) → Lacks k (r ∷ t)
     go true c e f = let z : ◌≡◌ {A = ℕ} 0 1 = cc in absurd (omega arith)
     go false c e f = (eqb-false r.key k c, f e)
 
@@ -100,28 +100,28 @@ all_without P k (r ∷ t) h = by-test (All P) (eqb r.key k) (λ c. all_without P
 -- ---- what is found after an edit
 
 module _ (k : ℕ) (v : List ℕ) where
-  pub find-add-same : (t : List Rec) → Lacks k t → find k (add k v t) ≡ some v
+  pub find-add-same : (t : List Rec) → Lacks k t → find k (add k v t) ≡ Some v
   unfolding add find
   find-add-same [] h = rw (eq-eqb k k refl)
   find-add-same (r ∷ t) h =
-      by-test (λ (l : List Rec). find k l ≡ some v) (ltb k r.key) (λ c. rw (eq-eqb k k refl)) (λ c. rw (ne_eqb r.key k h.0) (find-add-same t h.1))
+      by-test (λ (l : List Rec). find k l ≡ Some v) (ltb k r.key) (λ c. rw (eq-eqb k k refl)) (λ c. rw (ne_eqb r.key k h.0) (find-add-same t h.1))
 
-  pub find-replace-same : (t : List Rec) → (find k t ≡ none → ⊥) → find k (replace k v t) ≡ some v
+  pub find-replace-same : (t : List Rec) → (find k t ≡ None → ⊥) → find k (replace k v t) ≡ Some v
   unfolding replace find
   find-replace-same [] h = absurd (h refl)
   find-replace-same (r ∷ t) h = go (eqb r.key k) refl h (find-replace-same t)
     where
-      go : (b : Bool) → eqb r.key k ≡ b → (pick b (some r.value) (find k t) ≡ none → ⊥) → ((find k t ≡ none → ⊥) → find k (replace k v t) ≡ some v) →
-          find k (pick b (rec_of k v) r ∷ replace k v t) ≡ some v
+      go : (b : Bool) → eqb r.key k ≡ b → (pick b (Some r.value) (find k t) ≡ None → ⊥) → ((find k t ≡ None → ⊥) → find k (replace k v t) ≡ Some v) →
+          find k (pick b (rec_of k v) r ∷ replace k v t) ≡ Some v
       go true c h f = rw (eq-eqb k k refl)
       go false c h f = rw c (f h)
 
-pub find-without-same : (k : ℕ) (t : List Rec) → find k (without k t) ≡ none
+pub find-without-same : (k : ℕ) (t : List Rec) → find k (without k t) ≡ None
 unfolding without find
 find-without-same k [] = refl
 find-without-same k (r ∷ t) =
     let rest = find-without-same k t in
-    by-test (λ (l : List Rec). find k l ≡ none) (eqb r.key k) (λ c. rest) (λ c. rw c rest)
+    by-test (λ (l : List Rec). find k l ≡ None) (eqb r.key k) (λ c. rest) (λ c. rw c rest)
 
 module _ (k j : ℕ) (other : k ≡ j → ⊥) where
   pub find-add-other : (v : List ℕ) (t : List Rec) → find j (add k v t) ≡ find j t
@@ -129,7 +129,7 @@ module _ (k j : ℕ) (other : k ≡ j → ⊥) where
   find-add-other v [] = rw (ne_eqb k j other)
   find-add-other v (r ∷ t) =
       by-test (λ (l : List Rec). find j l ≡ find j (r ∷ t)) (ltb k r.key) (λ c. rw (ne_eqb k j other))
-      (λ c. ap (pick (eqb r.key j) (some r.value)) (find-add-other v t))
+      (λ c. ap (pick (eqb r.key j) (Some r.value)) (find-add-other v t))
 
   pub find-replace-other : (v : List ℕ) (t : List Rec) → find j (replace k v t) ≡ find j t
   unfolding replace find
@@ -138,7 +138,7 @@ module _ (k j : ℕ) (other : k ≡ j → ⊥) where
       let rest = find-replace-other v t in
       by-test (λ (x : Rec). find j (x ∷ replace k v t) ≡ find j (r ∷ t)) (eqb r.key k)
       (λ c. rw (ne_eqb k j other, ne_eqb r.key j (λ z. other (sym (eqb-true r.key k c) ∙ z))) rest)
-      (λ c. ap (pick (eqb r.key j) (some r.value)) rest)
+      (λ c. ap (pick (eqb r.key j) (Some r.value)) rest)
 
   pub find-without-other : (t : List Rec) → find j (without k t) ≡ find j t
   unfolding without find
@@ -146,7 +146,7 @@ module _ (k j : ℕ) (other : k ≡ j → ⊥) where
   find-without-other (r ∷ t) =
       let rest = find-without-other t in
       by-test (λ (l : List Rec). find j l ≡ find j (r ∷ t)) (eqb r.key k) (λ c. rw (ne_eqb r.key j (λ z. other (sym (eqb-true r.key k c) ∙ z))) rest)
-      (λ c. ap (pick (eqb r.key j) (some r.value)) rest)
+      (λ c. ap (pick (eqb r.key j) (Some r.value)) rest)
 
 -- ---- a table in parts
 

@@ -1,10 +1,10 @@
 -- Where a search says that a key is, or would be, the ledger's edit of the key is made.
 -- Assumes nothing.
+use Rattle.std.specs.Prelude.{Err, None, Ok, Result}
 use Prim.Native.Nat.{ℕ, suc, ◌+◌, ◌≤◌, ◌<◌}
 use mathlib.Core.Path.{◌≡◌, refl, sym, ap, subst}
 use mathlib.Core.Bool.{true, false}
 use mathlib.Core.List.{List, [], ◌∷◌}
-use mathlib.Core.Option.{none}
 use native.Mathlib.Omega.{arith}
 use lib.ListN.{length, set}
 use lib.Dec.{ltb, eqb}
@@ -12,8 +12,6 @@ use borrow.Author.Tests.{ltb-true, ltb-false, lt-ltb, le-ltb, eqb-true, eqb-fals
 use Rattle.codec.specs.Lists.{insert_at, remove_at}
 use Rattle.page.specs.Layout.{Rec, rec_of}
 use Rattle.page.specs.Search.{searched}
-use Rattle.page.specs.declared.Search.{Search}
-use Rattle.page.specs.declared.Search.TheVariants.{At, Missing}
 use Rattle.image.specs.Facts.{Rising}
 use Rattle.image.specs.Table.{find}
 use Rattle.image.proofs.Rising.{rising-lo, rising-from}
@@ -24,7 +22,7 @@ use Rattle.edit.proofs.Ledger.{Lacks, above-lacks, replace-lacks, without-lacks}
 -- the n-th record of t has the key k
 pub record There (k n : ℕ) (t : List Rec) : Type 0 where
   pub inside : n < length t
-  pub found : find k t ≡ none → ⊥
+  pub found : find k t ≡ None → ⊥
   pub updated : (v : List ℕ) → set t n (rec_of k v) ≡ replace k v t
   pub deleted : remove_at n t ≡ without k t
 
@@ -35,9 +33,9 @@ pub record NotThere (k n : ℕ) (t : List Rec) : Type 0 where
   pub inserted : (v : List ℕ) → insert_at n (rec_of k v) t ≡ add k v t
 
 -- what a search that counts from i says
-abbrev Says : ℕ → ℕ → List Rec → Search → Type 0
-Says k i t (At j) = (n : ℕ) × (j ≡ i + n) × There k n t
-Says k i t (Missing j) = (n : ℕ) × (j ≡ i + n) × NotThere k n t
+abbrev Says : ℕ → ℕ → List Rec → Result ℕ ℕ → Type 0
+Says k i t (Ok j) = (n : ℕ) × (j ≡ i + n) × There k n t
+Says k i t (Err j) = (n : ℕ) × (j ≡ i + n) × NotThere k n t
 
 -- the first record is the one
 here : (k : ℕ) (r : Rec) (t : List Rec) (hi : ℕ) → r.key ≡ k → Rising (suc r.key) t hi → There k 0 (r ∷ t)
@@ -63,9 +61,9 @@ before k r t hi q h =
     }
 
 -- the first record's key is below k
-on : (k i : ℕ) (r : Rec) (t : List Rec) (s : Search) → r.key < k → Says k (i + 1) t s → Says k i (r ∷ t) s
+on : (k i : ℕ) (r : Rec) (t : List Rec) (s : Result ℕ ℕ) → r.key < k → Says k (i + 1) t s → Says k i (r ∷ t) s
 unfolding find replace without remove_at add insert_at
-on k i r t (At j) q a =
+on k i r t (Ok j) q a =
     let other : eqb r.key k ≡ false = ne_eqb r.key k (λ z. omega arith) in (
       suc a.0,
       omega (arith, a.1),
@@ -76,7 +74,7 @@ on k i r t (At j) q a =
         deleted = rw other (ap (λ (l : List Rec). r ∷ l) a.2.deleted);
       },
     )
-on k i r t (Missing j) q a = (
+on k i r t (Err j) q a = (
   suc a.0,
   omega (arith, a.1),
   record {
@@ -97,14 +95,14 @@ says k i lo (r ∷ t) hi h =
 -- ---- the search of a whole table
 
 module _ (k lo : ℕ) (t : List Rec) (hi : ℕ) (h : Rising lo t hi) (j : ℕ) where
-  pub search-there : searched k 0 t ≡ At j → There k j t
+  pub search-there : searched k 0 t ≡ Ok j → There k j t
   search-there e =
-      let a : Says k 0 t (At j) = subst (Says k 0 t) e (says k 0 lo t hi h) in
+      let a : Says k 0 t (Ok j) = subst (Says k 0 t) e (says k 0 lo t hi h) in
       let z : a.0 ≡ j = omega (arith, a.1) in
       subst (λ (n : ℕ). There k n t) z a.2
 
-  pub search-missing : searched k 0 t ≡ Missing j → NotThere k j t
+  pub search-missing : searched k 0 t ≡ Err j → NotThere k j t
   search-missing e =
-      let a : Says k 0 t (Missing j) = subst (Says k 0 t) e (says k 0 lo t hi h) in
+      let a : Says k 0 t (Err j) = subst (Says k 0 t) e (says k 0 lo t hi h) in
       let z : a.0 ≡ j = omega (arith, a.1) in
       subst (λ (n : ℕ). NotThere k n t) z a.2

@@ -1,20 +1,17 @@
 -- The key rules of edits, by the records that each edit sees: "8 insert of a key present; 9 other edit of a missing key" (document 01, 'Each call
 -- and when it says no'). They know nothing of pages: where a key is looked for is a parameter, a whole table or what is read for the key.
 -- Assumes nothing.
-use Rattle.std.specs.Prelude.{ℕ, suc, ◌+◌, ◌≡◌, Bool, true, false, List, [], ◌∷◌, ◌++◌, length, eqb}
-use Rattle.std.proofs.Math.Option.{Option, none, some}
+use Rattle.std.specs.Prelude.{ℕ, suc, ◌+◌, ◌≡◌, Bool, true, false, List, [], ◌∷◌, ◌++◌, length, eqb, Err, None, Ok, Option, Some}
 use Rattle.codec.specs.Lists.{pick}
-use Rattle.device.specs.Calls.{unsound, key_present, key_missing, refusal}
+use Rattle.device.specs.Calls.{unsound, key_present, key_missing, refusal, Answer, refusal_at}
 use Rattle.page.specs.Layout.{Rec}
 use Rattle.image.specs.Table.{find}
 use Rattle.edit.specs.EditList.{Edit, insert, update, delete, key_of}
 use Rattle.edit.specs.Ledger.{apply_edit}
-use Rattle.edit.specs.declared.Judged.{Judged}
-use Rattle.edit.specs.declared.Judged.TheVariants.{Good, Faulty}
 
 abbrev pub is_some : Option (List ℕ) → Bool
-is_some none = false
-is_some (some v) = true
+is_some None = false
+is_some (Some v) = true
 
 -- whether a table holds a key
 unfoldable pub holds : ℕ → List Rec → Bool
@@ -34,11 +31,11 @@ Source = ℕ → Option (List Rec)
 
 -- the whole of a table, for every key
 abbrev pub wholly : List Rec → Source
-wholly t k = some t
+wholly t k = Some t
 
 abbrev pub made_in : Edit → Option (List Rec) → Option (List Rec)
-made_in e none = none
-made_in e (some t) = some (apply_edit e t)
+made_in e None = None
+made_in e (Some t) = Some (apply_edit e t)
 
 -- "Each edit sees those before it": what is read for each key, with the edit made
 abbrev pub made : Edit → Source → Source
@@ -51,24 +48,24 @@ made_all (e ∷ es) s = made_all es (made e s)
 -- ---- a list of edits
 
 -- what is said of edit i, by what is read for its key: "a leaf's 4 comes just before the 8 or 9" (document 02 (b)) and has no edit number
-unfoldable pub key_fault : ℕ → Edit → Option (List Rec) → Judged
-key_fault i e none = Faulty (refusal unsound)
-key_fault i e (some t) = pick (eqb (key_rule e t) 0) Good (Faulty (record { number = key_rule e t; edit = i }))
+unfoldable pub key_fault : ℕ → Edit → Option (List Rec) → Answer
+key_fault i e None = Err (refusal unsound)
+key_fault i e (Some t) = pick (eqb (key_rule e t) 0) (Ok tt) (Err ((refusal_at (key_rule e t) i)))
 
 -- the first, or where it is good the second
-abbrev pub or_fault : Judged → Judged → Judged
-or_fault Good rest = rest
-or_fault (Faulty r) rest = Faulty r
+abbrev pub or_fault : Answer → Answer → Answer
+or_fault (Ok tt) rest = rest
+or_fault (Err r) rest = Err r
 
 -- "Then edit by edit": the first of the edits es that is refused; the first of them is edit i
-unfoldable pub keys_from : ℕ → List Edit → Source → Judged
-keys_from i [] s = Good
+unfoldable pub keys_from : ℕ → List Edit → Source → Answer
+keys_from i [] s = Ok tt
 keys_from i (e ∷ es) s = or_fault (key_fault i e (s (key_of e))) (keys_from (suc i) es (made e s))
 
 -- the keys that are looked for on the way: those of the edits up to the first that is refused
-abbrev pub on_if_good : Judged → List ℕ → List ℕ
-on_if_good Good ks = ks
-on_if_good (Faulty r) ks = []
+abbrev pub on_if_good : Answer → List ℕ → List ℕ
+on_if_good (Ok tt) ks = ks
+on_if_good (Err r) ks = []
 
 unfoldable pub keys_read : ℕ → List Edit → Source → List ℕ
 keys_read i [] s = []
@@ -78,20 +75,20 @@ keys_read i (e ∷ es) s = key_of e ∷ on_if_good (key_fault i e (s (key_of e))
 
 -- the edit's key is as its rule asks: missing for an insert, there for any other
 abbrev pub Kept : Edit → List Rec → Type 0
-Kept (insert k v) t = find k t ≡ none
-Kept (update k v) t = find k t ≡ none → ⊥
-Kept (delete k) t = find k t ≡ none → ⊥
+Kept (insert k v) t = find k t ≡ None
+Kept (update k v) t = find k t ≡ None → ⊥
+Kept (delete k) t = find k t ≡ None → ⊥
 
 -- it is not, and this number says so
 pub data Broken : Edit → List Rec → ℕ → Type 0 where
-  present : (k : ℕ) (v : List ℕ) (t : List Rec) → (find k t ≡ none → ⊥) → Broken (insert k v) t 8
-  no-update : (k : ℕ) (v : List ℕ) (t : List Rec) → find k t ≡ none → Broken (update k v) t 9
-  no-delete : (k : ℕ) (t : List Rec) → find k t ≡ none → Broken (delete k) t 9
+  present : (k : ℕ) (v : List ℕ) (t : List Rec) → (find k t ≡ None → ⊥) → Broken (insert k v) t 8
+  no-update : (k : ℕ) (v : List ℕ) (t : List Rec) → find k t ≡ None → Broken (update k v) t 9
+  no-delete : (k : ℕ) (t : List Rec) → find k t ≡ None → Broken (delete k) t 9
 
 -- the same of what is read for the edit's key: it can be trusted, and keeps the rule
 abbrev pub KeptIn : Edit → Option (List Rec) → Type 0
-KeptIn e none = ⊥
-KeptIn e (some t) = Kept e t
+KeptIn e None = ⊥
+KeptIn e (Some t) = Kept e t
 
 -- each edit's rule is kept by what those before it leave
 abbrev pub AllKeptBy : List Edit → Source → Type 0
@@ -100,8 +97,8 @@ AllKeptBy (e ∷ es) s = KeptIn e (s (key_of e)) × AllKeptBy es (made e s)
 
 -- edit i is refused by what is read for its key, with this number and edit number
 pub data FaultIn (e : Edit) (i : ℕ) : Option (List Rec) → ℕ → ℕ → Type 0 where
-  untrusted : FaultIn e i none 4 0
-  rule : (t : List Rec) (n : ℕ) → Broken e t n → FaultIn e i (some t) n i
+  untrusted : FaultIn e i None 4 0
+  rule : (t : List Rec) (n : ℕ) → Broken e t n → FaultIn e i (Some t) n i
 
 -- the first of the edits es, numbered from i on, that is refused, with its number and edit number: by what the edits before it leave
 pub record FirstFault (i : ℕ) (es : List Edit) (s : Source) (number edit : ℕ) : Type 0 where

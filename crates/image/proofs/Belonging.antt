@@ -1,11 +1,11 @@
 -- The descent comes to the leaf that the key belongs to, with that leaf's range of keys, and the end of the range belongs to the leaf after. That leaf alone answers a lookup.
 -- Assumes nothing.
+use Rattle.std.specs.Prelude.{None, Ok, Some}
 use Prim.Native.Nat.{ℕ, zero, suc, ◌+◌, ◌≤◌, ◌<◌}
 use mathlib.Core.Path.{◌≡◌, refl, sym, ap, ◌∙◌, subst}
 use mathlib.Core.Logic.{◌⊎◌, inl, inr}
 use mathlib.Core.Bool.{Bool, true, false, not}
 use mathlib.Core.List.{List, [], ◌∷◌, ◌++◌, map, append_assoc}
-use mathlib.Core.Option.{none, some}
 use native.Mathlib.Omega.{arith}
 use lib.ListN.{length, get_or, take, drop, length-map, get_or-map}
 use lib.Seq.{split_at}
@@ -25,7 +25,6 @@ use Rattle.image.specs.Route.{last_from, route}
 use Rattle.image.specs.Descent.{down, descend, leaf_for, leaf_sound}
 use Rattle.image.specs.Says.{Belongs, GoodLeaf}
 use Rattle.image.specs.declared.Place.{Place}
-use Rattle.image.specs.declared.Lookup.TheVariants.{Found, Missing}
 use Rattle.image.proofs.General.{get_or-inside, map_same, All-any, All-unmap, All-middle}
 use Rattle.image.proofs.Apart.{distinct-true}
 use Rattle.image.proofs.Rising.{From, rising_le, rising-from, rising-split}
@@ -275,7 +274,7 @@ module _ (img : List ℕ) (s : sound img ≡ true) (k : ℕ) where
   find-leaf =
       let root = root_of img in
       find-seek k (table img)
-      ∙ seek-leaf (λ (r : Rec). r) (λ (r : Rec). some r.value) none img (λ x. records (page_of img x)) (λ x. map_same (records (page_of img x))) k (height_of img root) (top_place root)
+      ∙ seek-leaf (λ (r : Rec). r) (λ (r : Rec). Some r.value) None img (λ x. records (page_of img x)) (λ x. map_same (records (page_of img x))) k (height_of img root) (top_place root)
       (sound-tree_in img s).under (omega arith)
       ∙ sym (find-seek k (records (page_of img (leaf_for img root k).page)))
 
@@ -284,6 +283,6 @@ module _ (img : List ℕ) (s : sound img ≡ true) (k : ℕ) where
   found-leaf =
       let root = root_of img in
       found-seek k (listing img)
-      ∙ seek-leaf (λ (e : Entry). e.rec) (λ (e : Entry). Found (e.at + 16) (length e.rec.value)) Missing img (λ x. page_entries img x) (λ x. recs-page img x) k (height_of img root) (top_place root)
+      ∙ seek-leaf (λ (e : Entry). e.rec) (λ (e : Entry). Ok (Some (record { offset = (e.at + 16); length = (length e.rec.value) }))) (Ok None) img (λ x. page_entries img x) (λ x. recs-page img x) k (height_of img root) (top_place root)
       (sound-tree_in img s).under (omega arith)
       ∙ sym (found-seek k (page_entries img (leaf_for img root k).page))

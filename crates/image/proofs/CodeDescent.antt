@@ -1,5 +1,6 @@
 -- One descent: the routed slot by a search of the index, the place that it leads to, and what the code knows of the leaf there.
 -- Assumes nothing.
+use Rattle.std.specs.Prelude.{Err, None, Ok, Result}
 use Prim.Native.Nat.{ℕ, zero, suc, ◌+◌, ◌-◌, ◌*◌, ◌≤◌, ◌<◌}
 use mathlib.Core.Path.{◌≡◌, refl, sym, ap, ◌∙◌}
 use mathlib.Core.Bool.{Bool, true, false}
@@ -16,8 +17,6 @@ use Rattle.page.specs.Layout.{page_size, leaf_kind, top_key, Rec, rec_of}
 use Rattle.page.specs.Page.{records, laid_out, page_ok, keys_rise, RecOk}
 use Rattle.page.specs.Operations.{page_of}
 use Rattle.page.specs.Search.{searched}
-use Rattle.page.specs.declared.Search.{Search}
-use Rattle.page.specs.declared.Search.TheVariants.{At, Missing}
 use Rattle.page.proofs.Facts.{records-ok}
 use Rattle.image.specs.PageZero.{page_count, is_page}
 use Rattle.image.specs.Image.{child_of, first_key, places, bound_ok, leaf_at}
@@ -27,8 +26,6 @@ use Rattle.image.specs.Route.{last_from, route}
 use Rattle.image.specs.Descent.{leaf_for, leaf_sound}
 use Rattle.image.specs.Calls.{index_call}
 use Rattle.image.specs.declared.Place.{Place}
-use Rattle.image.specs.declared.Root.TheVariants as roots
-use Rattle.image.specs.declared.Next.TheVariants.{Last}
 use Rattle.image.proofs.Zero.{size-true, ready-facts}
 use Rattle.image.proofs.Rising.{From, rising-from, rising-below, rise-rising}
 use Rattle.image.proofs.Soundness.{page-rising}
@@ -40,9 +37,9 @@ use Rattle.image.proofs.Read.{call-opened}
 -- ---- the routed slot
 
 -- the slot that a search tells: the key's own, or the one before its place
-abbrev pub slot_of : Search → ℕ
-slot_of (At i) = i
-slot_of (Missing i) = i - 1
+abbrev pub slot_of : Result ℕ ℕ → ℕ
+slot_of (Ok i) = i
+slot_of (Err i) = i - 1
 
 route-from : (k d i lo : ℕ) (cs : List Rec) (hi : ℕ) → Rising lo cs hi → d ≡ i - 1 → slot_of (searched k i cs) ≡ last_from k d i cs
 unfolding last_from searched
@@ -53,7 +50,7 @@ route-from k d i lo (c ∷ cs) hi s e = go (ltb c.key k) refl (eqb c.key k) refl
     later h = All-map (λ (r : Rec). suc c.key ≤ r.key) (λ (r : Rec). suc k ≤ r.key) (λ r q. omega arith) cs (rising-from (suc c.key) cs hi s.1)
 
     go : (t : Bool) → ltb c.key k ≡ t → (u : Bool) → eqb c.key k ≡ u → slot_of (searched k (suc i) cs) ≡ last_from k i (suc i) cs →
-        slot_of (pick t (searched k (i + 1) cs) (pick u (At i) (Missing i))) ≡ last_from k (pick (leb c.key k) i d) (suc i) cs
+        slot_of (pick t (searched k (i + 1) cs) (pick u (Ok i) (Err i))) ≡ last_from k (pick (leb c.key k) i d) (suc i) cs
     go true t u f r =
         let h = ltb-true c.key k t in
         rw (le-leb c.key k (omega arith), add-one) r
@@ -72,7 +69,7 @@ laid-rising p ok rise =
     rise
     (All-map RecOk (λ (r : Rec). r.key < suc top_key) (λ r o. omega (arith, o.low)) (records p) good)
 
-pub route-searched : (p : List ℕ) → laid_out p ≡ true → keys_rise (records p) ≡ true → (k : ℕ) (s : Search) → s ≡ searched k 0 (records p) → slot_of s ≡ route k (records p)
+pub route-searched : (p : List ℕ) → laid_out p ≡ true → keys_rise (records p) ≡ true → (k : ℕ) (s : Result ℕ ℕ) → s ≡ searched k 0 (records p) → slot_of s ≡ route k (records p)
 unfolding route
 route-searched p ok rise k s e = ap slot_of e ∙ route-from k 0 0 0 (records p) (suc top_key) (laid-rising p ok rise) refl
 
@@ -108,7 +105,7 @@ route-inside kind own p ok some k = (routed k 0 (records p) (suc top_key) (rec_o
 
 -- ---- the leaf that is read
 
-module _ (img : List ℕ) (root : ℕ) (e : index_call img ≡ roots.At root) where
+module _ (img : List ℕ) (root : ℕ) (e : index_call img ≡ Ok root) where
   pub index : Index img root
   index = (call-opened img root e).index
 
@@ -133,7 +130,7 @@ unfolding leaf_sound leaf_at bound_ok
 sound-page img root p h = (everything _ h).0
 
 -- "Keys are .. to 999,999,999,999"
-pub above-largest : (kind own : ℕ) (p : List ℕ) → page_ok kind own p ≡ true → (k : ℕ) → top_key ≤ k → above k (records p) ≡ Last
+pub above-largest : (kind own : ℕ) (p : List ℕ) → page_ok kind own p ≡ true → (k : ℕ) → top_key ≤ k → above k (records p) ≡ Ok None
 above-largest kind own p ok k q =
     above-none k (records p)
     (All-map (λ (r : Rec). r.key < suc top_key) (λ (r : Rec). r.key < suc k) (λ r b. omega arith) (records p)

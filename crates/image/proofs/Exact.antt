@@ -1,16 +1,17 @@
 -- What a reader can trust: a lookup answers the table's value where it stands in the image, a next key the smallest larger key,
 -- and nothing else.
 -- Assumes nothing.
+use Rattle.std.specs.Prelude.{Err, None, Ok, Option, Result, Some}
 use Prim.Native.Nat.{ℕ, suc, ◌+◌, ◌≤◌, ◌<◌}
 use mathlib.Core.Path.{◌≡◌, refl, sym, ap, ◌∙◌, subst}
 use mathlib.Core.Logic.{inl, inr}
 use mathlib.Core.Bool.{Bool, true, false}
 use mathlib.Core.List.{List, [], ◌∷◌}
-use mathlib.Core.Option.{Option, none, some, some-injective}
 use native.Mathlib.Omega.{arith}
 use lib.ListN.{length}
 use lib.Dec.{ltb, eqb}
 use borrow.Author.Tests.{ltb-true, ltb-false, eqb-true, eq-eqb, eqb-false, ne_eqb}
+use Rattle.image.specs.declared.Part.{Part}
 use Rattle.codec.specs.Lists.{part, pick, All}
 use Rattle.device.specs.declared.Refusal.{Refusal}
 use Rattle.page.specs.Layout.{Rec, rec_of}
@@ -18,10 +19,6 @@ use Rattle.page.specs.Page.{Entry, recs}
 use Rattle.image.specs.Image.{sound}
 use Rattle.image.specs.Facts.{Rising}
 use Rattle.image.specs.Table.{table, listing, find, found_in, above}
-use Rattle.image.specs.declared.Lookup.{Lookup}
-use Rattle.image.specs.declared.Lookup.TheVariants as lookups
-use Rattle.image.specs.declared.Next.{Next}
-use Rattle.image.specs.declared.Next.TheVariants as nexts
 use Rattle.image.specs.Says.{Member, Smallest, AtMost}
 use Rattle.image.proofs.Rising.{rising-from}
 use Rattle.image.proofs.Order.{recs-listing}
@@ -31,69 +28,69 @@ use Rattle.image.proofs.Values.{Listed, listing-listed}
 -- ---- lookup and table
 
 -- what a lookup's answer says of records whose values stand in the image
-abbrev pub Told : List ℕ → ℕ → List Rec → Lookup → Type 0
-Told img k rs (lookups.Found o n) = (find k rs ≡ some (part img o n)) × (length (part img o n) ≡ n) × (o + n ≤ length img)
-Told img k rs lookups.Missing = find k rs ≡ none
-Told img k rs (lookups.Refused r) = ⊥
+abbrev pub Told : List ℕ → ℕ → List Rec → Result (Option Part) Refusal → Type 0
+Told img k rs (Ok (Some (record { offset = o; length = n }))) = (find k rs ≡ Some (part img o n)) × (length (part img o n) ≡ n) × (o + n ≤ length img)
+Told img k rs (Ok None) = find k rs ≡ None
+Told img k rs (Err r) = ⊥
 
 tells : (img : List ℕ) (k : ℕ) (es : List Entry) → All (Listed img) es → Told img k (recs es) (found_in k es)
 unfolding find found_in
 tells img k [] h = refl
 tells img k (e ∷ es) h = go (eqb e.rec.key k) refl (tells img k es h.1)
   where
-    on : (a : Lookup) → eqb e.rec.key k ≡ false → Told img k (recs es) a → Told img k (recs (e ∷ es)) a
-    on (lookups.Found o n) d t = (rw d t.0, t.1, t.2)
-    on lookups.Missing d t = rw d t
-    on (lookups.Refused r) d t = t
+    on : (a : Result (Option Part) Refusal) → eqb e.rec.key k ≡ false → Told img k (recs es) a → Told img k (recs (e ∷ es)) a
+    on (Ok (Some (record { offset = o; length = n }))) d t = (rw d t.0, t.1, t.2)
+    on (Ok None) d t = rw d t
+    on (Err r) d t = t
 
     go : (t : Bool) → eqb e.rec.key k ≡ t → Told img k (recs es) (found_in k es) →
-        Told img k (recs (e ∷ es)) (pick t (lookups.Found (e.at + 16) (length e.rec.value)) (found_in k es))
-    go true d t = (rw d (ap some (sym h.0.value)), ap length h.0.value, h.0.inside)
+        Told img k (recs (e ∷ es)) (pick t (Ok (Some (record { offset = (e.at + 16); length = (length e.rec.value) }))) (found_in k es))
+    go true d t = (rw d (ap Some (sym h.0.value)), ap length h.0.value, h.0.inside)
     go false d t = on (found_in k es) d t
 
 -- entries whose values stand in the image where they say
 module _ (img : List ℕ) (k : ℕ) (es : List Entry) (h : All (Listed img) es) where
-  pub entries-tell : (a : Lookup) → found_in k es ≡ a → Told img k (recs es) a
+  pub entries-tell : (a : Result (Option Part) Refusal) → found_in k es ≡ a → Told img k (recs es) a
   entries-tell a e = subst (Told img k (recs es)) e (tells img k es h)
 
-  pub entries-answer : (r : Refusal) → found_in k es ≡ lookups.Refused r → ⊥
-  entries-answer r e = entries-tell (lookups.Refused r) e
+  pub entries-answer : (r : Refusal) → found_in k es ≡ Err r → ⊥
+  entries-answer r e = entries-tell (Err r) e
 
-  pub found-entries : (v : List ℕ) → find k (recs es) ≡ some v → (o : ℕ) × (n : ℕ) × (found_in k es ≡ lookups.Found o n) × (part img o n ≡ v)
+  pub found-entries : (v : List ℕ) → find k (recs es) ≡ Some v → (o : ℕ) × (n : ℕ) × (found_in k es ≡ Ok (Some (record { offset = o; length = n }))) × (part img o n ≡ v)
   found-entries v e = go (found_in k es) refl (tells img k es h)
     where
-      go : (a : Lookup) → found_in k es ≡ a → Told img k (recs es) a → (o : ℕ) × (n : ℕ) × (found_in k es ≡ lookups.Found o n) × (part img o n ≡ v)
-      go (lookups.Found o n) f t = (o, n, f, some-injective (part img o n) v (sym t.0 ∙ e))
-      go lookups.Missing f t = let z : ◌≡◌ {A = ℕ} 0 1 = cc (t, e) in absurd (omega arith)
-      go (lookups.Refused r) f t = absurd t
+      go : (a : Result (Option Part) Refusal) → found_in k es ≡ a → Told img k (recs es) a → (o : ℕ) × (n : ℕ) × (found_in k es ≡ Ok (Some (record { offset = o; length = n }))) × (part img o n ≡ v)
+      go (Ok (Some (record { offset = o; length = n }))) f t = (o, n, f, some-injective (part img o n) v (sym t.0 ∙ e))
+      go (Ok None) f t = let z : ◌≡◌ {A = ℕ} 0 1 = cc (t, e) in absurd (omega arith)
+      go (Err r) f t = absurd t
 
-  pub missing-entries : find k (recs es) ≡ none → found_in k es ≡ lookups.Missing
+  pub missing-entries : find k (recs es) ≡ None → found_in k es ≡ Ok None
   missing-entries e = go (found_in k es) (tells img k es h)
     where
-      go : (a : Lookup) → Told img k (recs es) a → a ≡ lookups.Missing
-      go (lookups.Found o n) t = let z : ◌≡◌ {A = ℕ} 0 1 = cc (t.0, e) in absurd (omega arith)
-      go lookups.Missing t = refl
-      go (lookups.Refused r) t = absurd t
+      go : (a : Result (Option Part) Refusal) → Told img k (recs es) a → a ≡ Ok None
+      go (Ok (Some (record { offset = o; length = n }))) t = let z : ◌≡◌ {A = ℕ} 0 1 = cc (t.0, e) in absurd (omega arith)
+      go (Ok None) t = refl
+      go (Err r) t = absurd t
 
 -- those of a sound image
 module _ (img : List ℕ) (s : sound img ≡ true) (k : ℕ) where
   by-table : find k (table img) ≡ find k (recs (listing img))
   by-table = ap (find k) (sym (recs-listing img))
 
-  pub lookup-found : (o n : ℕ) → found_in k (listing img) ≡ lookups.Found o n →
-      (find k (table img) ≡ some (part img o n)) × (length (part img o n) ≡ n) × (o + n ≤ length img)
-  lookup-found o n e = let t = entries-tell img k (listing img) (listing-listed img s) (lookups.Found o n) e in (by-table ∙ t.0, t.1, t.2)
+  pub lookup-found : (o n : ℕ) → found_in k (listing img) ≡ Ok (Some (record { offset = o; length = n })) →
+      (find k (table img) ≡ Some (part img o n)) × (length (part img o n) ≡ n) × (o + n ≤ length img)
+  lookup-found o n e = let t = entries-tell img k (listing img) (listing-listed img s) (Ok (Some (record { offset = o; length = n }))) e in (by-table ∙ t.0, t.1, t.2)
 
-  pub lookup-missing : found_in k (listing img) ≡ lookups.Missing → find k (table img) ≡ none
-  lookup-missing e = by-table ∙ entries-tell img k (listing img) (listing-listed img s) lookups.Missing e
+  pub lookup-missing : found_in k (listing img) ≡ Ok None → find k (table img) ≡ None
+  lookup-missing e = by-table ∙ entries-tell img k (listing img) (listing-listed img s) (Ok None) e
 
-  pub lookup-answers : (r : Refusal) → found_in k (listing img) ≡ lookups.Refused r → ⊥
+  pub lookup-answers : (r : Refusal) → found_in k (listing img) ≡ Err r → ⊥
   lookup-answers r e = entries-answer img k (listing img) (listing-listed img s) r e
 
-  pub found-lookup : (v : List ℕ) → find k (table img) ≡ some v → (o : ℕ) × (n : ℕ) × (found_in k (listing img) ≡ lookups.Found o n) × (part img o n ≡ v)
+  pub found-lookup : (v : List ℕ) → find k (table img) ≡ Some v → (o : ℕ) × (n : ℕ) × (found_in k (listing img) ≡ Ok (Some (record { offset = o; length = n }))) × (part img o n ≡ v)
   found-lookup v e = found-entries img k (listing img) (listing-listed img s) v (sym by-table ∙ e)
 
-  pub missing-lookup : find k (table img) ≡ none → found_in k (listing img) ≡ lookups.Missing
+  pub missing-lookup : find k (table img) ≡ None → found_in k (listing img) ≡ Ok None
   missing-lookup e = missing-entries img k (listing img) (listing-listed img s) (sym by-table ∙ e)
 
 -- ---- find and the table's records
@@ -104,19 +101,19 @@ member-all P r [] h m = absurd m
 member-all P r (x ∷ l) h (inl e) = subst P (sym e) h.0
 member-all P r (x ∷ l) h (inr m) = member-all P r l h.1 m
 
-pub find-member : (k : ℕ) (v : List ℕ) (l : List Rec) → find k l ≡ some v → Member (rec_of k v) l
+pub find-member : (k : ℕ) (v : List ℕ) (l : List Rec) → find k l ≡ Some v → Member (rec_of k v) l
 unfolding find
 find-member k v [] e = let z : ◌≡◌ {A = ℕ} 0 1 = cc in absurd (omega arith)
 find-member k v (r ∷ l) e = go (eqb r.key k) refl e (find-member k v l)
   where
-    go : (t : Bool) → eqb r.key k ≡ t → pick t (some r.value) (find k l) ≡ some v → (find k l ≡ some v → Member (rec_of k v) l) → Member (rec_of k v) (r ∷ l)
+    go : (t : Bool) → eqb r.key k ≡ t → pick t (Some r.value) (find k l) ≡ Some v → (find k l ≡ Some v → Member (rec_of k v) l) → Member (rec_of k v) (r ∷ l)
     go true c f g =
         let a : r.key ≡ k = eqb-true r.key k c in
         let b : r.value ≡ v = some-injective r.value v f in
         inl (λ i. record { key = sym a i; value = sym b i })
     go false c f g = inr (g f)
 
-pub member-find : (k : ℕ) (v : List ℕ) (lo : ℕ) (l : List Rec) (hi : ℕ) → Rising lo l hi → Member (rec_of k v) l → find k l ≡ some v
+pub member-find : (k : ℕ) (v : List ℕ) (lo : ℕ) (l : List Rec) (hi : ℕ) → Rising lo l hi → Member (rec_of k v) l → find k l ≡ Some v
 unfolding find
 member-find k v lo [] hi h m = absurd m
 member-find k v lo (r ∷ l) hi h (inl e) =
@@ -128,29 +125,29 @@ member-find k v lo (r ∷ l) hi h (inr m) =
     rw (ne_eqb r.key k (λ e. omega arith)) (member-find k v (suc r.key) l hi h.1 m)
 
 -- a key that is found nowhere, and back
-pub none-member : (k : ℕ) (l : List Rec) → find k l ≡ none → (v : List ℕ) → Member (rec_of k v) l → ⊥
+pub none-member : (k : ℕ) (l : List Rec) → find k l ≡ None → (v : List ℕ) → Member (rec_of k v) l → ⊥
 unfolding find
 none-member k [] e v m = m
 none-member k (r ∷ l) e v m = go (eqb r.key k) refl e m (none-member k l)
   where
-    go : (t : Bool) → eqb r.key k ≡ t → pick t (some r.value) (find k l) ≡ none → Member (rec_of k v) (r ∷ l) → (find k l ≡ none → (w : List ℕ) → Member (rec_of k w) l → ⊥) → ⊥
+    go : (t : Bool) → eqb r.key k ≡ t → pick t (Some r.value) (find k l) ≡ None → Member (rec_of k v) (r ∷ l) → (find k l ≡ None → (w : List ℕ) → Member (rec_of k w) l → ⊥) → ⊥
     go true c f n g = let z : ◌≡◌ {A = ℕ} 0 1 = cc in omega arith
     go false c f (inl q) g = eqb-false r.key k c (ap (λ (x : Rec). x.key) (sym q))
     go false c f (inr n) g = g f v n
 
-pub member-none : (k : ℕ) (l : List Rec) → ((v : List ℕ) → Member (rec_of k v) l → ⊥) → find k l ≡ none
+pub member-none : (k : ℕ) (l : List Rec) → ((v : List ℕ) → Member (rec_of k v) l → ⊥) → find k l ≡ None
 member-none k l h = go (find k l) refl
   where
-    go : (a : Option (List ℕ)) → find k l ≡ a → a ≡ none
-    go none e = refl
-    go (some v) e = absurd (h v (find-member k v l e))
+    go : (a : Option (List ℕ)) → find k l ≡ a → a ≡ None
+    go None e = refl
+    go (Some v) e = absurd (h v (find-member k v l e))
 
 -- ---- the smallest key above k
 
-abbrev TellsNext : ℕ → List Rec → Next → Type 0
-TellsNext k l (nexts.Key j) = Smallest k j l
-TellsNext k l nexts.Last = AtMost k l
-TellsNext k l (nexts.Refused r) = ⊥
+abbrev TellsNext : ℕ → List Rec → Result (Option ℕ) Refusal → Type 0
+TellsNext k l (Ok (Some j)) = Smallest k j l
+TellsNext k l (Ok None) = AtMost k l
+TellsNext k l (Err r) = ⊥
 
 tells-next : (k lo : ℕ) (l : List Rec) (hi : ℕ) → Rising lo l hi → TellsNext k l (above k l)
 unfolding above
@@ -160,18 +157,18 @@ tells-next k lo (x ∷ l) hi h = go (ltb k x.key) refl (tells-next k (suc x.key)
     past : (r : Rec) → Member r l → x.key < r.key
     past r m = member-all (λ (y : Rec). suc x.key ≤ y.key) r l (rising-from (suc x.key) l hi h.1) m
 
-    on : (a : Next) → x.key ≤ k → TellsNext k l a → TellsNext k (x ∷ l) a
-    on (nexts.Key j) q t = record { rec = t.rec; member = inr t.member; is = t.is; over = t.over; least = least }
+    on : (a : Result (Option ℕ) Refusal) → x.key ≤ k → TellsNext k l a → TellsNext k (x ∷ l) a
+    on (Ok (Some j)) q t = record { rec = t.rec; member = inr t.member; is = t.is; over = t.over; least = least }
       where
         least : (r : Rec) → Member r (x ∷ l) → k < r.key → j ≤ r.key
         least r (inl e) o = absurd (omega (arith, ap (λ (y : Rec). y.key) e))
         least r (inr m) o = t.least r m o
-    on nexts.Last q t = most
+    on (Ok None) q t = most
       where
         most : (r : Rec) → Member r (x ∷ l) → r.key ≤ k
         most r (inl e) = omega (arith, ap (λ (y : Rec). y.key) e)
         most r (inr m) = t r m
-    on (nexts.Refused r) q t = t
+    on (Err r) q t = t
 
     go : (t : Bool) → ltb k x.key ≡ t → TellsNext k l (above k l) → TellsNext k (x ∷ l) (above k (x ∷ l))
     go true c t =
@@ -184,29 +181,29 @@ tells-next k lo (x ∷ l) hi h = go (ltb k x.key) refl (tells-next k (suc x.key)
     go false c t = let q = ltb-false k x.key c in subst (TellsNext k (x ∷ l)) (sym (above-skip k x l q)) (on (above k l) q t)
 
 module _ (k lo : ℕ) (l : List Rec) (hi : ℕ) (h : Rising lo l hi) where
-  pub above-smallest : (j : ℕ) → above k l ≡ nexts.Key j → Smallest k j l
+  pub above-smallest : (j : ℕ) → above k l ≡ Ok (Some j) → Smallest k j l
   above-smallest j e = subst (TellsNext k l) e (tells-next k lo l hi h)
 
-  pub above_most : above k l ≡ nexts.Last → AtMost k l
+  pub above_most : above k l ≡ Ok None → AtMost k l
   above_most e = subst (TellsNext k l) e (tells-next k lo l hi h)
 
-  pub above-answers : (r : Refusal) → above k l ≡ nexts.Refused r → ⊥
+  pub above-answers : (r : Refusal) → above k l ≡ Err r → ⊥
   above-answers r e = subst (TellsNext k l) e (tells-next k lo l hi h)
 
-  pub smallest-above : (j : ℕ) → Smallest k j l → above k l ≡ nexts.Key j
+  pub smallest-above : (j : ℕ) → Smallest k j l → above k l ≡ Ok (Some j)
   smallest-above j s = go (above k l) (tells-next k lo l hi h)
     where
-      go : (a : Next) → TellsNext k l a → a ≡ nexts.Key j
-      go (nexts.Key i) t =
+      go : (a : Result (Option ℕ) Refusal) → TellsNext k l a → a ≡ Ok (Some j)
+      go (Ok (Some i)) t =
           let e : i ≡ j = omega (arith, s.least t.rec t.member (omega (arith, t.is, t.over)), t.least s.rec s.member (omega (arith, s.is, s.over)), s.is, t.is) in
-          ap nexts.Key e
-      go nexts.Last t = absurd (omega (arith, t s.rec s.member, s.is, s.over))
-      go (nexts.Refused r) t = absurd t
+          ap Ok (Some e)
+      go (Ok None) t = absurd (omega (arith, t s.rec s.member, s.is, s.over))
+      go (Err r) t = absurd t
 
-  pub most-above : AtMost k l → above k l ≡ nexts.Last
+  pub most-above : AtMost k l → above k l ≡ Ok None
   most-above m = go (above k l) (tells-next k lo l hi h)
     where
-      go : (a : Next) → TellsNext k l a → a ≡ nexts.Last
-      go (nexts.Key i) t = absurd (omega (arith, m t.rec t.member, t.is, t.over))
-      go nexts.Last t = refl
-      go (nexts.Refused r) t = absurd t
+      go : (a : Result (Option ℕ) Refusal) → TellsNext k l a → a ≡ Ok None
+      go (Ok (Some i)) t = absurd (omega (arith, m t.rec t.member, t.is, t.over))
+      go (Ok None) t = refl
+      go (Err r) t = absurd t

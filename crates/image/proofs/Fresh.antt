@@ -1,5 +1,6 @@
 -- A fresh store, as the store with one empty leaf: its pages, its length, that it is sound, and that its table is empty.
 -- Assumes nothing.
+use Rattle.std.specs.Prelude.{Err, Ok}
 use Prim.Native.Nat.{ℕ, ◌-◌, ◌*◌, ◌≤◌}
 use mathlib.Core.Path.{◌≡◌, refl, ap, ◌∙◌}
 use mathlib.Core.Logic.{inl}
@@ -9,7 +10,6 @@ use native.Mathlib.Omega.{arith}
 use lib.ListN.{length, replicate}
 use Rattle.codec.specs.Numbers.{bytes_of}
 use Rattle.device.specs.Calls.{is_image_size, refusal}
-use Rattle.device.specs.declared.Answer.TheVariants.{Accepted, Refused}
 use Rattle.page.specs.Layout.{page_size, leaf_kind, index_kind, Rec, rec_of, up8, size}
 use Rattle.page.specs.Page.{entries}
 use Rattle.page.specs.Operations.{fill, placed, sizes, page_of, put_page}
@@ -100,11 +100,11 @@ fresh-made n h b c d eb ec ed = ed ∙ stored-made n no_records empty-storable h
 
 -- ---- format
 
-pub format-accepted : (img : List ℕ) → is_image_size (length img) ≡ true → format_call img ≡ record { answer = Accepted; image = fresh (page_count img) }
+pub format-accepted : (img : List ℕ) → is_image_size (length img) ≡ true → format_call img ≡ record { answer = Ok tt; image = fresh (page_count img) }
 unfolding format_call
 format-accepted img s = rw s
 
-pub format-refused : (img : List ℕ) → is_image_size (length img) ≡ false → format_call img ≡ record { answer = Refused (refusal 1); image = img }
+pub format-refused : (img : List ℕ) → is_image_size (length img) ≡ false → format_call img ≡ record { answer = Err (refusal 1); image = img }
 unfolding format_call
 format-refused img s = rw s
 

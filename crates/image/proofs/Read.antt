@@ -1,15 +1,16 @@
 -- What the definitions of the reading calls come to, by whether page 0 and the index open, and whether the leaf that is read is sound.
 -- Assumes nothing.
+use Rattle.std.specs.Prelude.{Err, None, Ok, Option, Result, Some}
 use Prim.Native.Nat.{ℕ}
 use mathlib.Core.Path.{◌≡◌, refl, sym, ap, ◌∙◌, subst}
 use mathlib.Core.Logic.{◌⊎◌, inl, inr}
 use mathlib.Core.Bool.{Bool, true, false, true≢false}
 use mathlib.Core.List.{List, [], ◌∷◌, ◌++◌}
-use mathlib.Core.Option.{none, some}
 use native.Mathlib.Omega.{arith}
 use lib.ListN.{length}
 use lib.Dec.{leb}
 use borrow.Author.Tests.{le-leb}
+use Rattle.image.specs.declared.Part.{Part}
 use Rattle.codec.specs.Lists.{pick}
 use Rattle.codec.proofs.Tests.{not-true}
 use Rattle.device.specs.Calls.{is_image_size, refusal}
@@ -27,12 +28,6 @@ use Rattle.image.specs.Says.{Opened, NotOpened, bad-size, wrong-zero, mark-waits
 use Rattle.image.specs.declared.PageZero.{PageZero}
 use Rattle.image.specs.declared.PageZero.TheVariants.{Wrong, Waiting, Ready}
 use Rattle.image.specs.declared.Place.{Place}
-use Rattle.image.specs.declared.Root.{Root}
-use Rattle.image.specs.declared.Root.TheVariants as roots
-use Rattle.image.specs.declared.Lookup.{Lookup}
-use Rattle.image.specs.declared.Lookup.TheVariants as lookups
-use Rattle.image.specs.declared.Next.{Next}
-use Rattle.image.specs.declared.Next.TheVariants as nexts
 use Rattle.image.proofs.Zero.{ready-facts}
 use Rattle.image.proofs.Soundness.{index-facts, facts-index}
 use Rattle.image.proofs.Belonging.{leaf-is, belongs, leaf-good, good-leaf, belongs-after, below-after, below_key, below_none}
@@ -40,9 +35,9 @@ use Rattle.image.proofs.Belonging.{leaf-is, belongs, leaf-good, good-leaf, belon
 -- ---- page 0 and the index
 
 -- what is said of page 0 and the index
-abbrev pub OpeningSays : List ℕ → Root → Type 0
-OpeningSays img (roots.At root) = Opened img root
-OpeningSays img (roots.Refused r) = NotOpened img r
+abbrev pub OpeningSays : List ℕ → Result ℕ Refusal → Type 0
+OpeningSays img (Ok root) = Opened img root
+OpeningSays img (Err r) = NotOpened img r
 
 module _ (img : List ℕ) where
   pub opening-says : OpeningSays img (index_call img)
@@ -50,21 +45,21 @@ module _ (img : List ℕ) where
   opening-says = go (is_image_size (length img)) refl (page_zero img) refl
     where
       tree : (root : ℕ) → is_image_size (length img) ≡ true → page_zero img ≡ Ready root → (t : Bool) → index_ok img root ≡ t →
-          OpeningSays img (pick t (roots.At root) (roots.Refused (refusal 4)))
+          OpeningSays img (pick t (Ok root) (Err (refusal 4)))
       tree root s z true e = record { size = s; zero = z; index = index-facts img root e }
       tree root s z false e = bad-index s root z (λ k. true≢false (sym (facts-index img root k) ∙ e))
 
-      go : (a : Bool) → is_image_size (length img) ≡ a → (z : PageZero) → page_zero img ≡ z → OpeningSays img (index_from img (pick a (root_from z) (roots.Refused (refusal 1))))
+      go : (a : Bool) → is_image_size (length img) ≡ a → (z : PageZero) → page_zero img ≡ z → OpeningSays img (index_from img (pick a (root_from z) (Err (refusal 1))))
       go false s z e = bad-size s
       go true s Wrong e = wrong-zero s e
       go true s (Waiting k root) e = mark-waits s k root e
       go true s (Ready root) e = tree root s e (index_ok img root) refl
 
-  pub opened-call : (root : ℕ) → Opened img root → index_call img ≡ roots.At root
+  pub opened-call : (root : ℕ) → Opened img root → index_call img ≡ Ok root
   unfolding index_call index_from root_call root_from
   opened-call root o = rw (o.size, o.zero, facts-index img root o.index)
 
-  pub not-opened-call : (r : Refusal) → NotOpened img r → index_call img ≡ roots.Refused r
+  pub not-opened-call : (r : Refusal) → NotOpened img r → index_call img ≡ Err r
   unfolding index_call index_from root_call root_from
   not-opened-call _ (bad-size s) = rw s
   not-opened-call _ (wrong-zero s z) = rw (s, z)
@@ -109,15 +104,15 @@ module _ (img : List ℕ) (k root : ℕ) where
   unfolding leaf_lookup
   read-lookup r = rw (read-sound r) (ap (λ (q : ℕ). found_in k (page_entries img q)) (page-is r.belongs))
 
-  pub unsound-lookup : ReadUnsound img k root → leaf_lookup img root k ≡ lookups.Refused (refusal 4)
+  pub unsound-lookup : ReadUnsound img k root → leaf_lookup img root k ≡ Err (refusal 4)
   unfolding leaf_lookup
   unsound-lookup u = rw (read-unsound u)
 
-  pub read-records : (r : ReadSound img k root) → records_for img root k ≡ some (records (page_of img (child_of r.belongs.own)))
+  pub read-records : (r : ReadSound img k root) → records_for img root k ≡ Some (records (page_of img (child_of r.belongs.own)))
   unfolding records_for
-  read-records r = rw (read-sound r) (ap (λ (q : ℕ). some (records (page_of img q))) (page-is r.belongs))
+  read-records r = rw (read-sound r) (ap (λ (q : ℕ). Some (records (page_of img q))) (page-is r.belongs))
 
-  pub unsound-records : ReadUnsound img k root → records_for img root k ≡ none
+  pub unsound-records : ReadUnsound img k root → records_for img root k ≡ None
   unfolding records_for
   unsound-records u = rw (read-unsound u)
 
@@ -127,7 +122,7 @@ module _ (img : List ℕ) (n k root : ℕ) where
   unfolding leaf_next
   read_next r = rw (read-sound img k root r) (ap (λ (q : Place). above n (records (page_of img q.page))) (leaf-is img root k r.belongs))
 
-  pub unsound-next : ReadUnsound img k root → leaf_next img root n (leaf_for img root k) ≡ nexts.Refused (refusal 4)
+  pub unsound-next : ReadUnsound img k root → leaf_next img root n (leaf_for img root k) ≡ Err (refusal 4)
   unfolding leaf_next
   unsound-next u = rw (read-unsound img k root u)
 
@@ -138,10 +133,10 @@ module _ (img : List ℕ) (k root : ℕ) (opened : Opened img root) (b : Belongs
   index = opened.index
 
   -- by where the leaf's range ends
-  abbrev turn : ℕ → Next
-  turn below = pick (leb below top_key) (leaf_next img root k (leaf_for img root below)) nexts.Last
+  abbrev turn : ℕ → Result (Option ℕ) Refusal
+  turn below = pick (leb below top_key) (leaf_next img root k (leaf_for img root below)) (Ok None)
 
-  pub after_none : b.later ≡ [] → next_after img root k (leaf_for img root k) ≡ nexts.Last
+  pub after_none : b.later ≡ [] → next_after img root k (leaf_for img root k) ≡ Ok None
   unfolding next_after
   after_none e = ap turn (below_none img root index k b e)
 
@@ -153,35 +148,35 @@ module _ (img : List ℕ) (k root : ℕ) (opened : Opened img root) (b : Belongs
     pub after-good : GoodLeaf img (b.before ++ b.own ∷ []) d ds → next_after img root k (leaf_for img root k) ≡ above k (records (page_of img (child_of d)))
     after-good g = goes_on ∙ read_next img k d.key root (record { opened = opened; belongs = belongs-after img root index k b d ds e; good = g })
 
-    pub after-bad : (GoodLeaf img (b.before ++ b.own ∷ []) d ds → ⊥) → next_after img root k (leaf_for img root k) ≡ nexts.Refused (refusal 4)
+    pub after-bad : (GoodLeaf img (b.before ++ b.own ∷ []) d ds → ⊥) → next_after img root k (leaf_for img root k) ≡ Err (refusal 4)
     after-bad g = goes_on ∙ unsound-next img k d.key root (record { opened = opened; belongs = belongs-after img root index k b d ds e; bad = g })
 
 -- ---- 6, after what the leaf says
 
-pub ranged-is : (k : ℕ) (a : Lookup) → ((r : Refusal) → a ≡ lookups.Refused r → ⊥) → ranged k a ≡ pick (key_ok k) a (lookups.Refused (refusal 6))
+pub ranged-is : (k : ℕ) (a : Result (Option Part) Refusal) → ((r : Refusal) → a ≡ Err r → ⊥) → ranged k a ≡ pick (key_ok k) a (Err (refusal 6))
 unfolding ranged
-ranged-is k (lookups.Found o n) h = refl
-ranged-is k lookups.Missing h = refl
-ranged-is k (lookups.Refused r) h = absurd (h r refl)
+ranged-is k (Ok (Some (record { offset = o; length = n }))) h = refl
+ranged-is k (Ok None) h = refl
+ranged-is k (Err r) h = absurd (h r refl)
 
-pub ranged-in : (k : ℕ) → key_ok k ≡ true → (a : Lookup) → ranged k a ≡ a
+pub ranged-in : (k : ℕ) → key_ok k ≡ true → (a : Result (Option Part) Refusal) → ranged k a ≡ a
 unfolding ranged
-ranged-in k q (lookups.Found o n) = rw q
-ranged-in k q lookups.Missing = rw q
-ranged-in k q (lookups.Refused r) = refl
+ranged-in k q (Ok (Some (record { offset = o; length = n }))) = rw q
+ranged-in k q (Ok None) = rw q
+ranged-in k q (Err r) = refl
 
 -- ---- what the code needs of a root
 
-pub root-facts : (img : List ℕ) (root : ℕ) → root_call img ≡ roots.At root → (is_image_size (length img) ≡ true) × (is_page (page_count img) root ≡ true)
+pub root-facts : (img : List ℕ) (root : ℕ) → root_call img ≡ Ok root → (is_image_size (length img) ≡ true) × (is_page (page_count img) root ≡ true)
 unfolding root_call root_from
 root-facts img root e = go (is_image_size (length img)) refl (page_zero img) refl e
   where
-    go : (a : Bool) → is_image_size (length img) ≡ a → (z : PageZero) → page_zero img ≡ z → pick a (root_from z) (roots.Refused (refusal 1)) ≡ roots.At root →
+    go : (a : Bool) → is_image_size (length img) ≡ a → (z : PageZero) → page_zero img ≡ z → pick a (root_from z) (Err (refusal 1)) ≡ Ok root →
         (is_image_size (length img) ≡ true) × (is_page (page_count img) root ≡ true)
     go false s z q f = let n : ◌≡◌ {A = ℕ} 0 1 = cc in absurd (omega arith)
     go true s Wrong q f = let n : ◌≡◌ {A = ℕ} 0 1 = cc in absurd (omega arith)
     go true s (Waiting k r) q f = let n : ◌≡◌ {A = ℕ} 0 1 = cc in absurd (omega arith)
     go true s (Ready r) q f = let same : r ≡ root = cc in (s, (ready-facts img root (q ∙ ap Ready same)).page)
 
-pub call-opened : (img : List ℕ) (root : ℕ) → index_call img ≡ roots.At root → Opened img root
+pub call-opened : (img : List ℕ) (root : ℕ) → index_call img ≡ Ok root → Opened img root
 call-opened img root e = subst (OpeningSays img) e (opening-says img)

@@ -1,17 +1,18 @@
 -- Routing by separators: the pages before the routed one list smaller keys, those after it larger ones; the routed leaf or the leaf after it answers a next key.
 -- Assumes nothing.
+use Rattle.std.specs.Prelude.{None, Ok, Option, Result, Some}
 use Prim.Native.Nat.{ℕ, suc, ◌+◌, ◌≤◌, ◌<◌}
 use mathlib.Core.Path.{◌≡◌, refl, sym, ap, ◌∙◌, subst}
 use mathlib.Core.Logic.{◌⊎◌, inl, inr}
 use mathlib.Core.Bool.{Bool, true, false, true≢false}
 use mathlib.Core.List.{List, [], ◌∷◌, ◌++◌, map, append-nil}
-use mathlib.Core.Option.{none, some}
 use native.Mathlib.Omega.{arith}
 use native.Mathlib.Nat.{not-suc-le-zero}
 use lib.ListN.{length, get_or, take, drop, length-drop}
 use lib.Seq.{split_at}
 use lib.Dec.{leb, ltb, eqb}
 use borrow.Author.Tests.{leb-true, leb-false, lt-leb, lt-ltb, le-ltb, ne_eqb}
+use Rattle.device.specs.declared.Refusal.{Refusal}
 use Rattle.codec.specs.Lists.{All, pick}
 use Rattle.codec.proofs.Tests.{All-map}
 use Rattle.page.specs.Layout.{top_key, Rec}
@@ -22,9 +23,6 @@ use Rattle.image.specs.Image.{child_of, children, joined, first_key, start_of, n
 use Rattle.image.specs.Facts.{Rising, Leaves, Spans}
 use Rattle.image.specs.Table.{leaf_records, table, find, found_in, above, or_else}
 use Rattle.image.specs.Route.{last_from, route}
-use Rattle.image.specs.declared.Lookup.TheVariants.{Found, Missing}
-use Rattle.image.specs.declared.Next.{Next}
-use Rattle.image.specs.declared.Next.TheVariants.{Key, Last}
 use Rattle.image.proofs.General.{map_same, All-unmap, All-left}
 use Rattle.image.proofs.Rising.{From, Below, rising-hi, rising-from, rising-below, rising-split}
 use Rattle.image.proofs.Ranges.{rising-first, spans-cut, spans-rising}
@@ -117,15 +115,15 @@ module _ {A : Type 0} {B : Type 0} (key : A → ℕ) (answer : A → B) (nothing
   pub seek-middle : (a b c : List A) → Lacks a → Lacks c → seek (a ++ (b ++ c)) ≡ seek b
   seek-middle a b c h g = seek-skip a (b ++ c) h ∙ seek_stop b c g
 
-pub find-seek : (k : ℕ) (l : List Rec) → find k l ≡ seek (λ (r : Rec). r.key) (λ (r : Rec). some r.value) none k l
+pub find-seek : (k : ℕ) (l : List Rec) → find k l ≡ seek (λ (r : Rec). r.key) (λ (r : Rec). Some r.value) None k l
 unfolding find
 find-seek k [] = refl
-find-seek k (r ∷ l) = ap (pick (eqb r.key k) (some r.value)) (find-seek k l)
+find-seek k (r ∷ l) = ap (pick (eqb r.key k) (Some r.value)) (find-seek k l)
 
-pub found-seek : (k : ℕ) (es : List Entry) → found_in k es ≡ seek (λ (e : Entry). e.rec.key) (λ (e : Entry). Found (e.at + 16) (length e.rec.value)) Missing k es
+pub found-seek : (k : ℕ) (es : List Entry) → found_in k es ≡ seek (λ (e : Entry). e.rec.key) (λ (e : Entry). Ok (Some (record { offset = (e.at + 16); length = (length e.rec.value) }))) (Ok None) k es
 unfolding found_in
 found-seek k [] = refl
-found-seek k (e ∷ es) = ap (pick (eqb e.rec.key k) (Found (e.at + 16) (length e.rec.value))) (found-seek k es)
+found-seek k (e ∷ es) = ap (pick (eqb e.rec.key k) (Ok (Some (record { offset = (e.at + 16); length = (length e.rec.value) })))) (found-seek k es)
 
 -- ---- a next key
 
@@ -134,7 +132,7 @@ pub above-skip : (k : ℕ) (r : Rec) (l : List Rec) → r.key ≤ k → above k 
 unfolding above
 above-skip k r l h = rw le-ltb
 
-pub above-first : (k : ℕ) (r : Rec) (l : List Rec) → k < r.key → above k (r ∷ l) ≡ Key r.key
+pub above-first : (k : ℕ) (r : Rec) (l : List Rec) → k < r.key → above k (r ∷ l) ≡ Ok (Some r.key)
 unfolding above
 above-first k r l h = rw lt-ltb
 
@@ -143,18 +141,18 @@ unfolding above
 above-append k [] b = refl
 above-append k (r ∷ a) b = go (ltb k r.key) (above-append k a b)
   where
-    go : (t : Bool) → above k (a ++ b) ≡ or_else (above k a) (above k b) → pick t (Key r.key) (above k (a ++ b)) ≡ or_else (pick t (Key r.key) (above k a)) (above k b)
+    go : (t : Bool) → above k (a ++ b) ≡ or_else (above k a) (above k b) → pick t (Ok (Some r.key)) (above k (a ++ b)) ≡ or_else (pick t (Ok (Some r.key)) (above k a)) (above k b)
     go true e = refl
     go false e = e
 
-pub above-none : (k : ℕ) (l : List Rec) → Below l (suc k) → above k l ≡ Last
+pub above-none : (k : ℕ) (l : List Rec) → Below l (suc k) → above k l ≡ Ok None
 unfolding above
 above-none k [] h = refl
 above-none k (r ∷ l) h = above-skip k r l (omega (arith, h.0)) ∙ above-none k l h.1
 
 -- the answer of the first of the leaves cs
-abbrev pub above_first : List ℕ → ℕ → List Rec → Next
-above_first img k [] = Last
+abbrev pub above_first : List ℕ → ℕ → List Rec → Result (Option ℕ) Refusal
+above_first img k [] = Ok None
 above_first img k (c ∷ cs) = above k (records (page_of img (child_of c)))
 
 -- a leaf with a record, all of whose keys are above k
@@ -163,7 +161,7 @@ pub record After (img : List ℕ) (k : ℕ) (c : Rec) : Type 0 where
   pub over : From (suc k) (records (page_of img (child_of c)))
 
 -- it answers its first key, whatever follows it
-pub after-answers : (k : ℕ) (l m : List Rec) (z : Rec) → 1 ≤ length l → From (suc k) l → above k (l ++ m) ≡ Key (get_or l 0 z).key
+pub after-answers : (k : ℕ) (l m : List Rec) (z : Rec) → 1 ≤ length l → From (suc k) l → above k (l ++ m) ≡ Ok (Some (get_or l 0 z).key)
 after-answers k [] m z q f = absurd (not-suc-le-zero q)
 after-answers k (r ∷ l) m z q f = above-first k r (l ++ m) f.0
 
@@ -219,7 +217,7 @@ module _ (img : List ℕ) (only : Bool) (pre : List Rec) (c : Rec) (post : List 
       let d = leaf_records img post in
       ap (find k) (leaf_records-append img pre (c ∷ post))
       ∙ find-seek k (a ++ (b ++ d))
-      ∙ seek-between (λ (r : Rec). r) (λ (r : Rec). some r.value) none k a b d (rw (map_same a) before-below) (rw (map_same d) after-above)
+      ∙ seek-between (λ (r : Rec). r) (λ (r : Rec). Some r.value) None k a b d (rw (map_same a) before-below) (rw (map_same d) after-above)
       ∙ sym (find-seek k b)
 
   -- the leaf after it, unless it is the last
@@ -244,7 +242,7 @@ module _ (img : List ℕ) (only : Bool) (pre : List Rec) (c : Rec) (post : List 
       let d = leaf_records img post in
       ap (above k) (leaf_records-append img pre (c ∷ post))
       ∙ above-append k a (b ++ d)
-      ∙ ap (λ (x : Next). or_else x (above k (b ++ d))) (above-none k a (All-map (λ (r : Rec). r.key < k) (λ (r : Rec). r.key < suc k) (λ r q. omega arith) a before-below))
+      ∙ ap (λ (x : Result (Option ℕ) Refusal). or_else x (above k (b ++ d))) (above-none k a (All-map (λ (r : Rec). r.key < k) (λ (r : Rec). r.key < suc k) (λ r q. omega arith) a before-below))
       ∙ above-append k b d
       ∙ ap (or_else (above k b)) (next post refl)
     where

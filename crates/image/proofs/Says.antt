@@ -1,15 +1,16 @@
 -- What lookup and next key answer, on any image: each answer where its ground is the first that holds, and nowhere else.
 -- Assumes nothing.
+use Rattle.std.specs.Prelude.{Err, None, Ok, Option, Result, Some}
 use Prim.Native.Nat.{ℕ, suc, ◌+◌, ◌≤◌, ◌<◌}
 use mathlib.Core.Path.{◌≡◌, refl, sym, ap, ◌∙◌, subst}
 use mathlib.Core.Logic.{◌⊎◌, inl, inr}
 use mathlib.Core.Bool.{Bool, true, false}
 use mathlib.Core.List.{List, [], ◌∷◌, ◌++◌, append-nil}
-use mathlib.Core.Option.{none}
 use native.Mathlib.Omega.{arith}
 use lib.ListN.{length, get_or, length-append}
 use lib.Dec.{eqb}
 use borrow.Author.Tests.{eqb-true}
+use Rattle.image.specs.declared.Part.{Part}
 use Rattle.codec.specs.Lists.{pick, All}
 use Rattle.codec.proofs.Tests.{All-map}
 use Rattle.device.specs.Calls.{refusal}
@@ -23,12 +24,6 @@ use Rattle.image.specs.Table.{page_entries, find, found_in, above, or_else}
 use Rattle.image.specs.Descent.{leaf_for}
 use Rattle.image.specs.Calls.{index_call, key_ok, ranged, lookup_from, lookup_call, value_at, value_call, next_after, next_from, next_call}
 use Rattle.image.specs.Says.{AtMost, NotOpened, GoodLeaf, ReadSound, ReadUnsound, read_records, LookupSays, not_opened, bad-leaf, bad-key, found, missing, NextSays, next-not-opened, next-bad-leaf, here, bad-after, after, last}
-use Rattle.image.specs.declared.Root.{Root}
-use Rattle.image.specs.declared.Root.TheVariants as roots
-use Rattle.image.specs.declared.Lookup.{Lookup}
-use Rattle.image.specs.declared.Lookup.TheVariants as lookups
-use Rattle.image.specs.declared.Next.{Next}
-use Rattle.image.specs.declared.Next.TheVariants as nexts
 use Rattle.image.proofs.Rising.{From, rising-from}
 use Rattle.image.proofs.Soundness.{page-rising}
 use Rattle.image.proofs.Order.{recs-page}
@@ -50,7 +45,7 @@ module _ (img : List ℕ) (k : ℕ) where
     listed = page-listed img q (own-page img root r.opened.index k r.belongs) r.good.page
 
     -- the leaf's answer, then 6
-    pub read-call : lookup_call img k ≡ pick (key_ok k) (found_in k (page_entries img (child_of r.belongs.own))) (lookups.Refused (refusal 6))
+    pub read-call : lookup_call img k ≡ pick (key_ok k) (found_in k (page_entries img (child_of r.belongs.own))) (Err (refusal 6))
     unfolding lookup_call lookup_from
     read-call =
         rw (opened-call img root r.opened) (
@@ -58,32 +53,32 @@ module _ (img : List ℕ) (k : ℕ) where
         )
 
     -- what it says of the leaf's records
-    pub read-tells : (a : Lookup) → found_in k (page_entries img (child_of r.belongs.own)) ≡ a → Told img k (read_records r) a
+    pub read-tells : (a : Result (Option Part) Refusal) → found_in k (page_entries img (child_of r.belongs.own)) ≡ a → Told img k (read_records r) a
     read-tells a e = subst (λ (rs : List Rec). Told img k rs a) (recs-page img q) (entries-tell img k (page_entries img q) listed a e)
 
-    read-says : 1 ≤ k → k ≤ 999999999999 → (a : Lookup) → found_in k (page_entries img (child_of r.belongs.own)) ≡ a → LookupSays img k a
+    read-says : 1 ≤ k → k ≤ 999999999999 → (a : Result (Option Part) Refusal) → found_in k (page_entries img (child_of r.belongs.own)) ≡ a → LookupSays img k a
     read-says low high a e = go a e (read-tells a e)
       where
-        go : (a : Lookup) → found_in k (page_entries img q) ≡ a → Told img k (read_records r) a → LookupSays img k a
-        go (lookups.Found o n) f t = found root r low high o n f t.0 t.1 t.2
-        go lookups.Missing f t = missing root r low high t
-        go (lookups.Refused s) f t = absurd t
+        go : (a : Result (Option Part) Refusal) → found_in k (page_entries img q) ≡ a → Told img k (read_records r) a → LookupSays img k a
+        go (Ok (Some (record { offset = o; length = n }))) f t = found root r low high o n f t.0 t.1 t.2
+        go (Ok None) f t = missing root r low high t
+        go (Err s) f t = absurd t
 
-    read-missing : find k (read_records r) ≡ none → found_in k (page_entries img (child_of r.belongs.own)) ≡ lookups.Missing
+    read-missing : find k (read_records r) ≡ None → found_in k (page_entries img (child_of r.belongs.own)) ≡ Ok None
     read-missing e = missing-entries img k (page_entries img q) listed (ap (find k) (recs-page img q) ∙ e)
 
-  pub unsound-call : (root : ℕ) → ReadUnsound img k root → lookup_call img k ≡ lookups.Refused (refusal 4)
+  pub unsound-call : (root : ℕ) → ReadUnsound img k root → lookup_call img k ≡ Err (refusal 4)
   unfolding lookup_call lookup_from ranged
   unsound-call root u = rw (opened-call img root u.opened, unsound-lookup img k root u)
 
-  pub not-read : (r : Refusal) → NotOpened img r → lookup_call img k ≡ lookups.Refused r
+  pub not-read : (r : Refusal) → NotOpened img r → lookup_call img k ≡ Err r
   unfolding lookup_call lookup_from
   not-read r n = rw (not-opened-call img r n)
 
   pub lookup-says : LookupSays img k (lookup_call img k)
   lookup-says = go (index_call img) (opening-says img)
     where
-      key : (root : ℕ) (r : ReadSound img k root) (t : Bool) → key_ok k ≡ t → LookupSays img k (pick t (found_in k (page_entries img (child_of r.belongs.own))) (lookups.Refused (refusal 6)))
+      key : (root : ℕ) (r : ReadSound img k root) (t : Bool) → key_ok k ≡ t → LookupSays img k (pick t (found_in k (page_entries img (child_of r.belongs.own))) (Err (refusal 6)))
       key root r true e = let range = key_ok-true k e in read-says root r range.0 range.1 (found_in k (page_entries img (child_of r.belongs.own))) refl
       key root r false e = bad-key root r (key_ok-false k e)
 
@@ -91,12 +86,12 @@ module _ (img : List ℕ) (k : ℕ) where
       leaf root (inl r) = subst (LookupSays img k) (sym (read-call root r)) (key root r (key_ok k) refl)
       leaf root (inr u) = subst (LookupSays img k) (sym (unsound-call root u)) (bad-leaf root u)
 
-      go : (x : Root) → OpeningSays img x → LookupSays img k (lookup_call img k)
-      go (roots.Refused r) n = subst (LookupSays img k) (sym (not-read r n)) (not_opened r n)
-      go (roots.At root) o = leaf root (read-or-not img k root o)
+      go : (x : Result ℕ Refusal) → OpeningSays img x → LookupSays img k (lookup_call img k)
+      go (Err r) n = subst (LookupSays img k) (sym (not-read r n)) (not_opened r n)
+      go (Ok root) o = leaf root (read-or-not img k root o)
 
   -- and each case excludes the others: it is the answer where it holds
-  pub says-lookup : (a : Lookup) → LookupSays img k a → lookup_call img k ≡ a
+  pub says-lookup : (a : Result (Option Part) Refusal) → LookupSays img k a → lookup_call img k ≡ a
   says-lookup _ (not_opened r n) = not-read r n
   says-lookup _ (bad-leaf root u) = unsound-call root u
   says-lookup _ (bad-key root r e) = read-call root r ∙ rw (false-key_ok k e)
@@ -104,10 +99,10 @@ module _ (img : List ℕ) (k : ℕ) where
   says-lookup _ (missing root r low high e) = read-call root r ∙ rw (true-key_ok k low high, read-missing root r e)
 
   -- a value that is found lies in the image
-  pub found_inside : (o n : ℕ) → lookup_call img k ≡ lookups.Found o n → o + n ≤ length img
+  pub found_inside : (o n : ℕ) → lookup_call img k ≡ Ok (Some (record { offset = o; length = n })) → o + n ≤ length img
   found_inside o n e = go (lookup_call img k) lookup-says e
     where
-      go : (a : Lookup) → LookupSays img k a → a ≡ lookups.Found o n → o + n ≤ length img
+      go : (a : Result (Option Part) Refusal) → LookupSays img k a → a ≡ Ok (Some (record { offset = o; length = n })) → o + n ≤ length img
       go _ (not_opened r x) f = let z : ◌≡◌ {A = ℕ} 0 1 = cc in absurd (omega arith)
       go _ (bad-leaf root u) f = let z : ◌≡◌ {A = ℕ} 0 1 = cc in absurd (omega arith)
       go _ (bad-key root r x) f = let z : ◌≡◌ {A = ℕ} 0 1 = cc in absurd (omega arith)
@@ -118,11 +113,11 @@ module _ (img : List ℕ) (k : ℕ) where
       go _ (missing root r low high x) f = let z : ◌≡◌ {A = ℕ} 0 1 = cc in absurd (omega arith)
 
   -- its companion is "empty if refused or missing"
-  pub value-refused : (r : Refusal) → lookup_call img k ≡ lookups.Refused r → value_call img k ≡ []
+  pub value-refused : (r : Refusal) → lookup_call img k ≡ Err r → value_call img k ≡ []
   unfolding value_call value_at
   value-refused r e = ap (value_at img) e
 
-  pub value-missing : lookup_call img k ≡ lookups.Missing → value_call img k ≡ []
+  pub value-missing : lookup_call img k ≡ Ok None → value_call img k ≡ []
   unfolding value_call value_at
   value-missing e = ap (value_at img) e
 
@@ -149,37 +144,37 @@ module _ (img : List ℕ) (k : ℕ) (before : List Rec) (c d : Rec) (ds : List R
       go (inl e) = absurd (omega (arith, eqb-true (length ((before ++ c ∷ []) ++ d ∷ ds)) 1 e, length-append (before ++ c ∷ []) (d ∷ ds), length-append before (c ∷ [])))
       go (inr h) = h
 
-  pub after-key : above k (records (page_of img (child_of d))) ≡ nexts.Key (get_or (records (page_of img (child_of d))) 0 d).key
+  pub after-key : above k (records (page_of img (child_of d))) ≡ Ok (Some (get_or (records (page_of img (child_of d))) 0 d).key)
   after-key = ap (above k) (sym (append-nil rs)) ∙ after-answers k rs [] d filled over
 
 module _ (img : List ℕ) (k : ℕ) where
   module _ (root : ℕ) (r : ReadSound img k root) where
-    abbrev rest : Next
+    abbrev rest : Result (Option ℕ) Refusal
     rest = next_after img root k (leaf_for img root k)
 
     pub rising : Rising 0 (read_records r) (suc top_key)
     rising = page-rising leaf_kind (child_of r.belongs.own) (page_of img (child_of r.belongs.own)) r.good.page
 
     -- the leaf's answer, or that of the leaf after
-    next-read : (a : Next) → above k (read_records r) ≡ a → next_call img k ≡ or_else a (next_after img root k (leaf_for img root k))
+    next-read : (a : Result (Option ℕ) Refusal) → above k (read_records r) ≡ a → next_call img k ≡ or_else a (next_after img root k (leaf_for img root k))
     unfolding next_call next_from
-    next-read a e = rw (opened-call img root r.opened) (ap (λ (x : Next). or_else x rest) (read_next img k k root r ∙ e))
+    next-read a e = rw (opened-call img root r.opened) (ap (λ (x : Result (Option ℕ) Refusal). or_else x rest) (read_next img k k root r ∙ e))
 
-    next-least : (j : ℕ) → above k (read_records r) ≡ nexts.Key j → NextSays img k (next_call img k)
-    next-least j e = subst (NextSays img k) (sym (next-read (nexts.Key j) e)) (here root r j (above-smallest k 0 (read_records r) (suc top_key) rising j e))
+    next-least : (j : ℕ) → above k (read_records r) ≡ Ok (Some j) → NextSays img k (next_call img k)
+    next-least j e = subst (NextSays img k) (sym (next-read (Ok (Some j)) e)) (here root r j (above-smallest k 0 (read_records r) (suc top_key) rising j e))
 
     module _ (most : AtMost k (read_records r)) where
       no-larger : next_call img k ≡ next_after img root k (leaf_for img root k)
-      no-larger = next-read nexts.Last (most-above k 0 (read_records r) (suc top_key) rising most)
+      no-larger = next-read (Ok None) (most-above k 0 (read_records r) (suc top_key) rising most)
 
-      next-end : r.belongs.later ≡ [] → next_call img k ≡ nexts.Last
+      next-end : r.belongs.later ≡ [] → next_call img k ≡ Ok None
       next-end e = no-larger ∙ after_none img k root r.opened r.belongs e
 
       module _ (d : Rec) (ds : List Rec) (e : r.belongs.later ≡ d ∷ ds) where
         next-good : GoodLeaf img (r.belongs.before ++ r.belongs.own ∷ []) d ds → next_call img k ≡ above k (records (page_of img (child_of d)))
         next-good g = no-larger ∙ after-good img k root r.opened r.belongs d ds e g
 
-        next-bad : (GoodLeaf img (r.belongs.before ++ r.belongs.own ∷ []) d ds → ⊥) → next_call img k ≡ nexts.Refused (refusal 4)
+        next-bad : (GoodLeaf img (r.belongs.before ++ r.belongs.own ∷ []) d ds → ⊥) → next_call img k ≡ Err (refusal 4)
         next-bad g = no-larger ∙ after-bad img k root r.opened r.belongs d ds e g
 
         past : k < d.key
@@ -197,11 +192,11 @@ module _ (img : List ℕ) (k : ℕ) where
                 subst (NextSays img k) (sym (next-good g ∙ f)) (after root r most d ds e g _ (above-smallest k 0 (records (page_of img (child_of d))) (suc top_key) (after-rising g) _ f))
             go (inr g) = subst (NextSays img k) (sym (next-bad g)) (bad-after root r most d ds e g)
 
-  pub next-unsound : (root : ℕ) → ReadUnsound img k root → next_call img k ≡ nexts.Refused (refusal 4)
+  pub next-unsound : (root : ℕ) → ReadUnsound img k root → next_call img k ≡ Err (refusal 4)
   unfolding next_call next_from
-  next-unsound root u = rw (opened-call img root u.opened) (ap (λ (x : Next). or_else x (next_after img root k (leaf_for img root k))) (unsound-next img k k root u))
+  next-unsound root u = rw (opened-call img root u.opened) (ap (λ (x : Result (Option ℕ) Refusal). or_else x (next_after img root k (leaf_for img root k))) (unsound-next img k k root u))
 
-  pub next-not-read : (r : Refusal) → NotOpened img r → next_call img k ≡ nexts.Refused r
+  pub next-not-read : (r : Refusal) → NotOpened img r → next_call img k ≡ Err r
   unfolding next_call next_from
   next-not-read r n = rw (not-opened-call img r n)
 
@@ -212,23 +207,23 @@ module _ (img : List ℕ) (k : ℕ) where
       end root r most [] e = subst (NextSays img k) (sym (next-end root r most e)) (last root r most e)
       end root r most (d ∷ ds) e = next-later root r most d ds e
 
-      least : (root : ℕ) (r : ReadSound img k root) (a : Next) → above k (read_records r) ≡ a → NextSays img k (next_call img k)
-      least root r (nexts.Key j) e = next-least root r j e
-      least root r nexts.Last e = end root r (above_most k 0 (read_records r) (suc top_key) (rising root r) e) r.belongs.later refl
-      least root r (nexts.Refused s) e = absurd (above-answers k 0 (read_records r) (suc top_key) (rising root r) s e)
+      least : (root : ℕ) (r : ReadSound img k root) (a : Result (Option ℕ) Refusal) → above k (read_records r) ≡ a → NextSays img k (next_call img k)
+      least root r (Ok (Some j)) e = next-least root r j e
+      least root r (Ok None) e = end root r (above_most k 0 (read_records r) (suc top_key) (rising root r) e) r.belongs.later refl
+      least root r (Err s) e = absurd (above-answers k 0 (read_records r) (suc top_key) (rising root r) s e)
 
       leaf : (root : ℕ) → ReadSound img k root ⊎ ReadUnsound img k root → NextSays img k (next_call img k)
       leaf root (inl r) = least root r (above k (read_records r)) refl
       leaf root (inr u) = subst (NextSays img k) (sym (next-unsound root u)) (next-bad-leaf root u)
 
-      go : (x : Root) → OpeningSays img x → NextSays img k (next_call img k)
-      go (roots.Refused r) n = subst (NextSays img k) (sym (next-not-read r n)) (next-not-opened r n)
-      go (roots.At root) o = leaf root (read-or-not img k root o)
+      go : (x : Result ℕ Refusal) → OpeningSays img x → NextSays img k (next_call img k)
+      go (Err r) n = subst (NextSays img k) (sym (next-not-read r n)) (next-not-opened r n)
+      go (Ok root) o = leaf root (read-or-not img k root o)
 
-  pub says-next : (a : Next) → NextSays img k a → next_call img k ≡ a
+  pub says-next : (a : Result (Option ℕ) Refusal) → NextSays img k a → next_call img k ≡ a
   says-next _ (next-not-opened r n) = next-not-read r n
   says-next _ (next-bad-leaf root u) = next-unsound root u
-  says-next _ (here root r j s) = next-read root r (nexts.Key j) (smallest-above k 0 (read_records r) (suc top_key) (rising root r) j s)
+  says-next _ (here root r j s) = next-read root r (Ok (Some j)) (smallest-above k 0 (read_records r) (suc top_key) (rising root r) j s)
   says-next _ (bad-after root r most d ds e g) = next-bad root r most d ds e g
   says-next _ (after root r most d ds e g j s) =
       next-good root r most d ds e g ∙ smallest-above k 0 (records (page_of img (child_of d))) (suc top_key) (after-rising root r most d ds e g) j s

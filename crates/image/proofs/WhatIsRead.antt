@@ -1,13 +1,15 @@
 -- What is read decides, and nothing else: two images that agree on it give the same answer.
 -- Assumes nothing.
+use Rattle.std.specs.Prelude.{Err, None, Ok, Option, Result, Some}
 use Prim.Native.Nat.{ℕ, suc, ◌+◌, ◌<◌}
 use mathlib.Core.Path.{◌≡◌, refl, sym, ap, ap₂, ◌∙◌}
 use mathlib.Core.Bool.{Bool, true, false}
 use mathlib.Core.List.{List, [], ◌∷◌}
-use mathlib.Core.Option.{some, some-injective}
 use native.Mathlib.Omega.{arith}
 use lib.ListN.{length, get_or}
 use lib.Dec.{leb}
+use Rattle.device.specs.declared.Refusal.{Refusal}
+use Rattle.image.specs.declared.Part.{Part}
 use Rattle.codec.specs.Lists.{part, pick, All}
 use Rattle.codec.proofs.Lists.{get_or-part}
 use Rattle.device.specs.Calls.{refusal}
@@ -22,12 +24,6 @@ use Rattle.image.specs.Calls.{root_call, index_from, index_call, ranged, leaf_lo
 use Rattle.image.specs.Says.{read_records, LookupSays, not_opened, bad-leaf, bad-key, found, missing}
 use Rattle.image.specs.WhatIsRead.{ReadAlike, lookup_reads, after_reads, next_reads}
 use Rattle.image.specs.declared.Place.{Place}
-use Rattle.image.specs.declared.Root.{Root}
-use Rattle.image.specs.declared.Root.TheVariants as roots
-use Rattle.image.specs.declared.Lookup.{Lookup}
-use Rattle.image.specs.declared.Lookup.TheVariants as lookups
-use Rattle.image.specs.declared.Next.{Next}
-use Rattle.image.specs.declared.Next.TheVariants as nexts
 use Rattle.image.proofs.OneHeight.{leaf-one}
 use Rattle.image.proofs.Read.{opened-call, read-records}
 use Rattle.image.proofs.Says.{lookup-says}
@@ -87,24 +83,24 @@ module _ (a b : List ℕ) (keys : ℕ → List ℕ) (R : ReadAlike a b keys) whe
   unfolding index_call index_from
   index-alike = ap (index_from b) root_alike ∙ go (root_call a) refl
     where
-      go : (x : Root) → root_call a ≡ x → index_from b x ≡ index_from a x
-      go (roots.Refused r) e = refl
-      go (roots.At root) e = rw (index_same a b root R.size (R.index root e))
+      go : (x : Result ℕ Refusal) → root_call a ≡ x → index_from b x ≡ index_from a x
+      go (Err r) e = refl
+      go (Ok root) e = rw (index_same a b root R.size (R.index root e))
 
   -- an index that opens has a root that page 0 names
-  root-named : (root : ℕ) → index_call a ≡ roots.At root → root_call a ≡ roots.At root
+  root-named : (root : ℕ) → index_call a ≡ Ok root → root_call a ≡ Ok root
   unfolding index_call index_from
   root-named root e = go (root_call a) refl e
     where
-      go : (x : Root) → root_call a ≡ x → index_from a x ≡ roots.At root → x ≡ roots.At root
-      go (roots.Refused r) f q = q
-      go (roots.At s) f q = test (index_ok a s) q
+      go : (x : Result ℕ Refusal) → root_call a ≡ x → index_from a x ≡ Ok root → x ≡ Ok root
+      go (Err r) f q = q
+      go (Ok s) f q = test (index_ok a s) q
         where
-          test : (t : Bool) → pick t (roots.At s) (roots.Refused (refusal 4)) ≡ roots.At root → roots.At s ≡ roots.At root
+          test : (t : Bool) → pick t (Ok s) (Err (refusal 4)) ≡ Ok root → Ok s ≡ Ok root
           test true p = p
           test false p = let z : ◌≡◌ {A = ℕ} 0 1 = cc in absurd (omega arith)
 
-  pub index-page : (root : ℕ) → index_call a ≡ roots.At root → page_of b root ≡ page_of a root
+  pub index-page : (root : ℕ) → index_call a ≡ Ok root → page_of b root ≡ page_of a root
   index-page root e = R.index root (root-named root e)
 
 -- ---- the calls
@@ -113,26 +109,26 @@ pub lookup-reads : (a b : List ℕ) (k : ℕ) → ReadAlike a b (lookup_reads k)
 unfolding lookup_call lookup_from
 lookup-reads a b k R = ap (lookup_from b k) (index-alike a b (lookup_reads k) R) ∙ go (index_call a) refl
   where
-    go : (x : Root) → index_call a ≡ x → lookup_from b k x ≡ lookup_from a k x
-    go (roots.Refused r) e = refl
-    go (roots.At root) e = ap (ranged k) (lookup-alike a b root R.size (index-page a b (lookup_reads k) R root e) k (R.leaves root e).0)
+    go : (x : Result ℕ Refusal) → index_call a ≡ x → lookup_from b k x ≡ lookup_from a k x
+    go (Err r) e = refl
+    go (Ok root) e = ap (ranged k) (lookup-alike a b root R.size (index-page a b (lookup_reads k) R root e) k (R.leaves root e).0)
 
 -- a value that is found is that of the records that are read for its key
 record ValueIn (img : List ℕ) (k o n : ℕ) : Type 0 where
   root : ℕ
-  opens : index_call img ≡ roots.At root
+  opens : index_call img ≡ Ok root
   recs : List Rec
-  read : records_for img root k ≡ some recs
-  is : find k recs ≡ some (part img o n)
+  read : records_for img root k ≡ Some recs
+  is : find k recs ≡ Some (part img o n)
 
-value_in : (img : List ℕ) (k o n : ℕ) → lookup_call img k ≡ lookups.Found o n → ValueIn img k o n
+value_in : (img : List ℕ) (k o n : ℕ) → lookup_call img k ≡ Ok (Some (record { offset = o; length = n })) → ValueIn img k o n
 value_in img k o n e = go (lookup_call img k) (lookup-says img k) e
   where
-    go : (x : Lookup) → LookupSays img k x → x ≡ lookups.Found o n → ValueIn img k o n
+    go : (x : Result (Option Part) Refusal) → LookupSays img k x → x ≡ Ok (Some (record { offset = o; length = n })) → ValueIn img k o n
     go _ (found root r low high p m f v l i) q =
         let a : p ≡ o = cc in
         let b : m ≡ n = cc in
-        record { root = root; opens = opened-call img root r.opened; recs = read_records r; read = read-records img k root r; is = v ∙ ap₂ (λ (x y : ℕ). some (part img x y)) a b }
+        record { root = root; opens = opened-call img root r.opened; recs = read_records r; read = read-records img k root r; is = v ∙ ap₂ (λ (x y : ℕ). Some (part img x y)) a b }
     go _ (not_opened r x) q = let z : ◌≡◌ {A = ℕ} 0 1 = cc in absurd (omega arith)
     go _ (bad-leaf root u) q = let z : ◌≡◌ {A = ℕ} 0 1 = cc in absurd (omega arith)
     go _ (bad-key root r x) q = let z : ◌≡◌ {A = ℕ} 0 1 = cc in absurd (omega arith)
@@ -146,7 +142,7 @@ value-reads a b k R = go (lookup_call a k) refl
     same : lookup_call b k ≡ lookup_call a k
     same = lookup-reads a b k R
 
-    bytes : (o n : ℕ) → lookup_call a k ≡ lookups.Found o n → part b o n ≡ part a o n
+    bytes : (o n : ℕ) → lookup_call a k ≡ Ok (Some (record { offset = o; length = n })) → part b o n ≡ part a o n
     bytes o n e =
         let x = value_in a k o n e in
         let y = value_in b k o n (same ∙ e) in
@@ -156,32 +152,32 @@ value-reads a b k R = go (lookup_call a k) refl
         let recs : y.recs ≡ x.recs = some-injective y.recs x.recs (sym y.read ∙ f ∙ x.read) in
         some-injective (part b o n) (part a o n) (sym y.is ∙ ap (find k) recs ∙ x.is)
 
-    go : (x : Lookup) → lookup_call a k ≡ x → value_at b (lookup_call b k) ≡ value_at a (lookup_call a k)
-    go (lookups.Found o n) e = ap (value_at b) (same ∙ e) ∙ bytes o n e ∙ sym (ap (value_at a) e)
-    go lookups.Missing e = ap (value_at b) (same ∙ e) ∙ sym (ap (value_at a) e)
-    go (lookups.Refused r) e = ap (value_at b) (same ∙ e) ∙ sym (ap (value_at a) e)
+    go : (x : Result (Option Part) Refusal) → lookup_call a k ≡ x → value_at b (lookup_call b k) ≡ value_at a (lookup_call a k)
+    go (Ok (Some (record { offset = o; length = n }))) e = ap (value_at b) (same ∙ e) ∙ bytes o n e ∙ sym (ap (value_at a) e)
+    go (Ok None) e = ap (value_at b) (same ∙ e) ∙ sym (ap (value_at a) e)
+    go (Err r) e = ap (value_at b) (same ∙ e) ∙ sym (ap (value_at a) e)
 
 pub next-reads : (a b : List ℕ) (k : ℕ) → ReadAlike a b (next_reads a k) → next_call b k ≡ next_call a k
 unfolding next_call next_from next_reads next_after after_reads
 next-reads a b k R = ap (next_from b k) (index-alike a b (next_reads a k) R) ∙ go (index_call a) refl
   where
-    leaves : (root : ℕ) → page_of b root ≡ page_of a root → (p : Place) (x : Next) → All (λ (j : ℕ). page_of b (leaf_for a root j).page ≡ page_of a (leaf_for a root j).page) (after_reads p x) →
+    leaves : (root : ℕ) → page_of b root ≡ page_of a root → (p : Place) (x : Result (Option ℕ) Refusal) → All (λ (j : ℕ). page_of b (leaf_for a root j).page ≡ page_of a (leaf_for a root j).page) (after_reads p x) →
         or_else x (next_after b root k p) ≡ or_else x (next_after a root k p)
-    leaves root page p (nexts.Key j) h = refl
-    leaves root page p (nexts.Refused r) h = refl
-    leaves root page p nexts.Last h = after (leb p.below top_key) h
+    leaves root page p (Ok (Some j)) h = refl
+    leaves root page p (Err r) h = refl
+    leaves root page p (Ok None) h = after (leb p.below top_key) h
       where
         after : (t : Bool) → All (λ (j : ℕ). page_of b (leaf_for a root j).page ≡ page_of a (leaf_for a root j).page) (pick t (p.below ∷ []) []) →
-            pick t (leaf_next b root k (leaf_for b root p.below)) nexts.Last ≡ pick t (leaf_next a root k (leaf_for a root p.below)) nexts.Last
+            pick t (leaf_next b root k (leaf_for b root p.below)) (Ok None) ≡ pick t (leaf_next a root k (leaf_for a root p.below)) (Ok None)
         after true q = ap (leaf_next b root k) (leaf-alike a b root R.size page p.below) ∙ next-alike a b root R.size page (leaf_for a root p.below) q.0 k
         after false q = refl
 
-    go : (x : Root) → index_call a ≡ x → next_from b k x ≡ next_from a k x
-    go (roots.Refused r) e = refl
-    go (roots.At root) e =
+    go : (x : Result ℕ Refusal) → index_call a ≡ x → next_from b k x ≡ next_from a k x
+    go (Err r) e = refl
+    go (Ok root) e =
         let page = index-page a b (next_reads a k) R root e in
         let p = leaf_for a root k in
         let q = leaf_next a root k p in
         ap (λ (x : Place). or_else (leaf_next b root k x) (next_after b root k x)) (leaf-alike a b root R.size page k)
-        ∙ ap (λ (x : Next). or_else x (next_after b root k p)) (next-alike a b root R.size page p (R.leaves root e).0 k)
+        ∙ ap (λ (x : Result (Option ℕ) Refusal). or_else x (next_after b root k p)) (next-alike a b root R.size page p (R.leaves root e).0 k)
         ∙ leaves root page p q (R.leaves root e).1

@@ -1,10 +1,10 @@
 -- What format, check, lookup, its companion and next key answer, and what they leave (document 01, 'Each call and when it says no'; document 02 (b)).
 -- Assumes nothing.
-use Rattle.std.specs.Prelude.{ℕ, Bool, ◌&&◌, List, [], length, leb}
+use Rattle.std.specs.Prelude.{ℕ, Bool, ◌&&◌, List, [], length, leb, Err, None, Ok, Option, Result, Some}
+use Rattle.device.specs.declared.Refusal.{Refusal}
+use Rattle.image.specs.declared.Part.{Part}
 use Rattle.codec.specs.Lists.{part, pick}
-use Rattle.device.specs.Calls.{image_size, mark_waits, unsound, key_range, refusal, is_image_size}
-use Rattle.device.specs.declared.Answer.{Answer}
-use Rattle.device.specs.declared.Answer.TheVariants.{Accepted, Refused}
+use Rattle.device.specs.Calls.{image_size, mark_waits, unsound, key_range, refusal, is_image_size, Answer}
 use Rattle.page.specs.Layout.{top_key}
 use Rattle.image.specs.PageZero.{page_count, page_zero}
 use Rattle.page.specs.Page.{records}
@@ -15,13 +15,7 @@ use Rattle.image.specs.Descent.{leaf_for, leaf_sound}
 use Rattle.image.specs.Fresh.{fresh}
 use Rattle.image.specs.declared.PageZero.{PageZero}
 use Rattle.image.specs.declared.PageZero.TheVariants.{Wrong, Waiting, Ready}
-use Rattle.image.specs.declared.Root.{Root}
-use Rattle.image.specs.declared.Root.TheVariants as roots
 use Rattle.image.specs.declared.Place.{Place}
-use Rattle.image.specs.declared.Lookup.{Lookup}
-use Rattle.image.specs.declared.Lookup.TheVariants as lookups
-use Rattle.image.specs.declared.Next.{Next}
-use Rattle.image.specs.declared.Next.TheVariants as nexts
 
 -- ---- format
 
@@ -32,33 +26,33 @@ pub record Formatted : Type 0 where
 -- "Format (writes a fresh store): 1 if the length isn't 8 to 64 whole pages."
 unfoldable pub format_call : List ℕ → Formatted
 format_call img =
-    pick (is_image_size (length img)) (record { answer = Accepted; image = fresh (page_count img) }) (record { answer = Refused (refusal image_size); image = img })
+    pick (is_image_size (length img)) (record { answer = Ok tt; image = fresh (page_count img) }) (record { answer = Err (refusal image_size); image = img })
 
 -- ---- page 0 and the index
 
 -- "4 if page 0 is wrong; 3 if a well-formed mark waits", else the root
-unfoldable pub root_from : PageZero → Root
-root_from Wrong = roots.Refused (refusal unsound)
-root_from (Waiting k root) = roots.Refused (refusal mark_waits)
-root_from (Ready root) = roots.At root
+unfoldable pub root_from : PageZero → Result ℕ Refusal
+root_from Wrong = Err (refusal unsound)
+root_from (Waiting k root) = Err (refusal mark_waits)
+root_from (Ready root) = Ok root
 
-unfoldable pub root_call : List ℕ → Root
-root_call img = pick (is_image_size (length img)) (root_from (page_zero img)) (roots.Refused (refusal image_size))
+unfoldable pub root_call : List ℕ → Result ℕ Refusal
+root_call img = pick (is_image_size (length img)) (root_from (page_zero img)) (Err (refusal image_size))
 
 -- what the reading calls read first, "page 0, the index": 4 if the index breaks soundness by itself
-unfoldable pub index_from : List ℕ → Root → Root
-index_from img (roots.Refused r) = roots.Refused r
-index_from img (roots.At root) = pick (index_ok img root) (roots.At root) (roots.Refused (refusal unsound))
+unfoldable pub index_from : List ℕ → Result ℕ Refusal → Result ℕ Refusal
+index_from img (Err r) = Err r
+index_from img (Ok root) = pick (index_ok img root) (Ok root) (Err (refusal unsound))
 
-unfoldable pub index_call : List ℕ → Root
+unfoldable pub index_call : List ℕ → Result ℕ Refusal
 index_call img = index_from img (root_call img)
 
 -- ---- check
 
 -- "4 if unsound": the index and every leaf
-unfoldable pub check_from : List ℕ → Root → Answer
-check_from img (roots.Refused r) = Refused r
-check_from img (roots.At root) = pick (tree_ok img root) Accepted (Refused (refusal unsound))
+unfoldable pub check_from : List ℕ → Result ℕ Refusal → Answer
+check_from img (Err r) = Err r
+check_from img (Ok root) = pick (tree_ok img root) (Ok tt) (Err (refusal unsound))
 
 -- "Check: 1; 4 if page 0 is wrong; 3 if a well-formed mark waits; 4 if unsound."
 unfoldable pub check_call : List ℕ → Answer
@@ -71,30 +65,30 @@ unfoldable pub key_ok : ℕ → Bool
 key_ok k = leb 1 k && leb k top_key
 
 -- "one leaf": the one that the key belongs to; 4 if it breaks soundness by itself, "separator bounds included"
-unfoldable pub leaf_lookup : List ℕ → ℕ → ℕ → Lookup
+unfoldable pub leaf_lookup : List ℕ → ℕ → ℕ → Result (Option Part) Refusal
 leaf_lookup img root k =
     let p = leaf_for img root k in
-    pick (leaf_sound img root p) (found_in k (page_entries img p.page)) (lookups.Refused (refusal unsound))
+    pick (leaf_sound img root p) (found_in k (page_entries img p.page)) (Err (refusal unsound))
 
 -- "1, 3, 4 and 6 in the old order": 6 comes after the leaf's 4
-unfoldable pub ranged : ℕ → Lookup → Lookup
-ranged k (lookups.Refused r) = lookups.Refused r
-ranged k (lookups.Found o n) = pick (key_ok k) (lookups.Found o n) (lookups.Refused (refusal key_range))
-ranged k lookups.Missing = pick (key_ok k) lookups.Missing (lookups.Refused (refusal key_range))
+unfoldable pub ranged : ℕ → Result (Option Part) Refusal → Result (Option Part) Refusal
+ranged k (Err r) = Err r
+ranged k (Ok (Some (record { offset = o; length = n }))) = pick (key_ok k) (Ok (Some (record { offset = o; length = n }))) (Err (refusal key_range))
+ranged k (Ok None) = pick (key_ok k) (Ok None) (Err (refusal key_range))
 
-unfoldable pub lookup_from : List ℕ → ℕ → Root → Lookup
-lookup_from img k (roots.Refused r) = lookups.Refused r
-lookup_from img k (roots.At root) = ranged k (leaf_lookup img root k)
+unfoldable pub lookup_from : List ℕ → ℕ → Result ℕ Refusal → Result (Option Part) Refusal
+lookup_from img k (Err r) = Err r
+lookup_from img k (Ok root) = ranged k (leaf_lookup img root k)
 
 -- "A lookup now reads page 0, the index and one leaf."
-unfoldable pub lookup_call : List ℕ → ℕ → Lookup
+unfoldable pub lookup_call : List ℕ → ℕ → Result (Option Part) Refusal
 lookup_call img k = lookup_from img k (index_call img)
 
 -- "A companion hands back the value bytes themselves as part of the image, with no copy; empty if refused or missing."
-unfoldable pub value_at : List ℕ → Lookup → List ℕ
-value_at img (lookups.Found o n) = part img o n
-value_at img lookups.Missing = []
-value_at img (lookups.Refused r) = []
+unfoldable pub value_at : List ℕ → Result (Option Part) Refusal → List ℕ
+value_at img (Ok (Some (record { offset = o; length = n }))) = part img o n
+value_at img (Ok None) = []
+value_at img (Err r) = []
 
 unfoldable pub value_call : List ℕ → ℕ → List ℕ
 value_call img k = value_at img (lookup_call img k)
@@ -102,20 +96,20 @@ value_call img k = value_at img (lookup_call img k)
 -- ---- next key
 
 -- the smallest larger key of the leaf at p, or none; 4 if it breaks soundness by itself
-unfoldable pub leaf_next : List ℕ → ℕ → ℕ → Place → Next
-leaf_next img root k p = pick (leaf_sound img root p) (above k (records (page_of img p.page))) (nexts.Refused (refusal unsound))
+unfoldable pub leaf_next : List ℕ → ℕ → ℕ → Place → Result (Option ℕ) Refusal
+leaf_next img root k p = pick (leaf_sound img root p) (above k (records (page_of img p.page))) (Err (refusal unsound))
 
 -- "the leaf after" that at p, if there is one: the leaf that the end of its range belongs to
-unfoldable pub next_after : List ℕ → ℕ → ℕ → Place → Next
-next_after img root k p = pick (leb p.below top_key) (leaf_next img root k (leaf_for img root p.below)) nexts.Last
+unfoldable pub next_after : List ℕ → ℕ → ℕ → Place → Result (Option ℕ) Refusal
+next_after img root k p = pick (leb p.below top_key) (leaf_next img root k (leaf_for img root p.below)) (Ok None)
 
 -- "Next key reads that and, only if that leaf holds no larger key, the leaf after."
-unfoldable pub next_from : List ℕ → ℕ → Root → Next
-next_from img k (roots.Refused r) = nexts.Refused r
-next_from img k (roots.At root) =
+unfoldable pub next_from : List ℕ → ℕ → Result ℕ Refusal → Result (Option ℕ) Refusal
+next_from img k (Err r) = Err r
+next_from img k (Ok root) =
     let p = leaf_for img root k in
     or_else (leaf_next img root k p) (next_after img root k p)
 
 -- "Next takes any 8-byte number and answers the smallest key above it, or none."
-unfoldable pub next_call : List ℕ → ℕ → Next
+unfoldable pub next_call : List ℕ → ℕ → Result (Option ℕ) Refusal
 next_call img k = next_from img k (index_call img)

@@ -1,7 +1,6 @@
 -- The way from the root to the leaf that a key belongs to (document 02 (b): "A lookup now reads page 0, the index and one leaf").
 -- Assumes nothing.
-use Rattle.std.specs.Prelude.{ℕ, zero, suc, Bool, List, length, get_or, eqb}
-use Rattle.std.proofs.Math.Option.{Option, none, some}
+use Rattle.std.specs.Prelude.{ℕ, zero, suc, Bool, List, length, get_or, eqb, None, Option, Some}
 use Rattle.codec.specs.Lists.{pick}
 use Rattle.page.specs.Layout.{Rec}
 use Rattle.page.specs.Page.{records}
@@ -33,4 +32,4 @@ leaf_sound img root p = leaf_at img (eqb (length (children img root)) 1) p
 unfoldable pub records_for : List ℕ → ℕ → ℕ → Option (List Rec)
 records_for img root k =
     let p = leaf_for img root k in
-    pick (leaf_sound img root p) (some (records (page_of img p.page))) none
+    pick (leaf_sound img root p) (Some (records (page_of img p.page))) None

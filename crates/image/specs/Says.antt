@@ -1,9 +1,9 @@
 -- What an answer of lookup or next key says of the pages that are read, clause by clause and in the order of the refusals (document 02 (b)).
 -- Assumes nothing.
-use Rattle.std.specs.Prelude.{ℕ, ◌≤◌, ◌<◌, ◌+◌, ◌≡◌, ◌⊎◌, List, [], ◌∷◌, ◌++◌, true, false, length, eqb}
-use Rattle.std.proofs.Math.Option.{none, some}
+use Rattle.std.specs.Prelude.{ℕ, ◌≤◌, ◌<◌, ◌+◌, ◌≡◌, ◌⊎◌, List, [], ◌∷◌, ◌++◌, true, false, length, eqb, Err, None, Ok, Option, Result, Some}
+use Rattle.image.specs.declared.Part.{Part}
 use Rattle.codec.specs.Lists.{part, All}
-use Rattle.device.specs.Calls.{is_image_size}
+use Rattle.device.specs.Calls.{is_image_size, refusal_at}
 use Rattle.device.specs.declared.Refusal.{Refusal}
 use Rattle.page.specs.Layout.{Rec}
 use Rattle.page.specs.Page.{records}
@@ -13,10 +13,6 @@ use Rattle.image.specs.Image.{child_of, children, start_of, next_sep}
 use Rattle.image.specs.Facts.{Index, Leaf}
 use Rattle.image.specs.Table.{page_entries, find, found_in}
 use Rattle.image.specs.declared.PageZero.TheVariants.{Wrong, Waiting, Ready}
-use Rattle.image.specs.declared.Lookup.{Lookup}
-use Rattle.image.specs.declared.Lookup.TheVariants as lookups
-use Rattle.image.specs.declared.Next.{Next}
-use Rattle.image.specs.declared.Next.TheVariants as nexts
 
 -- ---- records of a table
 
@@ -46,10 +42,10 @@ pub record Opened (img : List ℕ) (root : ℕ) : Type 0 where
 
 -- why not: "1; 4 if page 0 is wrong; 3 if a well-formed mark waits", then 4 for the index
 pub data NotOpened (img : List ℕ) : Refusal → Type 0 where
-  bad-size : is_image_size (length img) ≡ false → NotOpened img (record { number = 1; edit = 0 })
-  wrong-zero : is_image_size (length img) ≡ true → page_zero img ≡ Wrong → NotOpened img (record { number = 4; edit = 0 })
-  mark-waits : is_image_size (length img) ≡ true → (k root : ℕ) → page_zero img ≡ Waiting k root → NotOpened img (record { number = 3; edit = 0 })
-  bad-index : is_image_size (length img) ≡ true → (root : ℕ) → page_zero img ≡ Ready root → (Index img root → ⊥) → NotOpened img (record { number = 4; edit = 0 })
+  bad-size : is_image_size (length img) ≡ false → NotOpened img (refusal_at 1 0)
+  wrong-zero : is_image_size (length img) ≡ true → page_zero img ≡ Wrong → NotOpened img (refusal_at 4 0)
+  mark-waits : is_image_size (length img) ≡ true → (k root : ℕ) → page_zero img ≡ Waiting k root → NotOpened img (refusal_at 3 0)
+  bad-index : is_image_size (length img) ≡ true → (root : ℕ) → page_zero img ≡ Ready root → (Index img root → ⊥) → NotOpened img (refusal_at 4 0)
 
 -- ---- the leaf that a number belongs to
 
@@ -86,21 +82,21 @@ pub record ReadUnsound (img : List ℕ) (k root : ℕ) : Type 0 where
 -- ---- answers
 
 -- a lookup: each refusal with its ground, the first that holds, and else what the one leaf holds, with the place of the value in the image
-pub data LookupSays (img : List ℕ) (k : ℕ) : Lookup → Type 0 where
-  not_opened : (r : Refusal) → NotOpened img r → LookupSays img k (lookups.Refused r)
-  bad-leaf : (root : ℕ) → ReadUnsound img k root → LookupSays img k (lookups.Refused (record { number = 4; edit = 0 }))
-  bad-key : (root : ℕ) → ReadSound img k root → (k < 1) ⊎ (999999999999 < k) → LookupSays img k (lookups.Refused (record { number = 6; edit = 0 }))
-  found : (root : ℕ) (r : ReadSound img k root) → 1 ≤ k → k ≤ 999999999999 → (o n : ℕ) → found_in k (page_entries img (child_of r.belongs.own)) ≡ lookups.Found o n →
-      find k (read_records r) ≡ some (part img o n) → length (part img o n) ≡ n → o + n ≤ length img → LookupSays img k (lookups.Found o n)
-  missing : (root : ℕ) (r : ReadSound img k root) → 1 ≤ k → k ≤ 999999999999 → find k (read_records r) ≡ none → LookupSays img k lookups.Missing
+pub data LookupSays (img : List ℕ) (k : ℕ) : Result (Option Part) Refusal → Type 0 where
+  not_opened : (r : Refusal) → NotOpened img r → LookupSays img k (Err r)
+  bad-leaf : (root : ℕ) → ReadUnsound img k root → LookupSays img k (Err (refusal_at 4 0))
+  bad-key : (root : ℕ) → ReadSound img k root → (k < 1) ⊎ (999999999999 < k) → LookupSays img k (Err (refusal_at 6 0))
+  found : (root : ℕ) (r : ReadSound img k root) → 1 ≤ k → k ≤ 999999999999 → (o n : ℕ) → found_in k (page_entries img (child_of r.belongs.own)) ≡ Ok (Some (record { offset = o; length = n })) →
+      find k (read_records r) ≡ Some (part img o n) → length (part img o n) ≡ n → o + n ≤ length img → LookupSays img k (Ok (Some (record { offset = o; length = n })))
+  missing : (root : ℕ) (r : ReadSound img k root) → 1 ≤ k → k ≤ 999999999999 → find k (read_records r) ≡ None → LookupSays img k (Ok None)
 
 -- a next key: "and, only if that leaf holds no larger key, the leaf after"
-pub data NextSays (img : List ℕ) (k : ℕ) : Next → Type 0 where
-  next-not-opened : (r : Refusal) → NotOpened img r → NextSays img k (nexts.Refused r)
-  next-bad-leaf : (root : ℕ) → ReadUnsound img k root → NextSays img k (nexts.Refused (record { number = 4; edit = 0 }))
-  here : (root : ℕ) (r : ReadSound img k root) (j : ℕ) → Smallest k j (read_records r) → NextSays img k (nexts.Key j)
+pub data NextSays (img : List ℕ) (k : ℕ) : Result (Option ℕ) Refusal → Type 0 where
+  next-not-opened : (r : Refusal) → NotOpened img r → NextSays img k (Err r)
+  next-bad-leaf : (root : ℕ) → ReadUnsound img k root → NextSays img k (Err (refusal_at 4 0))
+  here : (root : ℕ) (r : ReadSound img k root) (j : ℕ) → Smallest k j (read_records r) → NextSays img k (Ok (Some j))
   bad-after : (root : ℕ) (r : ReadSound img k root) → AtMost k (read_records r) → (d : Rec) (ds : List Rec) → r.belongs.later ≡ d ∷ ds →
-      (GoodLeaf img (r.belongs.before ++ r.belongs.own ∷ []) d ds → ⊥) → NextSays img k (nexts.Refused (record { number = 4; edit = 0 }))
+      (GoodLeaf img (r.belongs.before ++ r.belongs.own ∷ []) d ds → ⊥) → NextSays img k (Err (refusal_at 4 0))
   after : (root : ℕ) (r : ReadSound img k root) → AtMost k (read_records r) → (d : Rec) (ds : List Rec) → r.belongs.later ≡ d ∷ ds →
-      GoodLeaf img (r.belongs.before ++ r.belongs.own ∷ []) d ds → (j : ℕ) → Smallest k j (records (page_of img (child_of d))) → NextSays img k (nexts.Key j)
-  last : (root : ℕ) (r : ReadSound img k root) → AtMost k (read_records r) → r.belongs.later ≡ [] → NextSays img k nexts.Last
+      GoodLeaf img (r.belongs.before ++ r.belongs.own ∷ []) d ds → (j : ℕ) → Smallest k j (records (page_of img (child_of d))) → NextSays img k (Ok (Some j))
+  last : (root : ℕ) (r : ReadSound img k root) → AtMost k (read_records r) → r.belongs.later ≡ [] → NextSays img k (Ok None)

@@ -1,7 +1,8 @@
 -- The table of an image, and what a lookup and a next key say of it (document 01, 'The plain ledger' and 'Each call').
 -- Assumes nothing.
-use Rattle.std.specs.Prelude.{ℕ, ◌+◌, ◌*◌, List, [], ◌∷◌, map, length, ltb, eqb}
-use Rattle.std.proofs.Math.Option.{Option, none, some}
+use Rattle.std.specs.Prelude.{ℕ, ◌+◌, ◌*◌, List, [], ◌∷◌, map, length, ltb, eqb, Err, None, Ok, Option, Result, Some}
+use Rattle.device.specs.declared.Refusal.{Refusal}
+use Rattle.image.specs.declared.Part.{Part}
 use Rattle.codec.specs.Lists.{pick}
 use Rattle.page.specs.Layout.{page_size, Rec}
 use Rattle.page.specs.Page.{Entry, entries, records}
@@ -9,10 +10,6 @@ use Rattle.page.specs.Operations.{page_of}
 use Rattle.image.specs.PageZero.{root_of}
 use Rattle.page.specs.PageFormat.{PageFormat, format1}
 use Rattle.image.specs.Image.{records_at, joined, gathered, height_of}
-use Rattle.image.specs.declared.Lookup.{Lookup}
-use Rattle.image.specs.declared.Lookup.TheVariants.{Found, Missing}
-use Rattle.image.specs.declared.Next.{Next}
-use Rattle.image.specs.declared.Next.TheVariants.{Key, Last, Refused}
 
 -- the records of the leaves that the index records cs name
 unfoldable pub leaf_records : List ℕ → List Rec → List Rec
@@ -43,21 +40,21 @@ listing img = gathered format1 (λ x. page_entries img x) (λ x. []) img (height
 
 -- the value that a table holds for the key k
 unfoldable pub find : ℕ → List Rec → Option (List ℕ)
-find k [] = none
-find k (r ∷ rs) = pick (eqb r.key k) (some r.value) (find k rs)
+find k [] = None
+find k (r ∷ rs) = pick (eqb r.key k) (Some r.value) (find k rs)
 
 -- "Lookup answers the value's offset in the image and its length, or missing."
-unfoldable pub found_in : ℕ → List Entry → Lookup
-found_in k [] = Missing
-found_in k (e ∷ es) = pick (eqb e.rec.key k) (Found (e.at + 16) (length e.rec.value)) (found_in k es)
+unfoldable pub found_in : ℕ → List Entry → Result (Option Part) Refusal
+found_in k [] = Ok None
+found_in k (e ∷ es) = pick (eqb e.rec.key k) (Ok (Some (record { offset = (e.at + 16); length = (length e.rec.value) }))) (found_in k es)
 
 -- "the smallest key above it, or none": the first of a rising list
-unfoldable pub above : ℕ → List Rec → Next
-above k [] = Last
-above k (r ∷ rs) = pick (ltb k r.key) (Key r.key) (above k rs)
+unfoldable pub above : ℕ → List Rec → Result (Option ℕ) Refusal
+above k [] = Ok None
+above k (r ∷ rs) = pick (ltb k r.key) (Ok (Some r.key)) (above k rs)
 
 -- the first answer, or where it is Last the second
-abbrev pub or_else : Next → Next → Next
-or_else (Key j) y = Key j
-or_else Last y = y
-or_else (Refused r) y = Refused r
+abbrev pub or_else : Result (Option ℕ) Refusal → Result (Option ℕ) Refusal → Result (Option ℕ) Refusal
+or_else (Ok (Some j)) y = Ok (Some j)
+or_else (Ok None) y = y
+or_else (Err r) y = Err r

@@ -1,5 +1,6 @@
 -- What an accepted merge leaves, what a refused one leaves, and that the third buffer counts by its length alone.
 -- Assumes nothing.
+use Rattle.std.specs.Prelude.{Err, Ok}
 use Prim.Native.Nat.{ℕ, suc, ◌+◌, ◌-◌, ◌*◌, ◌/◌, ◌≤◌}
 use mathlib.Core.Path.{◌≡◌, refl, sym, ap, ap₂, ◌∙◌, subst}
 use mathlib.Core.Bool.{Bool, true, false}
@@ -7,10 +8,8 @@ use mathlib.Core.Logic.{◌⊎◌, inl, inr, ⊎_elim}
 use mathlib.Core.List.{List, [], map}
 use native.Mathlib.Omega.{arith}
 use lib.ListN.{length}
-use Rattle.device.specs.Calls.{is_image_size, Ran, accepted, unless}
+use Rattle.device.specs.Calls.{is_image_size, Ran, accepted, unless, Answer}
 use Rattle.device.specs.declared.Refusal.{Refusal}
-use Rattle.device.specs.declared.Answer.{Answer}
-use Rattle.device.specs.declared.Answer.TheVariants as answers
 use Rattle.device.proofs.Calls.{not-accepted}
 use Rattle.page.specs.Layout.{page_size, slot_count, top_key, Rec}
 use Rattle.page.specs.Page.{records}
@@ -96,7 +95,7 @@ module _ (a b out : List ℕ) where
   accepted-made : (c : List ℕ) → merge_call a b out ≡ accepted c → Made c
   accepted-made c e = go (merge_call a b out) (merge-says a b out) (ap (λ (r : Ran). r.answer) e) (ap (λ (r : Ran). r.work) e)
     where
-      go : (r : Ran) → MergeSays a b out r → r.answer ≡ answers.Accepted → r.work ≡ c → Made c
+      go : (r : Ran) → MergeSays a b out r → r.answer ≡ Ok tt → r.work ≡ c → Made c
       go _ (bad-buffer _) e w = absurd (not-accepted _ e)
       go _ (bad-first _ _ _) e w = absurd (not-accepted _ e)
       go _ (bad-second _ _ _ _) e w = absurd (not-accepted _ e)
@@ -132,10 +131,10 @@ module _ (a b out : List ℕ) where
       says-merge b a out _ (merges m.ls (other_way m.ls m.fills) m.few m.fit) ∙ ap accepted m.is
 
   -- "each leaving the third buffer unchanged"
-  pub merge-refused : (r : Refusal) → (merge_call a b out).answer ≡ answers.Refused r → (merge_call a b out).work ≡ out
+  pub merge-refused : (r : Refusal) → (merge_call a b out).answer ≡ Err r → (merge_call a b out).work ≡ out
   merge-refused r e = go (merge_call a b out) (merge-says a b out) e
     where
-      go : (x : Ran) → MergeSays a b out x → x.answer ≡ answers.Refused r → x.work ≡ out
+      go : (x : Ran) → MergeSays a b out x → x.answer ≡ Err r → x.work ≡ out
       go _ (bad-buffer _) e = refl
       go _ (bad-first _ _ _) e = refl
       go _ (bad-second _ _ _ _) e = refl
@@ -164,7 +163,7 @@ merge-same a b a' b' out c c' e e' to fro =
 
 -- two results with the same answer, and the same buffer where it is accepted
 abbrev Alike : Ran → Ran → Type 0
-Alike r s = (s.answer ≡ r.answer) × (r.answer ≡ answers.Accepted → s.work ≡ r.work)
+Alike r s = (s.answer ≡ r.answer) × (r.answer ≡ Ok tt → s.work ≡ r.work)
 
 module _ (out out' : List ℕ) where
   unless-alike : (t : Bool) (k : ℕ) (r s : Ran) → Alike r s → Alike (unless t k out r) (unless t k out' s)
@@ -174,15 +173,15 @@ module _ (out out' : List ℕ) where
 
   checked-alike : (c : Answer) (r s : Ran) → Alike r s → Alike (if_checked c out r) (if_checked c out' s)
   unfolding if_checked
-  checked-alike answers.Accepted r s h = h
-  checked-alike (answers.Refused k) r s h = (refl, λ e. absurd (not-accepted _ e))
+  checked-alike (Ok tt) r s h = h
+  checked-alike (Err k) r s h = (refl, λ e. absurd (not-accepted _ e))
 
   store-alike : length out' ≡ length out → (ls : List (List Rec)) → Alike (store_leaves ls out) (store_leaves ls out')
   unfolding store_leaves
   store-alike same ls = rw same (unless-alike _ _ _ _ (unless-alike _ _ _ _ (refl, λ e. refl)))
 
 pub merge-any : (a b out out' : List ℕ) → length out' ≡ length out →
-    ((merge_call a b out').answer ≡ (merge_call a b out).answer) × ((merge_call a b out).answer ≡ answers.Accepted → (merge_call a b out').work ≡ (merge_call a b out).work)
+    ((merge_call a b out').answer ≡ (merge_call a b out).answer) × ((merge_call a b out).answer ≡ Ok tt → (merge_call a b out').work ≡ (merge_call a b out).work)
 unfolding merge_call merge_tables
 merge-any a b out out' same =
     let stores = store-alike out out' same (leaves_of (merged (table a) (table b))) in

@@ -1,5 +1,6 @@
 -- How many leaves the records of two books fill: one leaf at a time, by what is left of both.
 -- Assumes nothing.
+use Rattle.std.specs.Prelude.{Err, Ok}
 use Prim.Native.Nat.{ℕ, suc, ◌+◌, ◌-◌, ◌*◌, ◌≤◌, ◌<◌}
 use mathlib.Core.Path.{◌≡◌, refl, sym, ap, ◌∙◌}
 use mathlib.Core.Bool.{Bool, true, false}
@@ -7,6 +8,7 @@ use mathlib.Core.List.{List, [], ◌∷◌, ◌++◌}
 use native.Mathlib.Omega.{arith}
 use lib.ListN.{length, length-append}
 use lib.Dec.{ltb}
+use Rattle.device.specs.Calls.{key_in_both, refusal}
 use Rattle.codec.specs.Lists.{pick}
 use Rattle.page.specs.Layout.{page_size, line_size, slot_count, leaf_kind, top_key, Rec, rec_of, size}
 use Rattle.page.specs.Page.{records}
@@ -25,7 +27,6 @@ use Rattle.merge.specs.Tables.{merged, apart}
 use Rattle.merge.specs.Leaves.{packed, leaves_of}
 use Rattle.merge.specs.Cursors.{Ready, left_of, apart_at, Passed, takes}
 use Rattle.merge.specs.declared.Cursors.{Cursors}
-use Rattle.merge.specs.declared.Counted.TheVariants as counted
 use Rattle.merge.proofs.Standing.{few-leaves}
 use Rattle.merge.proofs.Coming.{next_of, ends-none, same-twice, next-ok, passed_is}
 use Rattle.merge.proofs.Packing.{length_last, sizes-last, fits-takes, one-alone, packed-end, packed-takes, packed-closes}
@@ -147,22 +148,22 @@ module _ {a b : List ℕ} {at : Cursors} {leaves n s : ℕ} (k : Counting a b at
 
   -- both are at the same key: it is in both, or all are counted
   module _ (e : at.first.key ≡ at.second.key) where
-    pub count-twice : at.first.key < suc top_key → counted.InBoth ≡ pick (apart (table a) (table b)) (counted.Leaves (length (leaves_of (merged (table a) (table b))))) counted.InBoth
+    pub count-twice : at.first.key < suc top_key → (Err (refusal key_in_both)) ≡ pick (apart (table a) (table b)) (Ok (length (leaves_of (merged (table a) (table b))))) (Err (refusal key_in_both))
     count-twice h = rw (sym k.still ∙ same-twice k.ready e h)
 
-    pub count-ends : suc top_key ≤ at.first.key → counted.Leaves leaves ≡ pick (apart (table a) (table b)) (counted.Leaves (length (leaves_of (merged (table a) (table b))))) counted.InBoth
+    pub count-ends : suc top_key ≤ at.first.key → Ok leaves ≡ pick (apart (table a) (table b)) (Ok (length (leaves_of (merged (table a) (table b))))) (Err (refusal key_in_both))
     count-ends h =
         let n = ends-none k.ready e h in
         let f : length (packed k.last (left_of a b at)) ≡ 1 = ap length (ap (packed k.last) n.0 ∙ packed-end k.last) in
         let g : leaves ≡ length (leaves_of (merged (table a) (table b))) = omega (arith, f, k.whole) in
-        rw (sym k.still ∙ n.1) (ap counted.Leaves g)
+        rw (sym k.still ∙ n.1) (ap Ok g)
 
 -- ---- what was counted, by its answer
 
-pub counted-both : (t : Bool) (n : ℕ) → pick t (counted.Leaves n) counted.InBoth ≡ counted.InBoth → t ≡ false
+pub counted-both : (t : Bool) (n : ℕ) → pick t (Ok n) (Err (refusal key_in_both)) ≡ (Err (refusal key_in_both)) → t ≡ false
 counted-both true n e = let z : ◌≡◌ {A = ℕ} 0 1 = cc in absurd (omega arith)
 counted-both false n e = refl
 
-pub counted-leaves : (t : Bool) (n m : ℕ) → pick t (counted.Leaves n) counted.InBoth ≡ counted.Leaves m → (t ≡ true) × (m ≡ n)
+pub counted-leaves : (t : Bool) (n m : ℕ) → pick t (Ok n) (Err (refusal key_in_both)) ≡ Ok m → (t ≡ true) × (m ≡ n)
 counted-leaves true n m e = (refl, cc)
 counted-leaves false n m e = let z : ◌≡◌ {A = ℕ} 0 1 = cc in absurd (omega arith)

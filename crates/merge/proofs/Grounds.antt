@@ -1,5 +1,6 @@
 -- What merge answers: each refusal where its ground is the first that holds, and acceptance where none does.
 -- Assumes nothing.
+use Rattle.std.specs.Prelude.{Err, Ok}
 use Prim.Native.Nat.{ℕ, ◌+◌, ◌-◌, ◌≤◌, ◌<◌}
 use mathlib.Core.Path.{◌≡◌, refl, sym, ap, ◌∙◌, subst}
 use mathlib.Core.Bool.{Bool, true, false, true≢false}
@@ -9,9 +10,7 @@ use native.Mathlib.Decide.{dec_lt}
 use lib.ListN.{length}
 use borrow.Author.Tests.{le-leb, lt-leb}
 use Rattle.codec.specs.Lists.{All}
-use Rattle.device.specs.Calls.{is_image_size, Ran, accepted, refused, unless}
-use Rattle.device.specs.declared.Answer.{Answer}
-use Rattle.device.specs.declared.Answer.TheVariants as answers
+use Rattle.device.specs.Calls.{is_image_size, Ran, accepted, refused, unless, Answer}
 use Rattle.page.specs.Layout.{slot_count, Rec}
 use Rattle.page.specs.Page.{RecOk}
 use Rattle.image.specs.PageZero.{page_count}
@@ -128,6 +127,6 @@ module _ (a b out : List ℕ) where
     where
       go : (s : Bool) → is_image_size (length out) ≡ s → (c : Answer) → check_call a ≡ c → (d : Answer) → check_call b ≡ d → MergeSays a b out (merge_call a b out)
       go false size c one d two = told _ (bad-buffer size)
-      go true size (answers.Refused r) one d two = told _ (bad-first size r one)
-      go true size answers.Accepted one (answers.Refused r) two = told _ (bad-second size one r two)
-      go true size answers.Accepted one answers.Accepted two = begun-says (record { size = size; first = one; second = two }) (apart (table a) (table b)) refl
+      go true size (Err r) one d two = told _ (bad-first size r one)
+      go true size (Ok tt) one (Err r) two = told _ (bad-second size one r two)
+      go true size (Ok tt) one (Ok tt) two = begun-says (record { size = size; first = one; second = two }) (apart (table a) (table b)) refl

@@ -1,11 +1,11 @@
 -- Two rising tables into one: it holds every record of both and nothing else, and no other rising table does; and when a key is in both.
 -- Assumes nothing.
+use Rattle.std.specs.Prelude.{None, Option, Some}
 use Prim.Native.Nat.{ℕ, suc, ◌<◌, ◌≤◌}
 use mathlib.Core.Path.{◌≡◌, refl, sym, ap, ◌∙◌, subst}
 use mathlib.Core.Bool.{Bool, true, false, not, ◌&&◌, false≢true}
 use mathlib.Core.Logic.{◌⊎◌, inl, inr, ⊎_elim}
 use mathlib.Core.List.{List, [], ◌∷◌}
-use mathlib.Core.Option.{Option, none, some}
 use native.Mathlib.Omega.{arith}
 use lib.Dec.{ltb}
 use borrow.Author.Tests.{not-true}
@@ -154,8 +154,8 @@ in_both t [] h = absurd (false≢true (sym h))
 in_both t (s ∷ u) h = go (holds s.key t) refl h (in_both t u)
   where
     here : (o : Option (List ℕ)) → find s.key t ≡ o → holds s.key t ≡ true → InBoth t (s ∷ u)
-    here none e c = absurd (holds-found s.key t c e)
-    here (some v) e c = record { one = rec_of s.key v; other = s; in_first = find-member s.key v t e; in_second = inl refl; same = refl }
+    here None e c = absurd (holds-found s.key t c e)
+    here (Some v) e c = record { one = rec_of s.key v; other = s; in_first = find-member s.key v t e; in_second = inl refl; same = refl }
 
     go : (b : Bool) → holds s.key t ≡ b → (not b && all_b (λ (r : Rec). not (holds r.key t)) u) ≡ false →
         (all_b (λ (r : Rec). not (holds r.key t)) u ≡ false → InBoth t u) → InBoth t (s ∷ u)
@@ -168,11 +168,11 @@ pub both-in : (t u : List Rec) → InBoth t u → apart t u ≡ false
 unfolding apart
 both-in t u b = never_true (all_b (λ (r : Rec). not (holds r.key t)) u) never
   where
-    missing : (k : ℕ) → not (holds k t) ≡ true → find k t ≡ none
+    missing : (k : ℕ) → not (holds k t) ≡ true → find k t ≡ None
     missing k h = holds-missing k t (not-true (holds k t) h)
 
     never : all_b (λ (r : Rec). not (holds r.key t)) u ≡ true → ⊥
     never h =
-        let each = all_b-true (λ (r : Rec). not (holds r.key t)) (λ (r : Rec). find r.key t ≡ none) (λ r. missing r.key) u h in
-        let none-there = member-all (λ (r : Rec). find r.key t ≡ none) b.other u each b.in_second in
+        let each = all_b-true (λ (r : Rec). not (holds r.key t)) (λ (r : Rec). find r.key t ≡ None) (λ r. missing r.key) u h in
+        let none-there = member-all (λ (r : Rec). find r.key t ≡ None) b.other u each b.in_second in
         none-member b.one.key t (ap (λ (k : ℕ). find k t) b.same ∙ none-there) b.one.value b.in_first

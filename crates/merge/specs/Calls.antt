@@ -1,9 +1,7 @@
 -- What a merge answers, and what it leaves in the third buffer (document 02 (i)).
 -- Assumes nothing.
-use Rattle.std.specs.Prelude.{ℕ, ◌+◌, List, length, leb}
-use Rattle.device.specs.Calls.{image_size, index_full, pages_out, key_in_both, is_image_size, Ran, accepted, unless}
-use Rattle.device.specs.declared.Answer.{Answer}
-use Rattle.device.specs.declared.Answer.TheVariants as answers
+use Rattle.std.specs.Prelude.{ℕ, ◌+◌, List, length, leb, Err, Ok}
+use Rattle.device.specs.Calls.{image_size, index_full, pages_out, key_in_both, is_image_size, Ran, accepted, unless, Answer}
 use Rattle.page.specs.Layout.{slot_count, Rec}
 use Rattle.image.specs.PageZero.{page_count}
 use Rattle.image.specs.Table.{table}
@@ -25,8 +23,8 @@ merge_tables t u out = unless (apart t u) key_in_both out (store_leaves (leaves_
 
 -- check's refusals, "each leaving the third buffer unchanged"
 unfoldable pub if_checked : Answer → List ℕ → Ran → Ran
-if_checked answers.Accepted out ran = ran
-if_checked (answers.Refused r) out ran = record { answer = answers.Refused r; work = out }
+if_checked (Ok tt) out ran = ran
+if_checked (Err r) out ran = record { answer = Err r; work = out }
 
 -- "Refused: 1 for the third buffer, check's for the first image, check's for the second, 20 if a key is in both, 10, then 11"
 unfoldable pub merge_call : List ℕ → List ℕ → List ℕ → Ran

@@ -1,9 +1,8 @@
 -- What an answer of merge says, each refusal with its ground, the first that holds; and what an accepted merge leaves (document 02 (i)).
 -- Assumes nothing.
-use Rattle.std.specs.Prelude.{ℕ, ◌+◌, ◌-◌, ◌≤◌, ◌<◌, ◌≡◌, true, false, List, [], map, length, get_or}
+use Rattle.std.specs.Prelude.{ℕ, ◌+◌, ◌-◌, ◌≤◌, ◌<◌, ◌≡◌, true, false, List, [], map, length, get_or, Err, Ok}
 use Rattle.device.specs.Calls.{is_image_size, Ran, accepted, refused}
 use Rattle.device.specs.declared.Refusal.{Refusal}
-use Rattle.device.specs.declared.Answer.TheVariants as answers
 use Rattle.page.specs.Layout.{Rec}
 use Rattle.page.specs.Page.{records}
 use Rattle.page.specs.Operations.{page_of}
@@ -19,8 +18,8 @@ use Rattle.merge.specs.Leaves.{Packed}
 -- 1 and check's refusals do not hold
 pub record Begun (a b out : List ℕ) : Type 0 where
   pub size : is_image_size (length out) ≡ true
-  pub first : check_call a ≡ answers.Accepted
-  pub second : check_call b ≡ answers.Accepted
+  pub first : check_call a ≡ Ok tt
+  pub second : check_call b ≡ Ok tt
 
 -- nor does 20: the leaves ls hold the records of both, each leaf as many as it may
 pub record Filling (a b out : List ℕ) (ls : List (List Rec)) : Type 0 where
@@ -33,8 +32,8 @@ pub record Filling (a b out : List ℕ) (ls : List (List Rec)) : Type 0 where
 -- the result with its ground. N is the third buffer's; more than 28 leaves are 10 even if pages are short too
 pub data MergeSays (a b out : List ℕ) : Ran → Type 0 where
   bad-buffer : is_image_size (length out) ≡ false → MergeSays a b out (refused 1 out)
-  bad-first : is_image_size (length out) ≡ true → (r : Refusal) → check_call a ≡ answers.Refused r → MergeSays a b out (record { answer = answers.Refused r; work = out })
-  bad-second : is_image_size (length out) ≡ true → check_call a ≡ answers.Accepted → (r : Refusal) → check_call b ≡ answers.Refused r → MergeSays a b out (record { answer = answers.Refused r; work = out })
+  bad-first : is_image_size (length out) ≡ true → (r : Refusal) → check_call a ≡ Err r → MergeSays a b out (record { answer = Err r; work = out })
+  bad-second : is_image_size (length out) ≡ true → check_call a ≡ Ok tt → (r : Refusal) → check_call b ≡ Err r → MergeSays a b out (record { answer = Err r; work = out })
   in_both : Begun a b out → InBoth (table a) (table b) → MergeSays a b out (refused 20 out)
   no_index : (ls : List (List Rec)) → Filling a b out ls → 28 < length ls → MergeSays a b out (refused 10 out)
   no-pages : (ls : List (List Rec)) → Filling a b out ls → length ls ≤ 28 → page_count out - 1 < 1 + length ls → MergeSays a b out (refused 11 out)

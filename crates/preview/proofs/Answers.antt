@@ -1,15 +1,18 @@
 -- What the preview call answers: each refusal where its ground is the first that holds, else the part that the last edit of the key decides. On a sound image that is
 -- exactly what the ledger's table after the list holds.
 -- Assumes nothing.
+use Rattle.std.specs.Prelude.{Err, None, Ok, Option, Result, Some}
 use Prim.Native.Nat.{ℕ, ◌≤◌}
 use mathlib.Core.Path.{◌≡◌, refl, sym, ap, ◌∙◌, subst}
 use mathlib.Core.Logic.{◌⊎◌, inl, inr}
 use mathlib.Core.Bool.{Bool, true, false}
 use mathlib.Core.List.{List, [], ◌∷◌}
-use mathlib.Core.Option.{Option, none, some}
 use lib.ListN.{length}
+use Rattle.preview.specs.declared.Shown.{Shown}
+use Rattle.image.specs.declared.Part.{Part}
+use Rattle.preview.specs.declared.Shown.TheVariants.{InImage, InList}
 use Rattle.codec.specs.Lists.{pick, All}
-use Rattle.device.specs.Calls.{refusal}
+use Rattle.device.specs.Calls.{refusal, Answer, number_in, refusal_at}
 use Rattle.device.specs.declared.Refusal.{Refusal}
 use Rattle.page.specs.Layout.{Rec}
 use Rattle.image.specs.PageZero.{root_of}
@@ -18,10 +21,6 @@ use Rattle.image.specs.Table.{table, listing, find, found_in}
 use Rattle.image.specs.Descent.{records_for}
 use Rattle.image.specs.Calls.{index_call, key_ok, leaf_lookup, lookup_from, lookup_call}
 use Rattle.image.specs.Says.{Opened, ReadSound, ReadUnsound, read_records}
-use Rattle.image.specs.declared.Root.{Root}
-use Rattle.image.specs.declared.Root.TheVariants as roots
-use Rattle.image.specs.declared.Lookup.{Lookup}
-use Rattle.image.specs.declared.Lookup.TheVariants as lookups
 use Rattle.image.proofs.General.{All-middle}
 use Rattle.image.proofs.KeyRange.{key_ok-true, true-key_ok, key_ok-false, false-key_ok}
 use Rattle.image.proofs.Read.{OpeningSays, opening-says, opened-call, not-opened-call, read-or-not, read-lookup, unsound-lookup, ranged-in}
@@ -31,16 +30,12 @@ use Rattle.edit.specs.EditList.{Edit, insert, update, delete, key_of, Listed, li
 use Rattle.edit.specs.Ledger.{apply_edits}
 use Rattle.edit.specs.Reads.{Filled, list_bytes, Whole}
 use Rattle.edit.specs.Keys.{wholly, keys_from, keys_read, AllKept, FirstBroken}
-use Rattle.edit.specs.declared.Judged.{Judged}
-use Rattle.edit.specs.declared.Judged.TheVariants.{Good, Faulty}
 use Rattle.edit.proofs.General.{by-test}
 use Rattle.edit.proofs.Parsing.{reads-filled, list-whole, whole-list, list-fault, fault-list}
 use Rattle.edit.proofs.Keys.{kept-keys, keys_kept, keys-fault, fault-keys, SameFor, Alike, keys-same}
 use Rattle.preview.specs.Calls.{in_image, brings, seen, rules_of, keys_of, list_of, opened_of, preview_call, part_of, preview_value_call}
 use Rattle.preview.specs.Says.{previewed, looked_up, held, bytes_in}
 use Rattle.preview.specs.Answers.{NoEdit, LastEdit, Asked, AskedSound, Answers, bad-image, bad-list, bad-key, bad-edit, in_list, deleted, bad-leaf, of_image, missing}
-use Rattle.preview.specs.declared.Preview.{Preview}
-use Rattle.preview.specs.declared.Preview.TheVariants.{InList, InImage, Missing, Refused}
 use Rattle.preview.proofs.LastEdit.{no-edit, last-edit, last-or-none}
 use Rattle.preview.proofs.Shown.{Shows, seen-shows, sound-shows, Inside, seen-inside}
 
@@ -49,23 +44,23 @@ all_of P f [] = tt
 all_of P f (x ∷ l) = (f x, all_of P f l)
 
 -- the part of an answer, if it is one of the list, is not empty
-abbrev FilledPart : Preview → Type 0
-FilledPart (InList o n) = 1 ≤ n
-FilledPart (InImage o n) = Unit {0}
-FilledPart Missing = Unit {0}
-FilledPart (Refused r) = Unit {0}
+abbrev FilledPart : Result (Option Shown) Refusal → Type 0
+FilledPart (Ok (Some (InList (record { offset = o; length = n })))) = 1 ≤ n
+FilledPart (Ok (Some (InImage (record { offset = o; length = n })))) = Unit {0}
+FilledPart (Ok None) = Unit {0}
+FilledPart (Err r) = Unit {0}
 
 -- an answer that shows what is held comes to it
-shows-held : (img bytes : List ℕ) (a : Preview) (x : Option (List ℕ)) → Shows img bytes x a → previewed img bytes a ≡ held x
+shows-held : (img bytes : List ℕ) (a : Result (Option Shown) Refusal) (x : Option (List ℕ)) → Shows img bytes x a → previewed img bytes a ≡ held x
 unfolding previewed held
-shows-held img bytes (InList o n) x s = sym (ap held s.0)
-shows-held img bytes (InImage o n) x s = sym (ap held s.0)
-shows-held img bytes Missing x s = sym (ap held s)
-shows-held img bytes (Refused r) x s = absurd s
+shows-held img bytes (Ok (Some (InList (record { offset = o; length = n })))) x s = sym (ap held s.0)
+shows-held img bytes (Ok (Some (InImage (record { offset = o; length = n })))) x s = sym (ap held s.0)
+shows-held img bytes (Ok None) x s = sym (ap held s)
+shows-held img bytes (Err r) x s = absurd s
 
 -- a leaf that is read is not refused
-read-answers : (img : List ℕ) (k root : ℕ) → ReadSound img k root → (s : Refusal) → leaf_lookup img root k ≡ lookups.Refused s → ⊥
-read-answers img k root r s e = read-tells img k root r (lookups.Refused s) (sym (read-lookup img k root r) ∙ e)
+read-answers : (img : List ℕ) (k root : ℕ) → ReadSound img k root → (s : Refusal) → leaf_lookup img root k ≡ Err s → ⊥
+read-answers img k root r s e = read-tells img k root r (Err s) (sym (read-lookup img k root r) ∙ e)
 
 module _ (img bytes : List ℕ) (k : ℕ) where
   -- ---- where nothing is refused
@@ -102,11 +97,11 @@ module _ (img bytes : List ℕ) (k : ℕ) where
   unfolding preview_call opened_of list_of keys_of rules_of in_image brings
   preview-answers = opening (index_call img) (opening-says img)
     where
-      image : (root : ℕ) (es : List Edit) (A : Asked img bytes k root es) → NoEdit k es → ReadSound img k root ⊎ ReadUnsound img k root → (a : Lookup) → leaf_lookup img root k ≡ a → Answers img bytes k (in_image a)
-      image root es A h x (lookups.Found o n) e = of_image root es A h o n (asked-lookup root es A ∙ e)
-      image root es A h x lookups.Missing e = missing root es A h (asked-lookup root es A ∙ e)
-      image root es A h (inr u) (lookups.Refused r) e = let four : record { number = 4; edit = 0 } ≡ r = cc (unsound-lookup img k root u, e) in subst (λ (s : Refusal). Answers img bytes k (Refused s)) four (bad-leaf root es A h u)
-      image root es A h (inl r) (lookups.Refused s) e = absurd (read-answers img k root r s e)
+      image : (root : ℕ) (es : List Edit) (A : Asked img bytes k root es) → NoEdit k es → ReadSound img k root ⊎ ReadUnsound img k root → (a : Result (Option Part) Refusal) → leaf_lookup img root k ≡ a → Answers img bytes k (in_image a)
+      image root es A h x (Ok (Some (record { offset = o; length = n }))) e = of_image root es A h o n (asked-lookup root es A ∙ e)
+      image root es A h x (Ok None) e = missing root es A h (asked-lookup root es A ∙ e)
+      image root es A h (inr u) (Err r) e = let four : (refusal_at 4 0) ≡ r = cc (unsound-lookup img k root u, e) in subst (λ (s : Refusal). Answers img bytes k (Err s)) four (bad-leaf root es A h u)
+      image root es A h (inl r) (Err s) e = absurd (read-answers img k root r s e)
 
       decided : (root : ℕ) (es : List Edit) → Asked img bytes k root es → (l : LastEdit k es) → (e : Edit) → l.edit ≡ e → key_of e ≡ k → Answers img bytes k (brings (length (list_bytes l.before)) e)
       decided root es A l (insert j v) e own = in_list root es A l v (inl (e ∙ ap (λ (x : ℕ). insert x v) own))
@@ -118,13 +113,13 @@ module _ (img bytes : List ℕ) (k : ℕ) where
           subst (Answers img bytes k) (sym (asked-none root es A h) ∙ asked-call root es A) (image root es A h (read-or-not img k root A.opened) (leaf_lookup img root k) refl)
       shown root es A (inr l) = subst (Answers img bytes k) (sym (asked-last root es A l) ∙ asked-call root es A) (decided root es A l l.edit refl l.own)
 
-      keys : (root : ℕ) → Opened img root → (es : List Edit) → Whole bytes es → 1 ≤ k → k ≤ 999999999999 → (j : Judged) → keys_from 0 es (records_for img root) ≡ j →
+      keys : (root : ℕ) → Opened img root → (es : List Edit) → Whole bytes es → 1 ≤ k → k ≤ 999999999999 → (j : Answer) → keys_from 0 es (records_for img root) ≡ j →
           Answers img bytes k (rules_of (seen (leaf_lookup img root k) k es) j)
-      keys root o es w low high (Faulty r) e = bad-edit root o es w low high r.number r.edit (keys-fault es (records_for img root) r e)
-      keys root o es w low high Good e = shown root es (record { opened = o; whole = w; low = low; high = high; kept = keys_kept es (records_for img root) e }) (last-or-none k es)
+      keys root o es w low high (Err r) e = bad-edit root o es w low high (number_in r) r.edit (keys-fault es (records_for img root) r e)
+      keys root o es w low high (Ok tt) e = shown root es (record { opened = o; whole = w; low = low; high = high; kept = keys_kept es (records_for img root) e }) (last-or-none k es)
 
       key : (root : ℕ) → Opened img root → (es : List Edit) → Whole bytes es → (b : Bool) → key_ok k ≡ b →
-          Answers img bytes k (pick b (rules_of (seen (leaf_lookup img root k) k es) (keys_from 0 es (records_for img root))) (Refused (refusal 6)))
+          Answers img bytes k (pick b (rules_of (seen (leaf_lookup img root k) k es) (keys_from 0 es (records_for img root))) (Err (refusal 6)))
       key root o es w true e = let q = key_ok-true k e in keys root o es w q.0 q.1 (keys_from 0 es (records_for img root)) refl
       key root o es w false e = bad-key root o es w (key_ok-false k e)
 
@@ -132,12 +127,12 @@ module _ (img bytes : List ℕ) (k : ℕ) where
       list root o (faulty n i) e = bad-list root o n i (list-fault bytes n i e)
       list root o (listed es) e = key root o es (list-whole bytes es e) (key_ok k) refl
 
-      opening : (x : Root) → OpeningSays img x → Answers img bytes k (opened_of img bytes k x)
-      opening (roots.Refused r) n = bad-image r n
-      opening (roots.At root) o = list root o (edit_list bytes) refl
+      opening : (x : Result ℕ Refusal) → OpeningSays img x → Answers img bytes k (opened_of img bytes k x)
+      opening (Err r) n = bad-image r n
+      opening (Ok root) o = list root o (edit_list bytes) refl
 
   -- and each case excludes the others: it is the answer where it holds
-  pub answers-preview : (a : Preview) → Answers img bytes k a → preview_call img bytes k ≡ a
+  pub answers-preview : (a : Result (Option Shown) Refusal) → Answers img bytes k a → preview_call img bytes k ≡ a
   unfolding preview_call opened_of list_of keys_of rules_of in_image brings
   answers-preview _ (bad-image r n) = rw (not-opened-call img r n)
   answers-preview _ (bad-list root o n i f) = rw (opened-call img root o, fault-list bytes n i f)
@@ -162,20 +157,20 @@ module _ (img bytes : List ℕ) (k : ℕ) where
   unfolding preview_value_call part_of previewed bytes_in
   part-exact = go (preview_call img bytes k)
     where
-      go : (a : Preview) → part_of img bytes a ≡ bytes_in (previewed img bytes a)
-      go (InList o n) = refl
-      go (InImage o n) = refl
-      go Missing = refl
-      go (Refused r) = refl
+      go : (a : Result (Option Shown) Refusal) → part_of img bytes a ≡ bytes_in (previewed img bytes a)
+      go (Ok (Some (InList (record { offset = o; length = n })))) = refl
+      go (Ok (Some (InImage (record { offset = o; length = n })))) = refl
+      go (Ok None) = refl
+      go (Err r) = refl
 
   -- the part of an answer lies in its slice
-  pub preview-inside : (a : Preview) → preview_call img bytes k ≡ a → Inside img bytes a
+  pub preview-inside : (a : Result (Option Shown) Refusal) → preview_call img bytes k ≡ a → Inside img bytes a
   unfolding preview_call opened_of list_of keys_of rules_of
   preview-inside a e = subst (Inside img bytes) e (opening (index_call img) (opening-says img))
     where
-      rules : (x : Preview) → Inside img bytes x → (j : Judged) → Inside img bytes (rules_of x j)
-      rules x h (Faulty r) = tt
-      rules x h Good = h
+      rules : (x : Result (Option Shown) Refusal) → Inside img bytes x → (j : Answer) → Inside img bytes (rules_of x j)
+      rules x h (Err r) = tt
+      rules x h (Ok tt) = h
 
       list : (root : ℕ) → Opened img root → (l : Listed) → edit_list bytes ≡ l → Inside img bytes (list_of (records_for img root) (leaf_lookup img root k) k l)
       list root o (faulty n i) e = tt
@@ -184,18 +179,18 @@ module _ (img bytes : List ℕ) (k : ℕ) where
           (λ q. rules (seen (leaf_lookup img root k) k es) (seen-inside img bytes k root o es (list-whole bytes es e).reads) (keys_from 0 es (records_for img root)))
           (λ q. tt)
 
-      opening : (x : Root) → OpeningSays img x → Inside img bytes (opened_of img bytes k x)
-      opening (roots.Refused r) n = tt
-      opening (roots.At root) o = list root o (edit_list bytes) refl
+      opening : (x : Result ℕ Refusal) → OpeningSays img x → Inside img bytes (opened_of img bytes k x)
+      opening (Err r) n = tt
+      opening (Ok root) o = list root o (edit_list bytes) refl
 
   -- a value that is shown from the list is not empty (document 02 (g)): an empty one is the image's
-  pub in-list-filled : (o n : ℕ) → preview_call img bytes k ≡ InList o n → 1 ≤ n
+  pub in-list-filled : (o n : ℕ) → preview_call img bytes k ≡ Ok (Some (InList (record { offset = o; length = n }))) → 1 ≤ n
   in-list-filled o n e = subst FilledPart e (go (preview_call img bytes k) preview-answers)
     where
       last : (es : List Edit) → Whole bytes es → (l : LastEdit k es) → Filled l.edit
       last es w l = All-middle Filled l.before l.edit l.later (subst (All Filled) l.shape (reads-filled bytes es [] w.reads))
 
-      go : (a : Preview) → Answers img bytes k a → FilledPart a
+      go : (a : Result (Option Shown) Refusal) → Answers img bytes k a → FilledPart a
       go _ (bad-image r n) = tt
       go _ (bad-list root o n i f) = tt
       go _ (bad-key root o es w q) = tt
@@ -213,7 +208,7 @@ module _ (img bytes : List ℕ) (k : ℕ) where
 sound-alike : (img : List ℕ) → sound img ≡ true → (j : ℕ) → Alike (records_for img (root_of img)) (wholly (table img)) j
 sound-alike img h j =
     let r = records-sound img h j in
-    subst (λ (o : Option (List Rec)). SameFor j o (some (table img))) (sym r.1) r.2
+    subst (λ (o : Option (List Rec)). SameFor j o (Some (table img))) (sym r.1) r.2
 
 module _ (img bytes : List ℕ) (h : sound img ≡ true) where
   pub keys-sound : (es : List Edit) → keys_from 0 es (records_for img (root_of img)) ≡ keys_from 0 es (wholly (table img))
@@ -228,28 +223,28 @@ module _ (img bytes : List ℕ) (h : sound img ≡ true) where
       go (listed es) = rw (keys-sound es)
 
   module _ (k : ℕ) (es : List Edit) (w : Whole bytes es) (low : 1 ≤ k) (high : k ≤ 999999999999) where
-    by-rules : (j : Judged) → keys_from 0 es (wholly (table img)) ≡ j → preview_call img bytes k ≡ rules_of (seen (found_in k (listing img)) k es) j
+    by-rules : (j : Answer) → keys_from 0 es (wholly (table img)) ≡ j → preview_call img bytes k ≡ rules_of (seen (found_in k (listing img)) k es) j
     unfolding list_of keys_of
     by-rules j e = preview-sound k ∙ rw (whole-list bytes es w, true-key_ok k low high, e)
 
     shows : AllKept es (table img) → Shows img bytes (find k (apply_edits es (table img))) (preview_call img bytes k)
     unfolding rules_of
-    shows kept = subst (Shows img bytes (find k (apply_edits es (table img)))) (sym (by-rules Good (kept-keys 0 es (wholly (table img)) kept))) (sound-shows img bytes h k es w.reads kept)
+    shows kept = subst (Shows img bytes (find k (apply_edits es (table img)))) (sym (by-rules (Ok tt) (kept-keys 0 es (wholly (table img)) kept))) (sound-shows img bytes h k es w.reads kept)
 
     -- where image, list and the key asked are not refused, a refusal is the first edit's whose rule is broken
-    pub refused-broken : (r : Refusal) → preview_call img bytes k ≡ Refused r → FirstBroken es (table img) r.number r.edit
+    pub refused-broken : (r : Refusal) → preview_call img bytes k ≡ Err r → FirstBroken es (table img) (number_in r) r.edit
     unfolding rules_of
     refused-broken r q = go (keys_from 0 es (wholly (table img))) refl
       where
-        go : (j : Judged) → keys_from 0 es (wholly (table img)) ≡ j → FirstBroken es (table img) r.number r.edit
-        go Good e = absurd (subst (Shows img bytes (find k (apply_edits es (table img)))) q (shows (keys_kept es (wholly (table img)) e)))
-        go (Faulty s) e =
-            let same : s ≡ r = cc (by-rules (Faulty s) e, q) in
+        go : (j : Answer) → keys_from 0 es (wholly (table img)) ≡ j → FirstBroken es (table img) (number_in r) r.edit
+        go (Ok tt) e = absurd (subst (Shows img bytes (find k (apply_edits es (table img)))) q (shows (keys_kept es (wholly (table img)) e)))
+        go (Err s) e =
+            let same : s ≡ r = cc (by-rules (Err s) e, q) in
             subst (λ (x : Refusal). FirstBroken es (table img) x.number x.edit) same (keys-fault es (wholly (table img)) s e)
 
-    pub broken-refused : (n i : ℕ) → FirstBroken es (table img) n i → preview_call img bytes k ≡ Refused (record { number = n; edit = i })
+    pub broken-refused : (n i : ℕ) → FirstBroken es (table img) n i → preview_call img bytes k ≡ Err (refusal_at n i)
     unfolding rules_of
-    broken-refused n i f = by-rules (Faulty (record { number = n; edit = i })) (fault-keys es (wholly (table img)) n i f)
+    broken-refused n i f = by-rules (Err (refusal_at n i)) (fault-keys es (wholly (table img)) n i f)
 
 -- demand 2: "The part is exactly the value that the table would then hold"
 pub preview-exact : (img bytes : List ℕ) (k : ℕ) (es : List Edit) → AskedSound img bytes k es → previewed img bytes (preview_call img bytes k) ≡ held (find k (apply_edits es (table img)))
@@ -263,5 +258,5 @@ unfolding looked_up held
 lookup-exact img h k q = go (find k (table img)) refl
   where
     go : (x : Option (List ℕ)) → find k (table img) ≡ x → looked_up img (lookup_call img k) ≡ held x
-    go (some v) e = let f = lookup-value img (sound-check img h) k v e in ap (looked_up img) f.2 ∙ ap (λ (l : List ℕ). held (some l)) f.3
-    go none e = ap (looked_up img) (lookup-none img (sound-check img h) k q e)
+    go (Some v) e = let f = lookup-value img (sound-check img h) k v e in ap (looked_up img) f.2 ∙ ap (λ (l : List ℕ). held (Some l)) f.3
+    go None e = ap (looked_up img) (lookup-none img (sound-check img h) k q e)

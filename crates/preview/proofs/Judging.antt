@@ -1,10 +1,10 @@
 -- The judging of keys, edit by edit: what is noted says which keys are there now, and the edits that are left come to what all come to.
 -- Assumes nothing.
+use Rattle.std.specs.Prelude.{Err, None, Ok, Option, Some}
 use Prim.Native.Nat.{ℕ, zero, suc, ◌+◌, ◌-◌, ◌≤◌, ◌<◌}
 use mathlib.Core.Path.{◌≡◌, refl, sym, ap, ◌∙◌, subst}
 use mathlib.Core.Bool.{Bool, true, false}
 use mathlib.Core.List.{List, []}
-use mathlib.Core.Option.{Option, none, some}
 use native.Mathlib.Omega.{arith}
 use native.Mathlib.Nat.{not-suc-le-zero}
 use native.Mathlib.Numerals.{add-one}
@@ -12,6 +12,7 @@ use lib.ListN.{length, get_or, take, drop, set, replicate, length-set}
 use lib.Seq.{get_or-set_same, get_or-set_other}
 use lib.Dec.{eqb}
 use borrow.Author.Tests.{eqb-true, eqb-false}
+use Rattle.device.specs.Calls.{Answer}
 use Rattle.codec.specs.Lists.{part, pick}
 use Rattle.codec.specs.Numbers.{number}
 use Rattle.device.specs.declared.Refusal.{Refusal}
@@ -19,7 +20,6 @@ use Rattle.page.specs.Layout.{top_key, Rec, rec_of}
 use Rattle.page.specs.Page.{records, laid_out, keys_rise}
 use Rattle.page.specs.Operations.{page_of}
 use Rattle.page.specs.Search.{searched}
-use Rattle.page.specs.declared.Search.TheVariants.{At, Missing}
 use Rattle.image.specs.Facts.{Index}
 use Rattle.image.specs.Descent.{leaf_for, leaf_sound, records_for}
 use Rattle.image.proofs.General.{zeros-at}
@@ -28,8 +28,6 @@ use Rattle.image.proofs.Belonging.{page-tells}
 use Rattle.image.proofs.CodeDescent.{laid-rising}
 use Rattle.edit.specs.EditList.{Edit, insert, update, delete, key_of, edit_of, listed, edit_list}
 use Rattle.edit.specs.Keys.{is_some, holds, key_rule, Source, made_in, made, key_fault, or_fault, keys_from, KeptIn}
-use Rattle.edit.specs.declared.Judged.{Judged}
-use Rattle.edit.specs.declared.Judged.TheVariants.{Good, Faulty}
 use Rattle.edit.proofs.Judging.{kind_at}
 use Rattle.edit.proofs.Parsing.{list-whole}
 use Rattle.edit.proofs.Keys.{FaultSays, fault-says, gives, find-own, find-other}
@@ -42,19 +40,19 @@ use Rattle.preview.proofs.Walk.{next-key}
 -- ---- a key in its leaf
 
 module _ (p : List ℕ) (laid : laid_out p ≡ true) (rise : keys_rise (records p) ≡ true) (k j : ℕ) where
-  pub search-present : searched k 0 (records p) ≡ At j → presence k (some (records p)) ≡ Present
+  pub search-present : searched k 0 (records p) ≡ Ok j → presence k (Some (records p)) ≡ Present
   unfolding presence holds
   search-present e =
       ap (λ (x : Option (List ℕ)). pick (is_some x) Present Absent) (search-find k 0 (records p) (suc top_key) (rec_of 0 []) (laid-rising p laid rise) j e).1
 
-  pub search-absent : searched k 0 (records p) ≡ Missing j → presence k (some (records p)) ≡ Absent
+  pub search-absent : searched k 0 (records p) ≡ Err j → presence k (Some (records p)) ≡ Absent
   unfolding presence holds
   search-absent e =
       ap (λ (x : Option (List ℕ)). pick (is_some x) Present Absent) (search-none k 0 (records p) (suc top_key) (rec_of 0 []) (laid-rising p laid rise) j e)
 
 -- what is read for the key, by whether its leaf is sound
 module _ (img : List ℕ) (root k : ℕ) where
-  pub sound-presence : leaf_sound img root (leaf_for img root k) ≡ true → (p : List ℕ) → p ≡ page_of img (leaf_for img root k).page → presence k (some (records p)) ≡ presence k (records_for img root k)
+  pub sound-presence : leaf_sound img root (leaf_for img root k) ≡ true → (p : List ℕ) → p ≡ page_of img (leaf_for img root k).page → presence k (Some (records p)) ≡ presence k (records_for img root k)
   unfolding records_for
   sound-presence h p e = rw (h, e)
 
@@ -81,10 +79,10 @@ marks-none img root = record { enough = refl; only-sound = λ k h. absurd (h (ze
 -- what is said of it, by whether its key is there
 fault-by : (i kind k : ℕ) (v : List ℕ) (o : Option (List Rec)) → fault_by i (eqb kind 1) (presence k o) ≡ key_fault i (edit_of kind k v) o
 unfolding fault_by presence key_fault key_rule edit_of
-fault-by i kind k v none = refl
-fault-by i kind k v (some t) = go (eqb kind 1) (eqb kind 2) (holds k t) refl
+fault-by i kind k v None = refl
+fault-by i kind k v (Some t) = go (eqb kind 1) (eqb kind 2) (holds k t) refl
   where
-    go : (a b h : Bool) → holds k t ≡ h → fault_by i a (pick h Present Absent) ≡ key_fault i (pick a (insert k v) (pick b (update k v) (delete k))) (some t)
+    go : (a b h : Bool) → holds k t ≡ h → fault_by i a (pick h Present Absent) ≡ key_fault i (pick a (insert k v) (pick b (update k v) (delete k))) (Some t)
     go true b true e = rw e
     go true b false e = rw e
     go false true true e = rw e
@@ -108,13 +106,13 @@ edit-leaves kind k v before low high = go (eqb kind 1) refl (eqb kind 2) refl
 -- whether a key is there, once the edit is made: its own as it leaves it, another as before
 presence-own : (e : Edit) (o : Option (List Rec)) → KeptIn e o → presence (key_of e) (made_in e o) ≡ pick (is_some (gives e)) Present Absent
 unfolding presence holds
-presence-own e none h = absurd h
-presence-own e (some t) h = ap (λ (x : Option (List ℕ)). pick (is_some x) Present Absent) (find-own e t h)
+presence-own e None h = absurd h
+presence-own e (Some t) h = ap (λ (x : Option (List ℕ)). pick (is_some x) Present Absent) (find-own e t h)
 
 presence-other : (e : Edit) (j : ℕ) → (key_of e ≡ j → ⊥) → (o : Option (List Rec)) → presence j (made_in e o) ≡ presence j o
 unfolding presence holds
-presence-other e j other none = refl
-presence-other e j other (some t) = ap (λ (x : Option (List ℕ)). pick (is_some x) Present Absent) (find-other e j t other)
+presence-other e j other None = refl
+presence-other e j other (Some t) = ap (λ (x : Option (List ℕ)). pick (is_some x) Present Absent) (find-other e j t other)
 
 -- ---- what is noted
 
@@ -141,7 +139,7 @@ module _ (keys kinds : List ℕ) (n x y k : ℕ) where
 
 -- ---- the edits from the place `at` of the list on: n are judged, and `sees` is what is read for each key with them made
 
-pub record Upto (read : Source) (list keys kinds : List ℕ) (all : Judged) (at n : ℕ) : Type 0 where
+pub record Upto (read : Source) (list keys kinds : List ℕ) (all : Answer) (at n : ℕ) : Type 0 where
   pub ahead : Ahead list at
   pub few : n + length ahead.edits ≤ 16
   pub sees : Source
@@ -154,11 +152,11 @@ upto-start read list keys kinds es e =
     let w = list-whole list es e in
     record { ahead = record { edits = es; reads = w.reads }; few = omega (arith, w.few); sees = read; there = λ k. refl; goes = refl }
 
-module _ {read : Source} {list keys kinds : List ℕ} {all : Judged} {at n : ℕ} (U : Upto read list keys kinds all at n) where
+module _ {read : Source} {list keys kinds : List ℕ} {all : Answer} {at n : ℕ} (U : Upto read list keys kinds all at n) where
   abbrev s : Source
   s = U.sees
 
-  pub upto-end : length list ≤ at → Good ≡ all
+  pub upto-end : length list ≤ at → (Ok tt) ≡ all
   unfolding keys_from
   upto-end h = sym (ap (λ (es : List Edit). keys_from n es s) (head-none U.ahead h)) ∙ U.goes
 
@@ -183,7 +181,7 @@ module _ {read : Source} {list keys kinds : List ℕ} {all : Judged} {at n : ℕ
       next-is = ap (λ (x : ℕ). edit_of x k v) first ∙ head-is U.ahead more m long k key
 
       -- what the code says of the edit, by the kind and the key that stand there, is what is to be said
-      module _ (c : Judged) (says : c ≡ fault_by n (eqb kind 1) (there_by (kind_noted keys kinds k n) (presence k (read k)))) where
+      module _ (c : Answer) (says : c ≡ fault_by n (eqb kind 1) (there_by (kind_noted keys kinds k n) (presence k (read k)))) where
         fault-is : c ≡ key_fault n next (s (key_of next))
         fault-is =
             says
@@ -194,12 +192,12 @@ module _ {read : Source} {list keys kinds : List ℕ} {all : Judged} {at n : ℕ
 
         goes_on : or_fault c (keys_from (suc n) H.rest (made next s)) ≡ all
         unfolding keys_from
-        goes_on = ap (λ (x : Judged). or_fault x (keys_from (suc n) H.rest (made next s))) fault-is ∙ ap (λ (es : List Edit). keys_from n es s) (sym H.shape) ∙ U.goes
+        goes_on = ap (λ (x : Answer). or_fault x (keys_from (suc n) H.rest (made next s))) fault-is ∙ ap (λ (es : List Edit). keys_from n es s) (sym H.shape) ∙ U.goes
 
-        pub upto-stop : (r : Refusal) → c ≡ Faulty r → c ≡ all
-        upto-stop r e = e ∙ ap (λ (x : Judged). or_fault x (keys_from (suc n) H.rest (made next s))) (sym e) ∙ goes_on
+        pub upto-stop : (r : Refusal) → c ≡ Err r → c ≡ all
+        upto-stop r e = e ∙ ap (λ (x : Answer). or_fault x (keys_from (suc n) H.rest (made next s))) (sym e) ∙ goes_on
 
-        module _ (good : c ≡ Good) (a : n < length keys) (b : n < length kinds) where
+        module _ (good : c ≡ Ok tt) (a : n < length keys) (b : n < length kinds) where
           kept : KeptIn next (s (key_of next))
           kept = subst (FaultSays n next (s (key_of next))) (sym fault-is ∙ good) (fault-says n next (s (key_of next)))
 
@@ -220,7 +218,7 @@ module _ {read : Source} {list keys kinds : List ℕ} {all : Judged} {at n : ℕ
 
           pub upto_next : Upto read list (set keys n k) (set kinds n kind) all (at + 10 + m) (n + 1)
           upto_next =
-              let on : keys_from (suc n) H.rest (made next s) ≡ all = ap (λ (x : Judged). or_fault x (keys_from (suc n) H.rest (made next s))) (sym good) ∙ goes_on in
+              let on : keys_from (suc n) H.rest (made next s) ≡ all = ap (λ (x : Answer). or_fault x (keys_from (suc n) H.rest (made next s))) (sym good) ∙ goes_on in
               record {
                 ahead = head-rest U.ahead more m long;
                 few = omega (arith, U.few, ap (λ (es : List Edit). length es) H.shape);

@@ -1,16 +1,20 @@
 -- What is seen of a key after edits is what the records that are read for it hold with the edits made.
 -- Assumes nothing.
+use Rattle.std.specs.Prelude.{Err, None, Ok, Option, Result, Some}
 use Prim.Native.Nat.{ℕ, ◌+◌, ◌≤◌}
 use mathlib.Core.Path.{◌≡◌, refl, sym, ap, ◌∙◌, subst}
 use mathlib.Core.Logic.{◌⊎◌, inl, inr}
 use mathlib.Core.Bool.{true}
 use mathlib.Core.List.{List, [], ◌∷◌}
-use mathlib.Core.Option.{Option, none, some}
 use native.Mathlib.Omega.{arith}
 use lib.ListN.{length, drop, length-drop}
 use lib.Seq.{drop-drop}
 use lib.Dec.{eqb}
 use borrow.Author.Tests.{eqb-true, eqb-false}
+use Rattle.preview.specs.declared.Shown.{Shown}
+use Rattle.device.specs.declared.Refusal.{Refusal}
+use Rattle.image.specs.declared.Part.{Part}
+use Rattle.preview.specs.declared.Shown.TheVariants.{InImage, InList}
 use Rattle.codec.specs.Lists.{part}
 use Rattle.codec.proofs.Lists.{length_part, part-drop}
 use Rattle.page.specs.Layout.{Rec}
@@ -19,8 +23,6 @@ use Rattle.image.specs.Table.{table, listing, page_entries, find, found_in}
 use Rattle.image.specs.Descent.{records_for}
 use Rattle.image.specs.Calls.{leaf_lookup}
 use Rattle.image.specs.Says.{Opened, ReadSound, ReadUnsound, read_records}
-use Rattle.image.specs.declared.Lookup.{Lookup}
-use Rattle.image.specs.declared.Lookup.TheVariants as lookups
 use Rattle.image.proofs.Exact.{Told, lookup-found, lookup-missing, lookup-answers}
 use Rattle.image.proofs.Read.{read-or-not, read-lookup, unsound-lookup, read-records}
 use Rattle.image.proofs.Says.{read-tells}
@@ -32,15 +34,13 @@ use Rattle.edit.proofs.General.{by-test}
 use Rattle.edit.proofs.Reading.{edit-size, edit-value}
 use Rattle.edit.proofs.Keys.{gives, find-own, find-other}
 use Rattle.preview.specs.Calls.{in_image, brings, seen_from, seen}
-use Rattle.preview.specs.declared.Preview.{Preview}
-use Rattle.preview.specs.declared.Preview.TheVariants.{InList, InImage, Missing, Refused}
 
 -- the answer says that a table holds x for the key, and its part lies in its slice
-abbrev pub Shows : List ℕ → List ℕ → Option (List ℕ) → Preview → Type 0
-Shows img bytes x (InList o n) = (x ≡ some (part bytes o n)) × (length (part bytes o n) ≡ n) × (o + n ≤ length bytes)
-Shows img bytes x (InImage o n) = (x ≡ some (part img o n)) × (length (part img o n) ≡ n) × (o + n ≤ length img)
-Shows img bytes x Missing = x ≡ none
-Shows img bytes x (Refused r) = ⊥
+abbrev pub Shows : List ℕ → List ℕ → Option (List ℕ) → Result (Option Shown) Refusal → Type 0
+Shows img bytes x (Ok (Some (InList (record { offset = o; length = n })))) = (x ≡ Some (part bytes o n)) × (length (part bytes o n) ≡ n) × (o + n ≤ length bytes)
+Shows img bytes x (Ok (Some (InImage (record { offset = o; length = n })))) = (x ≡ Some (part img o n)) × (length (part img o n) ≡ n) × (o + n ≤ length img)
+Shows img bytes x (Ok None) = x ≡ None
+Shows img bytes x (Err r) = ⊥
 
 -- ---- an edit's own key
 
@@ -58,10 +58,10 @@ module _ (bytes : List ℕ) (at : ℕ) (e : Edit) (f : Faultless (drop at bytes)
   value-long : length (edit_value e) ≡ n
   value-long = ap length value-is ∙ length_part bytes (at + head_size) n fits
 
-  value-shows : (img : List ℕ) → Shows img bytes (some (edit_value e)) (InList (at + head_size) (length (edit_value e)))
+  value-shows : (img : List ℕ) → Shows img bytes (Some (edit_value e)) (Ok (Some (InList (record { offset = (at + head_size); length = (length (edit_value e)) }))))
   value-shows img =
       let same : edit_value e ≡ part bytes (at + head_size) (length (edit_value e)) = value-is ∙ ap (part bytes (at + head_size)) (sym value-long) in
-      (ap some same, sym (ap length same), omega (arith, fits, value-long))
+      (ap Some same, sym (ap length same), omega (arith, fits, value-long))
 
 brings-shows : (img bytes : List ℕ) (at : ℕ) (e : Edit) → Faultless (drop at bytes) → edit_in (drop at bytes) ≡ e → Shows img bytes (gives e) (brings at e)
 unfolding brings
@@ -78,10 +78,10 @@ reads-rest bytes at e es r =
     subst (λ (l : List ℕ). Reads l es []) (drop-drop (head_size + length_in (drop at bytes)) at bytes ∙ ap (λ (o : ℕ). drop o bytes) skip) r.2
 
 -- what an edit's rule says of the records that are read for its key
-kept_read : (e : Edit) (k : ℕ) (s : Source) (t : List Rec) → s k ≡ some t → key_of e ≡ k → KeptIn e (s (key_of e)) → Kept e t
+kept_read : (e : Edit) (k : ℕ) (s : Source) (t : List Rec) → s k ≡ Some t → key_of e ≡ k → KeptIn e (s (key_of e)) → Kept e t
 kept_read e k s t r own h = subst (KeptIn e) (ap s own ∙ r) h
 
-shows-from : (img bytes : List ℕ) (k at : ℕ) (answer : Preview) (es : List Edit) (s : Source) (t : List Rec) → s k ≡ some t → Reads (drop at bytes) es [] → AllKeptBy es s →
+shows-from : (img bytes : List ℕ) (k at : ℕ) (answer : Result (Option Shown) Refusal) (es : List Edit) (s : Source) (t : List Rec) → s k ≡ Some t → Reads (drop at bytes) es [] → AllKeptBy es s →
     Shows img bytes (find k t) answer → Shows img bytes (find k (apply_edits es t)) (seen_from k at answer es)
 unfolding seen_from apply_edits
 shows-from img bytes k at answer [] s t q r h w = w
@@ -100,10 +100,10 @@ leaf-shows : (img bytes : List ℕ) (k root : ℕ) (r : ReadSound img k root) �
 unfolding in_image
 leaf-shows img bytes k root r = rw (read-lookup img k root r) (go (found_in k (page_entries img (child_of r.belongs.own))) (read-tells img k root r _ refl))
   where
-    go : (a : Lookup) → Told img k (read_records r) a → Shows img bytes (find k (read_records r)) (in_image a)
-    go (lookups.Found o n) e = e
-    go lookups.Missing e = e
-    go (lookups.Refused s) e = e
+    go : (a : Result (Option Part) Refusal) → Told img k (read_records r) a → Shows img bytes (find k (read_records r)) (in_image a)
+    go (Ok (Some (record { offset = o; length = n }))) e = e
+    go (Ok None) e = e
+    go (Err s) e = e
 
 module _ (img bytes : List ℕ) (k root : ℕ) (es : List Edit) (r : Reads bytes es []) (kept : AllKeptBy es (records_for img root)) where
   pub seen-shows : (read : ReadSound img k root) → Shows img bytes (find k (apply_edits es (read_records read))) (seen (leaf_lookup img root k) k es)
@@ -116,10 +116,10 @@ image-shows : (img bytes : List ℕ) → sound img ≡ true → (k : ℕ) → Sh
 unfolding in_image
 image-shows img bytes h k = go (found_in k (listing img)) refl
   where
-    go : (a : Lookup) → found_in k (listing img) ≡ a → Shows img bytes (find k (table img)) (in_image a)
-    go (lookups.Found o n) e = lookup-found img h k o n e
-    go lookups.Missing e = lookup-missing img h k e
-    go (lookups.Refused r) e = lookup-answers img h k r e
+    go : (a : Result (Option Part) Refusal) → found_in k (listing img) ≡ a → Shows img bytes (find k (table img)) (in_image a)
+    go (Ok (Some (record { offset = o; length = n }))) e = lookup-found img h k o n e
+    go (Ok None) e = lookup-missing img h k e
+    go (Err r) e = lookup-answers img h k r e
 
 pub sound-shows : (img bytes : List ℕ) → sound img ≡ true → (k : ℕ) (es : List Edit) → Reads bytes es [] → AllKept es (table img) →
     Shows img bytes (find k (apply_edits es (table img))) (seen (found_in k (listing img)) k es)
@@ -128,19 +128,19 @@ sound-shows img bytes h k es r kept = shows-from img bytes k 0 (in_image (found_
 
 -- ---- the part lies in its slice
 
-abbrev pub Inside : List ℕ → List ℕ → Preview → Type 0
-Inside img bytes (InList o n) = o + n ≤ length bytes
-Inside img bytes (InImage o n) = o + n ≤ length img
-Inside img bytes Missing = Unit {0}
-Inside img bytes (Refused r) = Unit {0}
+abbrev pub Inside : List ℕ → List ℕ → Result (Option Shown) Refusal → Type 0
+Inside img bytes (Ok (Some (InList (record { offset = o; length = n })))) = o + n ≤ length bytes
+Inside img bytes (Ok (Some (InImage (record { offset = o; length = n })))) = o + n ≤ length img
+Inside img bytes (Ok None) = Unit {0}
+Inside img bytes (Err r) = Unit {0}
 
-shows-inside : (img bytes : List ℕ) (x : Option (List ℕ)) (a : Preview) → Shows img bytes x a → Inside img bytes a
-shows-inside img bytes x (InList o n) s = s.2
-shows-inside img bytes x (InImage o n) s = s.2
-shows-inside img bytes x Missing s = tt
-shows-inside img bytes x (Refused r) s = tt
+shows-inside : (img bytes : List ℕ) (x : Option (List ℕ)) (a : Result (Option Shown) Refusal) → Shows img bytes x a → Inside img bytes a
+shows-inside img bytes x (Ok (Some (InList (record { offset = o; length = n })))) s = s.2
+shows-inside img bytes x (Ok (Some (InImage (record { offset = o; length = n })))) s = s.2
+shows-inside img bytes x (Ok None) s = tt
+shows-inside img bytes x (Err r) s = tt
 
-inside-from : (img bytes : List ℕ) (k at : ℕ) (answer : Preview) (es : List Edit) → Reads (drop at bytes) es [] → Inside img bytes answer → Inside img bytes (seen_from k at answer es)
+inside-from : (img bytes : List ℕ) (k at : ℕ) (answer : Result (Option Shown) Refusal) (es : List Edit) → Reads (drop at bytes) es [] → Inside img bytes answer → Inside img bytes (seen_from k at answer es)
 unfolding seen_from
 inside-from img bytes k at answer [] r w = w
 inside-from img bytes k at answer (e ∷ es) r w =

@@ -1,17 +1,20 @@
 -- What is read decides, and nothing else, for the three calls by one law: two images that agree on it give the same reply.
 -- Assumes nothing.
+use Rattle.std.specs.Prelude.{Err, None, Ok, Option, Result, Some}
 use Prim.Native.Nat.{ℕ, ◌+◌, ◌*◌}
 use mathlib.Core.Path.{◌≡◌, refl, sym, ap, ap₂, ◌∙◌, subst}
 use mathlib.Core.Bool.{Bool, true, false, ◌||◌}
 use mathlib.Core.List.{List, [], ◌∷◌, ◌++◌}
-use mathlib.Core.Option.{Option, none, some}
 use native.Mathlib.Omega.{arith}
 use lib.ListN.{length}
 use lib.Dec.{eqb}
 use borrow.Author.Tests.{ne_eqb}
+use Rattle.preview.specs.declared.Shown.{Shown}
+use Rattle.device.specs.declared.Refusal.{Refusal}
+use Rattle.image.specs.declared.Part.{Part}
 use Rattle.codec.specs.Lists.{part, pick, All}
 use Rattle.codec.proofs.Tests.{All-map}
-use Rattle.device.specs.Calls.{refusal}
+use Rattle.device.specs.Calls.{refusal, Answer}
 use Rattle.page.specs.Layout.{page_size, line_size, Rec}
 use Rattle.page.specs.Operations.{page_of, put_page}
 use Rattle.page.proofs.Images.{put-length, put_other}
@@ -19,10 +22,6 @@ use Rattle.image.specs.PageZero.{page_count, is_page}
 use Rattle.image.specs.Descent.{leaf_for, records_for}
 use Rattle.image.specs.Calls.{root_call, index_call, key_ok, leaf_lookup, lookup_call, value_at, value_call}
 use Rattle.image.specs.WhatIsRead.{ReadAlike, lookup_reads}
-use Rattle.image.specs.declared.Root.{Root}
-use Rattle.image.specs.declared.Root.TheVariants as roots
-use Rattle.image.specs.declared.Lookup.{Lookup}
-use Rattle.image.specs.declared.Lookup.TheVariants as lookups
 use Rattle.image.proofs.General.{part-part, All-left, All-right}
 use Rattle.image.proofs.Zero.{is_page-true}
 use Rattle.image.proofs.Values.{page-fits}
@@ -31,21 +30,17 @@ use Rattle.image.proofs.Read.{opened-call}
 use Rattle.image.proofs.WhatIsRead.{index-alike, index-page, lookup-alike, records-alike, lookup-reads, value-reads, next-reads}
 use Rattle.edit.specs.EditList.{Edit, key_of, edit_bytes, Listed, listed, faulty, edit_list}
 use Rattle.edit.specs.Keys.{keys_from, keys_read}
-use Rattle.edit.specs.declared.Judged.{Judged}
-use Rattle.edit.specs.declared.Judged.TheVariants.{Good, Faulty}
 use Rattle.edit.proofs.Parsing.{whole-list}
 use Rattle.edit.proofs.Keys.{kept-keys, SameFor, Alike, keys-same}
 use Rattle.preview.specs.Calls.{in_image, brings, seen_from, seen, rules_of, keys_of, list_of, opened_of, preview_call, part_of, preview_value_call}
 use Rattle.preview.specs.Answers.{NoEdit, Asked, Answers, bad-image, bad-list, bad-key, bad-edit, in_list, deleted, bad-leaf, of_image, missing}
 use Rattle.preview.specs.WhatIsRead.{has_edit, last_read, list_reads, preview_reads, Asking, lookup, next_key, preview, looked, next, reply_to, keys_for}
 use Rattle.preview.specs.WhatIsRead as replies
-use Rattle.preview.specs.declared.Preview.{Preview}
-use Rattle.preview.specs.declared.Preview.TheVariants.{Refused}
 use Rattle.preview.proofs.Answers.{preview-answers}
 
 -- ---- an edit of the key hides what the image holds
 
-hidden : (k at : ℕ) (x y : Preview) (es : List Edit) → has_edit k es ≡ true → seen_from k at x es ≡ seen_from k at y es
+hidden : (k at : ℕ) (x y : Result (Option Shown) Refusal) (es : List Edit) → has_edit k es ≡ true → seen_from k at x es ≡ seen_from k at y es
 unfolding has_edit seen_from
 hidden k at x y [] h = let z : ◌≡◌ {A = ℕ} 0 1 = cc in absurd (omega arith)
 hidden k at x y (e ∷ es) h = go (eqb (key_of e) k) h (λ g. hidden k (at + length (edit_bytes e)) x y es g)
@@ -66,15 +61,15 @@ same-for : (k : ℕ) (o p : Option (List Rec)) → o ≡ p → SameFor k o p
 same-for k o p e = subst (SameFor k o) e (itself o)
   where
     itself : (x : Option (List Rec)) → SameFor k x x
-    itself none = tt
-    itself (some t) = refl
+    itself None = tt
+    itself (Some t) = refl
 
 module _ (a b bytes : List ℕ) (k : ℕ) (R : ReadAlike a b (preview_reads a bytes k)) where
   -- the leaf of the key j under the root is the same
   abbrev SameLeaf : ℕ → ℕ → Type 0
   SameLeaf root j = page_of b (leaf_for a root j).page ≡ page_of a (leaf_for a root j).page
 
-  module _ (root : ℕ) (e : index_call a ≡ roots.At root) where
+  module _ (root : ℕ) (e : index_call a ≡ Ok root) where
     page : page_of b root ≡ page_of a root
     page = index-page a b (preview_reads a bytes k) R root e
 
@@ -86,12 +81,12 @@ module _ (a b bytes : List ℕ) (k : ℕ) (R : ReadAlike a b (preview_reads a by
     seen_alike : (es : List Edit) (t : Bool) → has_edit k es ≡ t → All (SameLeaf root) (pick t [] (k ∷ [])) → seen (leaf_lookup b root k) k es ≡ seen (leaf_lookup a root k) k es
     unfolding seen
     seen_alike es true c h = hidden k 0 (in_image (leaf_lookup b root k)) (in_image (leaf_lookup a root k)) es c
-    seen_alike es false c h = ap (λ (x : Lookup). seen_from k 0 (in_image x) es) (lookup-alike a b root R.size page k h.0)
+    seen_alike es false c h = ap (λ (x : Result (Option Part) Refusal). seen_from k 0 (in_image x) es) (lookup-alike a b root R.size page k h.0)
 
-    judged-alike : (es : List Edit) (j : Judged) → All (SameLeaf root) (last_read k es j) → rules_of (seen (leaf_lookup b root k) k es) j ≡ rules_of (seen (leaf_lookup a root k) k es) j
+    judged-alike : (es : List Edit) (j : Answer) → All (SameLeaf root) (last_read k es j) → rules_of (seen (leaf_lookup b root k) k es) j ≡ rules_of (seen (leaf_lookup a root k) k es) j
     unfolding last_read rules_of
-    judged-alike es (Faulty r) h = refl
-    judged-alike es Good h = seen_alike es (has_edit k es) refl h
+    judged-alike es (Err r) h = refl
+    judged-alike es (Ok tt) h = seen_alike es (has_edit k es) refl h
 
     list-alike : (l : Listed) → All (SameLeaf root) (list_reads (records_for a root) k l) → list_of (records_for b root) (leaf_lookup b root k) k l ≡ list_of (records_for a root) (leaf_lookup a root k) k l
     unfolding list_of keys_of list_reads
@@ -102,8 +97,8 @@ module _ (a b bytes : List ℕ) (k : ℕ) (R : ReadAlike a b (preview_reads a by
         ks = keys_read 0 es (records_for a root)
 
         go : (t : Bool) → All (SameLeaf root) (pick t (keys_read 0 es (records_for a root) ++ last_read k es (keys_from 0 es (records_for a root))) []) →
-            pick t (rules_of (seen (leaf_lookup b root k) k es) (keys_from 0 es (records_for b root))) (Refused (refusal 6)) ≡
-            pick t (rules_of (seen (leaf_lookup a root k) k es) (keys_from 0 es (records_for a root))) (Refused (refusal 6))
+            pick t (rules_of (seen (leaf_lookup b root k) k es) (keys_from 0 es (records_for b root))) (Err (refusal 6)) ≡
+            pick t (rules_of (seen (leaf_lookup a root k) k es) (keys_from 0 es (records_for a root))) (Err (refusal 6))
         go true g =
             ap (rules_of (seen (leaf_lookup b root k) k es)) (rules-alike es (All-left (SameLeaf root) ks (last_read k es (keys_from 0 es (records_for a root))) g))
             ∙ judged-alike es (keys_from 0 es (records_for a root)) (All-right (SameLeaf root) ks (last_read k es (keys_from 0 es (records_for a root))) g)
@@ -113,15 +108,15 @@ module _ (a b bytes : List ℕ) (k : ℕ) (R : ReadAlike a b (preview_reads a by
   unfolding preview_call opened_of preview_reads
   preview-reads = ap (opened_of b bytes k) (index-alike a b (preview_reads a bytes k) R) ∙ go (index_call a) refl
     where
-      go : (x : Root) → index_call a ≡ x → opened_of b bytes k x ≡ opened_of a bytes k x
-      go (roots.Refused r) e = refl
-      go (roots.At root) e = list-alike root e (edit_list bytes) (R.leaves root e)
+      go : (x : Result ℕ Refusal) → index_call a ≡ x → opened_of b bytes k x ≡ opened_of a bytes k x
+      go (Err r) e = refl
+      go (Ok root) e = list-alike root e (edit_list bytes) (R.leaves root e)
 
   -- ---- its companion
 
   -- where the value is the image's, its leaf is read
   module _ (root : ℕ) (es : List Edit) (A : Asked a bytes k root es) (h : NoEdit k es) where
-    key-read : (s : ℕ) → index_call a ≡ roots.At s → All (SameLeaf s) (k ∷ [])
+    key-read : (s : ℕ) → index_call a ≡ Ok s → All (SameLeaf s) (k ∷ [])
     unfolding preview_reads list_reads last_read
     key-read s e =
         let same : root ≡ s = cc (opened-call a root A.opened, e) in
@@ -129,7 +124,7 @@ module _ (a b bytes : List ℕ) (k : ℕ) (R : ReadAlike a b (preview_reads a by
         let f = rw (whole-list bytes es A.whole, true-key_ok k A.low A.high, kept-keys 0 es (records_for a root) A.kept, no-edit-has k es h) at g in
         subst (λ (x : ℕ). All (SameLeaf x) (k ∷ [])) same (All-right (SameLeaf root) (keys_read 0 es (records_for a root)) (k ∷ []) f)
 
-    pub value_same : (o n : ℕ) → lookup_call a k ≡ lookups.Found o n → part b o n ≡ part a o n
+    pub value_same : (o n : ℕ) → lookup_call a k ≡ Ok (Some (record { offset = o; length = n })) → part b o n ≡ part a o n
     unfolding value_call value_at
     value_same o n e =
         let L : ReadAlike a b (lookup_reads k) = record { size = R.size; line = R.line; index = R.index; leaves = key-read } in
@@ -142,7 +137,7 @@ module _ (a b bytes : List ℕ) (k : ℕ) (R : ReadAlike a b (preview_reads a by
       preview-answers-a : Answers a bytes k (preview_call a bytes k)
       preview-answers-a = preview-answers a bytes k
 
-      go : (x : Preview) → Answers a bytes k x → part_of b bytes x ≡ part_of a bytes x
+      go : (x : Result (Option Shown) Refusal) → Answers a bytes k x → part_of b bytes x ≡ part_of a bytes x
       go _ (of_image root es A h o n e) = value_same root es A h o n e
       go _ (bad-image r n) = refl
       go _ (bad-list root o n i f) = refl
@@ -171,8 +166,8 @@ module _ (q : Asking) (a : List ℕ) (n : ℕ) (p : List ℕ) (long : length p �
       ∙ ap (λ (l : List ℕ). part l 0 line_size) (put_other a p n long (page-fits a n page) 0 (λ e. omega arith))
       ∙ part-part a (page_size * 0) page_size 0 line_size (omega arith)
 
-  pub elsewhere : ((root : ℕ) → root_call a ≡ roots.At root → n ≡ root → ⊥) →
-      ((root : ℕ) → index_call a ≡ roots.At root → All (λ (k : ℕ). n ≡ (leaf_for a root k).page → ⊥) (keys_for q a root)) → reply_to q (put_page a n p) ≡ reply_to q a
+  pub elsewhere : ((root : ℕ) → root_call a ≡ Ok root → n ≡ root → ⊥) →
+      ((root : ℕ) → index_call a ≡ Ok root → All (λ (k : ℕ). n ≡ (leaf_for a root k).page → ⊥) (keys_for q a root)) → reply_to q (put_page a n p) ≡ reply_to q a
   elsewhere index leaves =
       let other = put_other a p n long (page-fits a n page) in
       read-decides q a (put_page a n p) (record {

@@ -1,19 +1,18 @@
 -- What a preview answers: each refusal with its ground, the first that holds, and where none does, the part that the last edit of the key decides.
 -- Assumes nothing.
-use Rattle.std.specs.Prelude.{ℕ, ◌+◌, ◌≤◌, ◌<◌, ◌≡◌, ◌⊎◌, List, ◌∷◌, ◌++◌, length}
+use Rattle.std.specs.Prelude.{ℕ, ◌+◌, ◌≤◌, ◌<◌, ◌≡◌, ◌⊎◌, List, ◌∷◌, ◌++◌, length, Err, None, Ok, Option, Result, Some}
+use Rattle.device.specs.Calls.{refusal_at}
+use Rattle.preview.specs.declared.Shown.{Shown}
+use Rattle.preview.specs.declared.Shown.TheVariants.{InImage, InList}
 use Rattle.codec.specs.Lists.{All}
 use Rattle.device.specs.declared.Refusal.{Refusal}
-use Rattle.device.specs.declared.Answer.TheVariants as answers
 use Rattle.image.specs.Table.{table}
 use Rattle.image.specs.Descent.{records_for}
 use Rattle.image.specs.Calls.{check_call, lookup_call}
 use Rattle.image.specs.Says.{Opened, NotOpened, ReadUnsound}
-use Rattle.image.specs.declared.Lookup.TheVariants as lookups
 use Rattle.edit.specs.EditList.{Edit, insert, update, delete, key_of}
 use Rattle.edit.specs.Reads.{list_bytes, Whole, ListFault}
 use Rattle.edit.specs.Keys.{AllKeptBy, FirstFault, AllKept}
-use Rattle.preview.specs.declared.Preview.{Preview}
-use Rattle.preview.specs.declared.Preview.TheVariants.{InList, InImage, Missing, Refused}
 
 -- none of the edits is of the key k
 abbrev pub NoEdit : ℕ → List Edit → Type 0
@@ -39,7 +38,7 @@ pub record Asked (img bytes : List ℕ) (k root : ℕ) (es : List Edit) : Type 0
 
 -- the same of a sound image, by the ledger's table
 pub record AskedSound (img bytes : List ℕ) (k : ℕ) (es : List Edit) : Type 0 where
-  pub checked : check_call img ≡ answers.Accepted
+  pub checked : check_call img ≡ Ok tt
   pub whole : Whole bytes es
   pub low : 1 ≤ k
   pub high : k ≤ 999999999999
@@ -48,15 +47,15 @@ pub record AskedSound (img bytes : List ℕ) (k : ℕ) (es : List Edit) : Type 0
 -- "Refused: check's, then the list's, then 6 for the key asked, then 8 and 9. Edit numbers are as in a transaction, 0 for the key asked"; "a leaf's 4 comes just before the
 -- 8 or 9 of the first edit that needs that leaf, or last of all for the key asked"; else "a part of the edit list or a part of the image, as the last edit of that key decides": a
 -- value stands in the list 10 bytes after its edit's start
-pub data Answers (img bytes : List ℕ) (k : ℕ) : Preview → Type 0 where
-  bad-image : (r : Refusal) → NotOpened img r → Answers img bytes k (Refused r)
-  bad-list : (root : ℕ) → Opened img root → (n i : ℕ) → ListFault bytes n i → Answers img bytes k (Refused (record { number = n; edit = i }))
-  bad-key : (root : ℕ) → Opened img root → (es : List Edit) → Whole bytes es → (k < 1) ⊎ (999999999999 < k) → Answers img bytes k (Refused (record { number = 6; edit = 0 }))
+pub data Answers (img bytes : List ℕ) (k : ℕ) : Result (Option Shown) Refusal → Type 0 where
+  bad-image : (r : Refusal) → NotOpened img r → Answers img bytes k (Err r)
+  bad-list : (root : ℕ) → Opened img root → (n i : ℕ) → ListFault bytes n i → Answers img bytes k (Err (refusal_at n i))
+  bad-key : (root : ℕ) → Opened img root → (es : List Edit) → Whole bytes es → (k < 1) ⊎ (999999999999 < k) → Answers img bytes k (Err (refusal_at 6 0))
   bad-edit : (root : ℕ) → Opened img root → (es : List Edit) → Whole bytes es → 1 ≤ k → k ≤ 999999999999 → (n i : ℕ) → FirstFault 0 es (records_for img root) n i →
-      Answers img bytes k (Refused (record { number = n; edit = i }))
+      Answers img bytes k (Err (refusal_at n i))
   in_list : (root : ℕ) (es : List Edit) → Asked img bytes k root es → (l : LastEdit k es) (v : List ℕ) → (l.edit ≡ insert k v) ⊎ (l.edit ≡ update k v) →
-      Answers img bytes k (InList (length (list_bytes l.before) + 10) (length v))
-  deleted : (root : ℕ) (es : List Edit) → Asked img bytes k root es → (l : LastEdit k es) → l.edit ≡ delete k → Answers img bytes k Missing
-  bad-leaf : (root : ℕ) (es : List Edit) → Asked img bytes k root es → NoEdit k es → ReadUnsound img k root → Answers img bytes k (Refused (record { number = 4; edit = 0 }))
-  of_image : (root : ℕ) (es : List Edit) → Asked img bytes k root es → NoEdit k es → (o n : ℕ) → lookup_call img k ≡ lookups.Found o n → Answers img bytes k (InImage o n)
-  missing : (root : ℕ) (es : List Edit) → Asked img bytes k root es → NoEdit k es → lookup_call img k ≡ lookups.Missing → Answers img bytes k Missing
+      Answers img bytes k (Ok (Some (InList (record { offset = (length (list_bytes l.before) + 10); length = (length v) }))))
+  deleted : (root : ℕ) (es : List Edit) → Asked img bytes k root es → (l : LastEdit k es) → l.edit ≡ delete k → Answers img bytes k (Ok None)
+  bad-leaf : (root : ℕ) (es : List Edit) → Asked img bytes k root es → NoEdit k es → ReadUnsound img k root → Answers img bytes k (Err (refusal_at 4 0))
+  of_image : (root : ℕ) (es : List Edit) → Asked img bytes k root es → NoEdit k es → (o n : ℕ) → lookup_call img k ≡ Ok (Some (record { offset = o; length = n })) → Answers img bytes k (Ok (Some (InImage (record { offset = o; length = n }))))
+  missing : (root : ℕ) (es : List Edit) → Asked img bytes k root es → NoEdit k es → lookup_call img k ≡ Ok None → Answers img bytes k (Ok None)

@@ -1,18 +1,17 @@
 -- What the reading calls read, and what they reply: lookup, next key and preview, each with its companion (document 02 (b)).
 -- Assumes nothing.
-use Rattle.std.specs.Prelude.{ℕ, Bool, false, ◌||◌, List, [], ◌∷◌, ◌++◌, eqb}
+use Rattle.std.specs.Prelude.{ℕ, Bool, false, ◌||◌, List, [], ◌∷◌, ◌++◌, eqb, Err, Ok, Option, Result}
+use Rattle.preview.specs.declared.Shown.{Shown}
+use Rattle.device.specs.declared.Refusal.{Refusal}
+use Rattle.image.specs.declared.Part.{Part}
+use Rattle.device.specs.Calls.{Answer}
 use Rattle.codec.specs.Lists.{pick}
 use Rattle.image.specs.Descent.{records_for}
 use Rattle.image.specs.Calls.{key_ok, lookup_call, value_call, next_call}
 use Rattle.image.specs.WhatIsRead.{lookup_reads, next_reads}
-use Rattle.image.specs.declared.Lookup.{Lookup}
-use Rattle.image.specs.declared.Next.{Next}
 use Rattle.edit.specs.EditList.{Edit, key_of, Listed, listed, faulty, edit_list}
 use Rattle.edit.specs.Keys.{Source, keys_from, keys_read}
-use Rattle.edit.specs.declared.Judged.{Judged}
-use Rattle.edit.specs.declared.Judged.TheVariants.{Good, Faulty}
 use Rattle.preview.specs.Calls.{preview_call, preview_value_call}
-use Rattle.preview.specs.declared.Preview.{Preview}
 
 -- ---- the keys that a preview looks for under the root
 
@@ -22,9 +21,9 @@ has_edit k [] = false
 has_edit k (e ∷ es) = eqb (key_of e) k || has_edit k es
 
 -- "or last of all for the key asked", only if no edit has it
-unfoldable pub last_read : ℕ → List Edit → Judged → List ℕ
-last_read k es (Faulty r) = []
-last_read k es Good = pick (has_edit k es) [] (k ∷ [])
+unfoldable pub last_read : ℕ → List Edit → Answer → List ℕ
+last_read k es (Err r) = []
+last_read k es (Ok tt) = pick (has_edit k es) [] (k ∷ [])
 
 unfoldable pub list_reads : Source → ℕ → Listed → List ℕ
 list_reads read k (faulty n i) = []
@@ -42,9 +41,9 @@ pub data Asking : Type 0 where
 
 -- the answer, and the bytes of the companion
 pub data Reply : Type 0 where
-  looked : Lookup → List ℕ → Reply
-  next : Next → Reply
-  seen : Preview → List ℕ → Reply
+  looked : Result (Option Part) Refusal → List ℕ → Reply
+  next : Result (Option ℕ) Refusal → Reply
+  seen : Result (Option Shown) Refusal → List ℕ → Reply
 
 unfoldable pub reply_to : Asking → List ℕ → Reply
 reply_to (lookup k) img = looked (lookup_call img k) (value_call img k)

@@ -1,5 +1,6 @@
 -- The commit as a whole: the size of the transaction's tape by what differs, its parts one after the other, and each way out of the call.
 -- Assumes nothing.
+use Rattle.std.specs.Prelude.{Err, Ok, Result}
 use Prim.Native.Nat.{ℕ, ◌+◌, ◌*◌, ◌≤◌, ◌<◌}
 use mathlib.Core.Path.{◌≡◌, refl, sym, ap, ap₂, ◌∙◌, subst}
 use mathlib.Core.List.{List, []}
@@ -7,6 +8,9 @@ use native.Mathlib.Omega.{arith}
 use lib.ListN.{length, take}
 use lib.Seq.{sets}
 use borrow.Author.Tests.{le-leb, lt-leb}
+use Rattle.device.specs.declared.Cause.TheVariants.{LogFull, TapeShort}
+use Rattle.journal.specs.declared.Commit.{Commit}
+use Rattle.device.specs.declared.Cause.{Cause}
 use Rattle.codec.specs.Lists.{splice, All}
 use Rattle.codec.proofs.Tests.{All-map}
 use Rattle.codec.proofs.Lists.{splice-sets}
@@ -27,9 +31,7 @@ use Rattle.tape_write.proofs.Encoding.{length-tapes, tape-then}
 use Rattle.tape_write.proofs.Collecting.{collected}
 use Rattle.tape_write.proofs.StageTape.{lines-few, words-in, words-fit, words-few, stage-tape, stage-size, stage-flushes}
 use Rattle.tape_write.proofs.Choosing.{Behind, choose-behind, end-sized, Leaves}
-use Rattle.tape_write.specs.declared.Written.{Written}
 use Rattle.tape_write.specs.declared.Changes.{Changes}
-use Rattle.tape_write.specs.declared.Written.TheVariants as writes
 
 -- ---- the transaction's tape by what differs
 
@@ -93,15 +95,15 @@ module _ (way : Way) (a w : List ℕ) (is : Images a w) (r : Changes) (c : Count
 
 module _ (way : Way) (a w tape : List ℕ) where
   -- the answer and the buffers that the call leaves
-  abbrev pub Says : Written → List ℕ → List ℕ → Type 0
+  abbrev pub Says : Result Commit Cause → List ℕ → List ℕ → Type 0
   Says r work t = (r ≡ (commit_call way a w tape).answer) × ((work ≡ (commit_call way a w tape).work) × (t ≡ (commit_call way a w tape).tape))
 
-  pub says-full : 15 < length (changed_pages a w) → Says writes.LogFull w tape
+  pub says-full : 15 < length (changed_pages a w) → Says (Err LogFull) w tape
   unfolding commit_call room_in_log
   says-full h = rw (lt-leb (length (changed_pages a w)) 15 h) (refl, (refl, refl))
 
   module _ (is : Images a w) (few : length (changed_pages a w) ≤ 15) (bytes : ℕ) (sized : bytes ≡ length (tape_bytes (taken_for way a w).tape)) where
-    pub says-short : length tape < bytes → Says writes.TapeShort w tape
+    pub says-short : length tape < bytes → Says (Err TapeShort) w tape
     unfolding commit_call room_in_log
     says-short h = rw (le-leb (length (changed_pages a w)) 15 few, lt-leb (length (tape_bytes (taken_for way a w).tape)) (length tape) (omega arith)) (refl, (refl, refl))
 
@@ -110,7 +112,7 @@ module _ (way : Way) (a w tape : List ℕ) where
         t ≡ sets tape 0 (tape_bytes (stage_tape w (stage_words a w))) → stage ≡ 12 * length (stage_words a w) + group_bytes (length (lines_past 0 (stage_words a w))) →
         Leaves (choose way [] w (same_root a w) (changed_pages a w)) t stage place work t' →
         lines ≡ length (lines_past 0 (stage_words a w)) → flushes ≡ end_flushes way (length (changed_pages a w)) (same_root a w) →
-        Says (writes.Done (record { place = place; bytes = bytes; flushes = lines + flushes })) work t'
+        Says (Ok (record { place = place; bytes = bytes; flushes = lines + flushes })) work t'
     unfolding commit_call room_in_log commit_of
     says-done room lines flushes stage place t work t' e s left n m =
         let x = taken_for way a w in

@@ -1,5 +1,6 @@
 -- Recovery of a waiting mark: the logged pages judged by marks, the replayed image, and each way out of the call.
 -- Assumes nothing.
+use Rattle.std.specs.Prelude.{Err, Ok, Result}
 use Prim.Native.Nat.{ℕ, zero, suc, ◌+◌, ◌*◌, ◌^◌, ◌≤◌, ◌<◌}
 use mathlib.Core.Path.{◌≡◌, refl, sym, ap, ap₂, ◌∙◌, subst}
 use mathlib.Core.Bool.{Bool, true, false, ◌&&◌, true≢false}
@@ -11,6 +12,9 @@ use lib.ListN.{length, get_or, set, replicate}
 use lib.Seq.{sets}
 use lib.Dec.{eqb}
 use borrow.Author.Tests.{le-leb, lt-leb, eq-eqb, eqb-true, eqb-false}
+use Rattle.device.specs.declared.Cause.TheVariants.{TapeShort}
+use Rattle.journal.specs.declared.Redone.{Redone}
+use Rattle.device.specs.declared.Cause.{Cause}
 use Rattle.codec.specs.Lists.{part, splice, eqs, all_b}
 use Rattle.codec.specs.Numbers.{number, bytes_of}
 use Rattle.codec.proofs.Tests.{both, first, second, all_b-true, true-all_b, eqs-true, eqs-same}
@@ -32,8 +36,6 @@ use Rattle.tape_write.specs.Sizes.{replay_bytes}
 use Rattle.tape_write.specs.Calls.{redo_call}
 use Rattle.tape_write.proofs.LogLines.{lines_passed, lines_next, lines_none, logged-lines, logged-length}
 use Rattle.tape_write.proofs.Endings.{replay-size, replay-count}
-use Rattle.tape_write.specs.declared.Replayed.{Replayed}
-use Rattle.tape_write.specs.declared.Replayed.TheVariants as replays
 
 -- ---- the logged pages, judged by marks
 
@@ -149,7 +151,7 @@ root-same a bytes long v root e small = same_test (eqb v root) (eqs (part a 8 8)
 -- ---- the ways out of the call
 
 module _ (way : Way) (a tape : List ℕ) (k root : ℕ) (same : Bool) (log : 64 * k + 64 ≤ length a) (is : same ≡ eqs (part a 8 8) (bytes_of 8 root)) where
-  abbrev pub Redoes : Replayed → List ℕ → List ℕ → Type 0
+  abbrev pub Redoes : Result Redone Cause → List ℕ → List ℕ → Type 0
   Redoes r work t = (r ≡ (redo_call way a k root tape).answer) × ((work ≡ (redo_call way a k root tape).work) × (t ≡ (redo_call way a k root tape).tape))
 
   tape-is : recovery_tape way a (Waiting k root) ≡ replay_tape way (logged k a) same root
@@ -162,12 +164,12 @@ module _ (way : Way) (a tape : List ℕ) (k root : ℕ) (same : Bool) (log : 64 
   flushes-are : flush_count (recovery_tape way a (Waiting k root)) ≡ k + 1
   flushes-are = ap flush_count tape-is ∙ replay-count way (logged k a) k (logged-lines k a log) (logged-length k a) same root
 
-  pub redo-short : length tape < replay_bytes way k same → Redoes replays.TapeShort a tape
+  pub redo-short : length tape < replay_bytes way k same → Redoes (Err TapeShort) a tape
   unfolding redo_call
   redo-short h = rw (lt-leb (length (tape_bytes (recovery_tape way a (Waiting k root)))) (length tape) (omega (arith, size_is))) (refl, (refl, refl))
 
   pub redo-done : replay_bytes way k same ≤ length tape → (bytes : ℕ) (work t : List ℕ) → bytes ≡ replay_bytes way k same → work ≡ replayed (logged k a) root a →
-      t ≡ sets tape 0 (tape_bytes (replay_tape way (logged k a) same root)) → Redoes (replays.Done bytes (k + 1)) work t
+      t ≡ sets tape 0 (tape_bytes (replay_tape way (logged k a) same root)) → Redoes (Ok (record { bytes = bytes; flushes = (k + 1) })) work t
   unfolding redo_call replay_from
   redo-done room bytes work t b e h =
       let cs = recovery_tape way a (Waiting k root) in

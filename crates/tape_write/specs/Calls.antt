@@ -1,6 +1,10 @@
 -- What writing a tape asks of the buffers, and what it answers and leaves (document 01, 'Each call and when it says no').
 -- Assumes nothing.
-use Rattle.std.specs.Prelude.{ℕ, ◌+◌, ◌*◌, ◌/◌, ◌%◌, ◌≤◌, ◌<◌, ◌≡◌, true, false, List, length, get_or, leb}
+use Rattle.std.specs.Prelude.{ℕ, ◌+◌, ◌*◌, ◌/◌, ◌%◌, ◌≤◌, ◌<◌, ◌≡◌, true, false, List, length, get_or, leb, Err, Ok, Result}
+use Rattle.journal.specs.declared.Redone.{Redone}
+use Rattle.device.specs.declared.Cause.TheVariants.{LogFull, TapeShort}
+use Rattle.journal.specs.declared.Commit.{Commit}
+use Rattle.device.specs.declared.Cause.{Cause}
 use Rattle.codec.specs.Lists.{pick, splice}
 use Rattle.device.specs.Tape.{flush_count, tape_bytes}
 use Rattle.page.specs.Layout.{page_size, line_size}
@@ -12,11 +16,7 @@ use Rattle.journal.specs.Tape.{room_in_log, taken_for, commit_of}
 use Rattle.journal.specs.Recovery.{logged, logged_ok, replay_from, recovery_tape}
 use Rattle.journal.specs.declared.Way.{Way}
 use Rattle.tape_write.specs.Words.{stage_words, lines_past}
-use Rattle.tape_write.specs.declared.Written.{Written}
-use Rattle.tape_write.specs.declared.Replayed.{Replayed}
 use Rattle.tape_write.specs.declared.Changes.{Changes}
-use Rattle.tape_write.specs.declared.Written.TheVariants as writes
-use Rattle.tape_write.specs.declared.Replayed.TheVariants as replays
 
 -- the pages that an image reaches
 abbrev pub reached_in : List ℕ → List ℕ
@@ -49,21 +49,21 @@ pub record Counted (a w : List ℕ) (r : Changes) : Type 0 where
   pub root : r.same ≡ same_root a w
 
 -- an answer, and the two buffers that are lent
-pub record Result (A : Type 0) : Type 0 where
+pub record Called (A : Type 0) : Type 0 where
   pub answer : A
   pub work : List ℕ
   pub tape : List ℕ
 
 -- "Then 12 more than 15 changed headers where the log is needed; 13 tape too short." "Tape bytes past those used stay."
-unfoldable pub commit_call : Way → List ℕ → List ℕ → List ℕ → Result Written
+unfoldable pub commit_call : Way → List ℕ → List ℕ → List ℕ → Called (Result Commit Cause)
 commit_call way a w tape =
     let t = taken_for way a w in
     let bytes = tape_bytes t.tape in
     pick (room_in_log (changed_pages a w))
     (pick (leb (length bytes) (length tape))
-    (record { answer = writes.Done (commit_of t); work = t.work; tape = splice tape 0 bytes })
-    (record { answer = writes.TapeShort; work = w; tape = tape }))
-    (record { answer = writes.LogFull; work = w; tape = tape })
+    (record { answer = Ok (commit_of t); work = t.work; tape = splice tape 0 bytes })
+    (record { answer = (Err TapeShort); work = w; tape = tape }))
+    (record { answer = (Err LogFull); work = w; tape = tape })
 
 -- k headers wait in the log of the image a, each of a page of its own, and w is as long as a
 pub record LogWaits (a w : List ℕ) (k : ℕ) : Type 0 where
@@ -73,10 +73,10 @@ pub record LogWaits (a w : List ℕ) (k : ℕ) : Type 0 where
   pub pages : logged_ok (page_count a) (logged k a) ≡ true
 
 -- "13, work then holding the image. Accepted, work is the replayed image"
-unfoldable pub redo_call : Way → List ℕ → ℕ → ℕ → List ℕ → Result Replayed
+unfoldable pub redo_call : Way → List ℕ → ℕ → ℕ → List ℕ → Called (Result Redone Cause)
 redo_call way a k root tape =
     let cs = recovery_tape way a (Waiting k root) in
     let bytes = tape_bytes cs in
     pick (leb (length bytes) (length tape))
-    (record { answer = replays.Done (length bytes) (flush_count cs); work = replay_from a (Waiting k root); tape = splice tape 0 bytes })
-    (record { answer = replays.TapeShort; work = a; tape = tape })
+    (record { answer = Ok (record { bytes = (length bytes); flushes = (flush_count cs) }); work = replay_from a (Waiting k root); tape = splice tape 0 bytes })
+    (record { answer = (Err TapeShort); work = a; tape = tape })

@@ -1,6 +1,7 @@
 -- What the transaction call answers: each refusal where its ground is the first that holds, and acceptance where none does; with what an
 -- accepted transaction leaves.
 -- Assumes nothing.
+use Rattle.std.specs.Prelude.{Err, Ok}
 use Prim.Native.Nat.{ℕ, ◌≤◌}
 use mathlib.Core.Path.{◌≡◌, refl, ◌∙◌}
 use mathlib.Core.Bool.{true}
@@ -10,10 +11,8 @@ use lib.ListN.{length}
 use lib.Dec.{eqb, leb}
 use borrow.Author.Tests.{eqb-true, eqb-false, eq-eqb, ne_eqb, leb-true, leb-false, le-leb, lt-leb}
 use Rattle.device.specs.Tape.{tape_bytes}
-use Rattle.device.specs.Calls.{is_image_size}
+use Rattle.device.specs.Calls.{is_image_size, Answer, refusal_at}
 use Rattle.device.specs.declared.Refusal.{Refusal}
-use Rattle.device.specs.declared.Answer.{Answer}
-use Rattle.device.specs.declared.Answer.TheVariants as answers
 use Rattle.image.specs.PageZero.{log_most}
 use Rattle.image.specs.Calls.{check_call}
 use Rattle.image.proofs.Answers.{check_sound}
@@ -28,12 +27,11 @@ use Rattle.tree.specs.State.{State}
 use Rattle.tree.specs.Whole.{Outcome, finished, stopped, edits_on, edited_image}
 use Rattle.tree.proofs.Runs.{edits-refused, grounds-refuse}
 use Rattle.tree.proofs.Numbers.{edits-numbered}
-use Rattle.transaction.specs.Calls.{Result, refused_with, accepted_with, committed, outcome_of, list_of, checked_of, transaction_call}
-use Rattle.transaction.specs.declared.Transacted.TheVariants.{Accepted, Refused}
+use Rattle.transaction.specs.Calls.{Called, refused_with, accepted_with, committed, outcome_of, list_of, checked_of, transaction_call}
 use Rattle.transaction.specs.Answers.{Begun, Done, Answers, bad-size, bad-work, bad-image, bad-list, bad-edit, no-log, no-tape, accepted}
 
 -- the refusal of a result
-pub refused-is : (n i : ℕ) (work tape : List ℕ) (r : Refusal) → (refused_with n i work tape).answer ≡ Refused r → record { number = n; edit = i } ≡ r
+pub refused-is : (n i : ℕ) (work tape : List ℕ) (r : Refusal) → (refused_with n i work tape).answer ≡ Err r → (refusal_at n i) ≡ r
 unfolding refused_with
 refused-is n i work tape r e = cc
 
@@ -67,8 +65,8 @@ module _ (way : Way) (a work tape bytes : List ℕ) where
       list B (listed es) e = edits B es e (edits_on a es) refl
 
       check : is_image_size (length a) ≡ true → length work ≡ length a → (c : Answer) → check_call a ≡ c → Answers way a work tape bytes (checked_of way a work tape bytes c)
-      check size same (answers.Refused r) e = bad-image size same r e
-      check size same answers.Accepted e = list (record { size = size; same = same; checked = e }) (edit_list bytes) refl
+      check size same (Err r) e = bad-image size same r e
+      check size same (Ok tt) e = list (record { size = size; same = same; checked = e }) (edit_list bytes) refl
 
   -- the cases exclude each other: each is the call's answer where it holds
   pub begun-call : Begun a work → transaction_call way a work tape bytes ≡ list_of way a work tape (edit_list bytes)
@@ -79,7 +77,7 @@ module _ (way : Way) (a work tape bytes : List ℕ) where
   unfolding list_of outcome_of
   done-call B es st D = begun-call B ∙ rw (D.reads, D.makes)
 
-  pub answers-call : (r : Result) → Answers way a work tape bytes r → transaction_call way a work tape bytes ≡ r
+  pub answers-call : (r : Called) → Answers way a work tape bytes r → transaction_call way a work tape bytes ≡ r
   unfolding transaction_call checked_of list_of outcome_of committed room_in_log
   answers-call _ (bad-size e) = rw e
   answers-call _ (bad-work e other) = rw (e, ne_eqb (length work) (length a) other)
@@ -106,11 +104,11 @@ module _ (way : Way) (a work tape bytes : List ℕ) where
     pub fits : length (tape_bytes (taken_for way a (edited_image a state)).tape) ≤ length tape
     pub result : transaction_call way a work tape bytes ≡ accepted_with (taken_for way a (edited_image a state)) tape
 
-  pub call-accepted : (c : Commit) → (transaction_call way a work tape bytes).answer ≡ Accepted c → Acceptance
+  pub call-accepted : (c : Commit) → (transaction_call way a work tape bytes).answer ≡ Ok c → Acceptance
   unfolding refused_with
   call-accepted c e = go (transaction_call way a work tape bytes) call-answers refl e
     where
-      go : (r : Result) → Answers way a work tape bytes r → transaction_call way a work tape bytes ≡ r → r.answer ≡ Accepted c → Acceptance
+      go : (r : Called) → Answers way a work tape bytes r → transaction_call way a work tape bytes ≡ r → r.answer ≡ Ok c → Acceptance
       go _ (bad-size _) q e = let z : ◌≡◌ {A = ℕ} 0 1 = cc in absurd (omega arith)
       go _ (bad-work _ _) q e = let z : ◌≡◌ {A = ℕ} 0 1 = cc in absurd (omega arith)
       go _ (bad-image _ _ _ _) q e = let z : ◌≡◌ {A = ℕ} 0 1 = cc in absurd (omega arith)

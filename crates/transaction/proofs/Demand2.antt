@@ -1,5 +1,6 @@
 -- Demand 2 of the call: an accepted transaction leaves a sound work image with the ledger's table, which its tape gives.
 -- Assumes nothing.
+use Rattle.std.specs.Prelude.{Ok}
 use Prim.Native.Nat.{ℕ, ◌≤◌}
 use mathlib.Core.Path.{◌≡◌, sym, ap, ◌∙◌}
 use mathlib.Core.Logic.{◌⊎◌}
@@ -35,12 +36,11 @@ use Rattle.journal.proofs.Stated.{commit-reads}
 use Rattle.tree.specs.Whole.{finished, edits_on, edited_image}
 use Rattle.tree.proofs.Accepted.{edits-accepted, edits-table}
 use Rattle.tree.proofs.Changed.{place-changed}
-use Rattle.transaction.specs.Calls.{Result, accepted_with, commands_on, transaction_call}
+use Rattle.transaction.specs.Calls.{Called, accepted_with, commands_on, transaction_call}
 use Rattle.transaction.specs.Demand2.{Makes, Demand2}
-use Rattle.transaction.specs.declared.Transacted.TheVariants.{Accepted}
 use Rattle.transaction.proofs.Answers.{Acceptance, call-accepted}
 
-module _ (way : Way) (a work tape bytes : List ℕ) (c : Commit) (e : (transaction_call way a work tape bytes).answer ≡ Accepted c) where
+module _ (way : Way) (a work tape bytes : List ℕ) (c : Commit) (e : (transaction_call way a work tape bytes).answer ≡ Ok c) where
   pub acceptance : Acceptance way a work tape bytes
   acceptance = call-accepted way a work tape bytes c e
 
@@ -84,16 +84,16 @@ module _ (way : Way) (a work tape bytes : List ℕ) (c : Commit) (e : (transacti
   pub answer-is : c ≡ commit_of taken
   unfolding accepted_with
   answer-is =
-      let r : Accepted c ≡ (accepted_with taken tape).answer = sym e ∙ ap (λ (x : Result). x.answer) acceptance.result in
+      let r : Ok c ≡ (accepted_with taken tape).answer = sym e ∙ ap (λ (x : Called). x.answer) acceptance.result in
       cc
 
   work-is : (transaction_call way a work tape bytes).work ≡ taken.work
   unfolding accepted_with
-  work-is = ap (λ (x : Result). x.work) acceptance.result
+  work-is = ap (λ (x : Called). x.work) acceptance.result
 
   tape-is : (transaction_call way a work tape bytes).tape ≡ splice tape 0 (tape_bytes taken.tape)
   unfolding accepted_with
-  tape-is = ap (λ (x : Result). x.tape) acceptance.result
+  tape-is = ap (λ (x : Called). x.tape) acceptance.result
 
   bytes-are : c.bytes ≡ length (tape_bytes taken.tape)
   unfolding commit_of

@@ -1,19 +1,21 @@
 -- Each way out of the call: what it answers and leaves there is what the definition says.
 -- Assumes nothing.
+use Rattle.std.specs.Prelude.{Err, Ok}
 use Prim.Native.Nat.{ℕ}
 use mathlib.Core.Path.{◌≡◌, refl, sym, ap, ◌∙◌, subst}
 use mathlib.Core.Bool.{Bool, true, false}
 use mathlib.Core.List.{List}
 use lib.ListN.{length}
 use lib.Dec.{leb}
+use Rattle.device.specs.declared.Cause.TheVariants.{LogFull, TapeShort}
+use Rattle.journal.specs.declared.Commit.{Commit}
+use Rattle.device.specs.declared.Cause.{Cause}
 use Rattle.device.specs.Tape.{tape_bytes}
-use Rattle.device.specs.Calls.{image_size, work_size, log_full, tape_short, refusal, is_image_size}
+use Rattle.device.specs.Calls.{image_size, work_size, log_full, tape_short, refusal, is_image_size, refusal_at}
 use Rattle.device.specs.declared.Refusal.{Refusal}
-use Rattle.device.specs.declared.Answer.TheVariants as answers
 use Rattle.image.specs.Calls.{check_call}
 use Rattle.edit.specs.EditList.{Edit, Listed, listed, edits_of, edit_list}
 use Rattle.edit.specs.Judged.{judged_of}
-use Rattle.edit.specs.declared.Judged.TheVariants as judges
 use Rattle.edit.proofs.Judging.{faulty-listed}
 use Rattle.journal.specs.Changes.{changed_pages}
 use Rattle.journal.specs.Tape.{room_in_log, taken_for}
@@ -21,27 +23,24 @@ use Rattle.journal.specs.declared.Way.{Way}
 use Rattle.tree.specs.State.{State}
 use Rattle.tree.specs.Whole.{finished, stopped, edits_on, edited_image}
 use Rattle.tape_write.specs.Calls.{commit_call}
-use Rattle.tape_write.specs.declared.Written.{Written}
-use Rattle.tape_write.specs.declared.Written.TheVariants as writes
-use Rattle.transaction.specs.Calls.{Result, refused_with, accepted_with, committed, outcome_of, list_of, transaction_call}
-use Rattle.transaction.specs.declared.Transacted.TheVariants.{Accepted, Refused}
+use Rattle.transaction.specs.Calls.{Called, refused_with, accepted_with, committed, outcome_of, list_of, transaction_call}
 use Rattle.transaction.specs.Answers.{Answers, bad-size, bad-work, bad-image}
 use Rattle.transaction.proofs.Answers.{begun-call, answers-call}
 
 -- ---- the tape
 
 -- what a transaction answers and leaves when writing its tape came to r
-abbrev pub answered : List ℕ → Written → List ℕ → List ℕ → Result
-answered a (writes.Done d) work tape = record { answer = Accepted d; work = work; tape = tape }
-answered a writes.LogFull work tape = record { answer = Refused (refusal log_full); work = a; tape = tape }
-answered a writes.TapeShort work tape = record { answer = Refused (refusal tape_short); work = a; tape = tape }
+abbrev pub answered : List ℕ → Result Commit Cause → List ℕ → List ℕ → Called
+answered a (Ok d) work tape = record { answer = Ok d; work = work; tape = tape }
+answered a (Err LogFull) work tape = record { answer = Err (refusal log_full); work = a; tape = tape }
+answered a (Err TapeShort) work tape = record { answer = Err (refusal tape_short); work = a; tape = tape }
 
 -- the answer and the buffers are those of the result y
-abbrev pub Shows : Result → Result → Type 0
+abbrev pub Shows : Called → Called → Type 0
 Shows x y = (x.answer ≡ y.answer) × ((x.work ≡ y.work) × (x.tape ≡ y.tape))
 
-pub shows : (x y : Result) → x ≡ y → Shows x y
-shows x y e = (ap (λ (r : Result). r.answer) e, (ap (λ (r : Result). r.work) e, ap (λ (r : Result). r.tape) e))
+pub shows : (x y : Called) → x ≡ y → Shows x y
+shows x y e = (ap (λ (r : Called). r.answer) e, (ap (λ (r : Called). r.work) e, ap (λ (r : Called). r.tape) e))
 
 module _ (way : Way) (a w tape : List ℕ) where
   commit-meets : answered a (commit_call way a w tape).answer (commit_call way a w tape).work (commit_call way a w tape).tape ≡ committed way a w tape
@@ -54,7 +53,7 @@ module _ (way : Way) (a w tape : List ℕ) where
       go true e false f = rw (e, f)
       go false e c f = rw e
 
-  pub commit-shows : (r s : Written) → r ≡ s → (work t : List ℕ) →
+  pub commit-shows : (r s : Result Commit Cause) → r ≡ s → (work t : List ℕ) →
       (r ≡ (commit_call way a w tape).answer) × ((work ≡ (commit_call way a w tape).work) × (t ≡ (commit_call way a w tape).tape)) →
       Shows (answered a s work t) (committed way a w tape)
   commit-shows r s q work t (e, (f, g)) =
@@ -64,49 +63,49 @@ module _ (way : Way) (a w tape : List ℕ) where
 -- ---- each way out
 
 -- a refusal that names no edit, with work put back
-pub refused-shows : (k : ℕ) (a t : List ℕ) (y : Result) → Shows (record { answer = Refused (refusal k); work = a; tape = t }) y →
-    (r : Refusal) → r ≡ refusal k → (work : List ℕ) → work ≡ a → Shows (record { answer = Refused r; work = work; tape = t }) y
-refused-shows k a t y (e, (f, g)) r q work z = (ap Refused q ∙ e, (z ∙ f, g))
+pub refused-shows : (k : ℕ) (a t : List ℕ) (y : Called) → Shows (record { answer = Err (refusal k); work = a; tape = t }) y →
+    (r : Refusal) → r ≡ refusal k → (work : List ℕ) → work ≡ a → Shows (record { answer = Err r; work = work; tape = t }) y
+refused-shows k a t y (e, (f, g)) r q work z = (ap Err q ∙ e, (z ∙ f, g))
 
 module _ (way : Way) (a tape : List ℕ) (es : List Edit) where
   pub stopped-shows : (k i : ℕ) → edits_on a es ≡ stopped k i → (work : List ℕ) → work ≡ a →
-      Shows (record { answer = Refused (record { number = k; edit = i }); work = work; tape = tape }) (outcome_of way a tape (edits_on a es))
+      Shows (record { answer = Err (refusal_at k i); work = work; tape = tape }) (outcome_of way a tape (edits_on a es))
   unfolding outcome_of refused_with
   stopped-shows k i e work z = rw e (refl, (z, refl))
 
-  pub finished-shows : (st : State) → edits_on a es ≡ finished st → (w : List ℕ) → w ≡ edited_image a st → (x : Result) → Shows x (committed way a w tape) →
+  pub finished-shows : (st : State) → edits_on a es ≡ finished st → (w : List ℕ) → w ≡ edited_image a st → (x : Called) → Shows x (committed way a w tape) →
       Shows x (outcome_of way a tape (edits_on a es))
   unfolding outcome_of
   finished-shows st e w z x h = subst (Shows x) (ap (λ (v : List ℕ). committed way a v tape) z ∙ ap (outcome_of way a tape) (sym e)) h
 
 module _ (way : Way) (a work tape : List ℕ) where
-  pub faulty-shows : (l : Listed) (r : Refusal) → judged_of l ≡ judges.Faulty r → Shows (record { answer = Refused r; work = work; tape = tape }) (list_of way a work tape l)
+  pub faulty-shows : (l : Listed) (r : Refusal) → judged_of l ≡ Err r → Shows (record { answer = Err r; work = work; tape = tape }) (list_of way a work tape l)
   unfolding list_of refused_with
   faulty-shows l r e = rw (faulty-listed l r e) (refl, (refl, refl))
 
-  pub listed-shows : (l : Listed) → l ≡ listed (edits_of l) → (x : Result) → Shows x (outcome_of way a tape (edits_on a (edits_of l))) → Shows x (list_of way a work tape l)
+  pub listed-shows : (l : Listed) → l ≡ listed (edits_of l) → (x : Called) → Shows x (outcome_of way a tape (edits_on a (edits_of l))) → Shows x (list_of way a work tape l)
   unfolding list_of
   listed-shows l e x h = subst (λ (v : Listed). Shows x (list_of way a work tape v)) (sym e) h
 
   module _ (bytes : List ℕ) where
     -- a refusal of the call that leaves work and tape
     call-refused : (k : ℕ) → Answers way a work tape bytes (refused_with k 0 work tape) → (r : Refusal) → r ≡ refusal k →
-        Shows (record { answer = Refused r; work = work; tape = tape }) (transaction_call way a work tape bytes)
+        Shows (record { answer = Err r; work = work; tape = tape }) (transaction_call way a work tape bytes)
     unfolding refused_with
     call-refused k h r q =
         let y = transaction_call way a work tape bytes in
         refused-shows k work tape y (shows (refused_with k 0 work tape) y (sym (answers-call way a work tape bytes (refused_with k 0 work tape) h))) r q work refl
 
-    pub size-shows : is_image_size (length a) ≡ false → (r : Refusal) → r ≡ refusal image_size → Shows (record { answer = Refused r; work = work; tape = tape }) (transaction_call way a work tape bytes)
+    pub size-shows : is_image_size (length a) ≡ false → (r : Refusal) → r ≡ refusal image_size → Shows (record { answer = Err r; work = work; tape = tape }) (transaction_call way a work tape bytes)
     size-shows e = call-refused image_size (bad-size e)
 
     pub work-shows : is_image_size (length a) ≡ true → (length work ≡ length a → ⊥) → (r : Refusal) → r ≡ refusal work_size →
-        Shows (record { answer = Refused r; work = work; tape = tape }) (transaction_call way a work tape bytes)
+        Shows (record { answer = Err r; work = work; tape = tape }) (transaction_call way a work tape bytes)
     work-shows e ne = call-refused work_size (bad-work e ne)
 
     module _ (size : is_image_size (length a) ≡ true) (same : length work ≡ length a) where
-      pub unsound-shows : (r : Refusal) → check_call a ≡ answers.Refused r → Shows (record { answer = Refused r; work = work; tape = tape }) (transaction_call way a work tape bytes)
+      pub unsound-shows : (r : Refusal) → check_call a ≡ Err r → Shows (record { answer = Err r; work = work; tape = tape }) (transaction_call way a work tape bytes)
       unsound-shows r e = shows _ _ (sym (answers-call way a work tape bytes _ (bad-image size same r e)))
 
-      pub checked-shows : check_call a ≡ answers.Accepted → (x : Result) → Shows x (list_of way a work tape (edit_list bytes)) → Shows x (transaction_call way a work tape bytes)
+      pub checked-shows : check_call a ≡ Ok tt → (x : Called) → Shows x (list_of way a work tape (edit_list bytes)) → Shows x (transaction_call way a work tape bytes)
       checked-shows e x h = subst (Shows x) (sym (begun-call way a work tape bytes (record { size = size; same = same; checked = e }))) h

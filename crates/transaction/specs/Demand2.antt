@@ -1,7 +1,7 @@
 -- Demand 2 of the call on either device: what an accepted transaction leaves in its buffers, whatever they held (document 01, 'The plain ledger', and the desk's second demand).
 -- That a refusal comes exactly if its ground is the first that holds is said in Answers.
 -- Assumes nothing.
-use Rattle.std.specs.Prelude.{ℕ, ◌≤◌, ◌≡◌, true, List, length, take, drop}
+use Rattle.std.specs.Prelude.{ℕ, ◌≤◌, ◌≡◌, true, List, length, take, drop, Ok}
 use Rattle.device.specs.Tape.{flush_count}
 use Rattle.device.specs.Cut.{after}
 use Rattle.device.specs.Calls.{accepted, run_call}
@@ -11,11 +11,10 @@ use Rattle.edit.specs.EditList.{listed, edits_of, edit_list}
 use Rattle.edit.specs.Ledger.{apply_edits}
 use Rattle.journal.specs.declared.Way.{Way}
 use Rattle.journal.specs.declared.Commit.{Commit}
-use Rattle.transaction.specs.Calls.{Result, commands_on, transaction_call}
-use Rattle.transaction.specs.declared.Transacted.TheVariants.{Accepted}
+use Rattle.transaction.specs.Calls.{Called, commands_on, transaction_call}
 
 -- the transaction on the image a, lent work, tape and the edit list, is accepted with the answer c and leaves r
-pub record Makes (a tape bytes : List ℕ) (c : Commit) (r : Result) : Type 0 where
+pub record Makes (a tape bytes : List ℕ) (c : Commit) (r : Called) : Type 0 where
   pub was_sound : sound a ≡ true
   -- the list has no fault; work is sound, and its table is the ledger's after the list: "each edit in order"
   pub reads : edit_list bytes ≡ listed (edits_of (edit_list bytes))
@@ -32,4 +31,4 @@ pub record Makes (a tape bytes : List ℕ) (c : Commit) (r : Result) : Type 0 wh
 
 abbrev pub Demand2 : Type 0
 Demand2 =
-    (way : Way) (a work tape bytes : List ℕ) (c : Commit) → (transaction_call way a work tape bytes).answer ≡ Accepted c → Makes a tape bytes c (transaction_call way a work tape bytes)
+    (way : Way) (a work tape bytes : List ℕ) (c : Commit) → (transaction_call way a work tape bytes).answer ≡ Ok c → Makes a tape bytes c (transaction_call way a work tape bytes)

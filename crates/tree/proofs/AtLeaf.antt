@@ -1,5 +1,6 @@
 -- One height: an edit is made in the leaf that its key belongs to, and the index, which is the root, takes what the leaf asks for.
 -- Assumes nothing.
+use Rattle.std.specs.Prelude.{Result}
 use Prim.Native.Nat.{ℕ, suc}
 use mathlib.Core.Path.{◌≡◌, sym, ap, ap₂, ◌∙◌}
 use mathlib.Core.List.{List, [], ◌∷◌, ◌++◌}
@@ -12,7 +13,6 @@ use Rattle.page.specs.Page.{records}
 use Rattle.page.specs.Operations.{page_of}
 use Rattle.page.specs.PageFormat.{format1}
 use Rattle.page.specs.Search.{searched}
-use Rattle.page.specs.declared.Search.{Search}
 use Rattle.image.specs.Image.{child_of, children}
 use Rattle.image.specs.Route.{route}
 use Rattle.image.proofs.OneHeight.{height-one}
@@ -25,12 +25,12 @@ use Rattle.tree.proofs.General.{get_or-seam}
 use Rattle.tree.proofs.Spots.{good-some, good-seps}
 
 -- in the leaf of the index record c, the i-th, where s is where the key stands
-abbrev pub leaf_edit : Edit → State → ℕ → Rec → Search → Step
+abbrev pub leaf_edit : Edit → State → ℕ → Rec → Result ℕ ℕ → Step
 leaf_edit e st i c s =
     rooted format1 1 (onto (edit_leaf format1 no_keep (only_leaf format1 st.image 1 st.root) (leb slot_count (length (children st.image st.root))) e (child_of c) st s)
     (λ x t. absorbed format1 no_keep index_kind i (low_of i 0 c.key) st.root x t))
 
-abbrev pub where_in : Edit → State → Rec → Search
+abbrev pub where_in : Edit → State → Rec → Result ℕ ℕ
 where_in e st c = searched (key_of e) 0 (records (page_of st.image (child_of c)))
 
 edited-one : (e : Edit) (st : State) → let cs = children st.image st.root in let i = route (key_of e) cs in let c = get_or cs i (rec_of 0 []) in edited e st ≡ leaf_edit e st i c (where_in e st c)

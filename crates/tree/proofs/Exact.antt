@@ -1,11 +1,11 @@
 -- One edit is refused exactly by its ground: 8 and 9 by the table, 10 where no page above its leaf has room, 11 by the pages that it takes.
 -- Assumes nothing.
+use Rattle.std.specs.Prelude.{Err, Ok, Option, Result}
 use Prim.Native.Nat.{ℕ, zero, suc, ◌+◌, ◌≤◌, ◌<◌}
 use mathlib.Core.Path.{◌≡◌, refl, sym, ap, ◌∙◌, subst}
 use mathlib.Core.Logic.{◌⊎◌, inl, inr}
 use mathlib.Core.Bool.{Bool, true, false, ◌&&◌, and-false}
 use mathlib.Core.List.{List, [], ◌∷◌, ◌++◌}
-use mathlib.Core.Option.{Option}
 use native.Mathlib.Omega.{arith}
 use lib.ListN.{length}
 use lib.Dec.{eqb, ltb}
@@ -16,8 +16,6 @@ use Rattle.page.specs.Layout.{Rec, leaf_kind, rec_of, top_key}
 use Rattle.page.specs.Operations.{made, page_of}
 use Rattle.page.specs.PageFormat.{PageFormat, Rules}
 use Rattle.page.specs.Search.{searched}
-use Rattle.page.specs.declared.Search.{Search}
-use Rattle.page.specs.declared.Search.TheVariants.{At, Missing}
 use Rattle.image.specs.Facts.{Rising, Under}
 use Rattle.image.specs.Image.{child_of, first_key, gathered, height_in, index_rec, records_at, start_of, tallest}
 use Rattle.image.specs.Route.{route}
@@ -63,23 +61,23 @@ module _ (Pg : PageFormat) (rules : Rules Pg) (keep : ℕ → Pg.Keep) (n : ℕ)
   no_9 : {A : Type 0} → ◌≡◌ {A = ℕ} 9 0 → A
   no_9 e = absurd (omega arith)
 
-  leaf-counted : (lo hi q : ℕ) → Rising lo (records_at Pg st.image q) hi → (e : Edit) (s : Search) → searched (key_of e) 0 (records_at Pg st.image q) ≡ s → key_rule e (records_at Pg st.image q) ≡ 0 →
+  leaf-counted : (lo hi q : ℕ) → Rising lo (records_at Pg st.image q) hi → (e : Edit) (s : Result ℕ ℕ) → searched (key_of e) 0 (records_at Pg st.image q) ≡ s → key_rule e (records_at Pg st.image q) ≡ 0 →
       Counted (leaf_takes Pg (keep q) e (page_of st.image q)) (leaf_takes Pg (keep q) e (page_of st.image q)) st.free (edit_leaf Pg keep only false e q st s)
   unfolding edit_leaf key_rule holds leaf_takes made
-  leaf-counted lo hi q up (edits.insert k v) (At j) z w =
+  leaf-counted lo hi q up (edits.insert k v) (Ok j) z w =
       let t = records_at Pg st.image q in
       no-8 (sym (ap (λ (b : Bool). pick b 8 0) (found_some (find k t) (search-there k lo t hi up j z).found)) ∙ w)
-  leaf-counted lo hi q up (edits.insert k v) (Missing j) z w =
+  leaf-counted lo hi q up (edits.insert k v) (Err j) z w =
       let t = records_at Pg st.image q in
       put-counted Pg keep leaf_kind true j (rec_of k v) q st (add k v t) ((search-missing k lo t hi up j z).inserted v)
-  leaf-counted lo hi q up (edits.update k v) (At j) z w =
+  leaf-counted lo hi q up (edits.update k v) (Ok j) z w =
       let t = records_at Pg st.image q in
       put-counted Pg keep leaf_kind false j (rec_of k v) q st (replace k v t) ((search-there k lo t hi up j z).updated v)
-  leaf-counted lo hi q up (edits.update k v) (Missing j) z w =
+  leaf-counted lo hi q up (edits.update k v) (Err j) z w =
       let t = records_at Pg st.image q in
       no_9 (sym (ap (λ (o : Option (List ℕ)). pick (is_some o) 0 9) (lacks-find k t (search-missing k lo t hi up j z).lacks)) ∙ w)
-  leaf-counted lo hi q up (edits.delete k) (At j) z w = dropped-is Pg (Counted 0 0 st.free) only j q st (refl, omega arith) (refl, omega arith)
-  leaf-counted lo hi q up (edits.delete k) (Missing j) z w =
+  leaf-counted lo hi q up (edits.delete k) (Ok j) z w = dropped-is Pg (Counted 0 0 st.free) only j q st (refl, omega arith) (refl, omega arith)
+  leaf-counted lo hi q up (edits.delete k) (Err j) z w =
       let t = records_at Pg st.image q in
       no_9 (sym (ap (λ (o : Option (List ℕ)). pick (is_some o) 0 9) (lacks-find k t (search-missing k lo t hi up j z).lacks)) ∙ w)
 

@@ -1,5 +1,6 @@
 -- Where no page above has room for one record more, an edit whose key rule is kept stops with 10 exactly if its leaf would be split and no page between has room; else it is the same edit.
 -- Assumes nothing.
+use Rattle.std.specs.Prelude.{Err, Ok, Result}
 use Prim.Native.Nat.{ℕ, zero, suc, ◌≤◌, ◌<◌}
 use mathlib.Core.Path.{◌≡◌, refl, ap, ◌∙◌}
 use mathlib.Core.Bool.{Bool, true, false, ◌&&◌, and-false}
@@ -12,8 +13,6 @@ use Rattle.page.specs.Layout.{Rec, leaf_kind, rec_of, size}
 use Rattle.page.specs.Operations.{fits_in, made, page_of}
 use Rattle.page.specs.PageFormat.{PageFormat}
 use Rattle.page.specs.Search.{searched}
-use Rattle.page.specs.declared.Search.{Search}
-use Rattle.page.specs.declared.Search.TheVariants.{At, Missing}
 use Rattle.image.specs.Facts.{Rising, Under}
 use Rattle.image.specs.Image.{child_of, first_key, gathered, records_at, start_of}
 use Rattle.image.specs.Route.{route}
@@ -67,26 +66,26 @@ module _ (Pg : PageFormat) (keep : ℕ → Pg.Keep) where
   module _ (only : Bool) (st : State) where
     -- ---- a leaf
 
-    leaf-full : (lo hi q : ℕ) → Rising lo (records_at Pg st.image q) hi → (e : Edit) (s : Search) → searched (key_of e) 0 (records_at Pg st.image q) ≡ s →
+    leaf-full : (lo hi q : ℕ) → Rising lo (records_at Pg st.image q) hi → (e : Edit) (s : Result ℕ ℕ) → searched (key_of e) 0 (records_at Pg st.image q) ≡ s →
         edit_leaf Pg keep only true e q st s
         ≡ pick (eqb (key_rule e (records_at Pg st.image q)) 0 && eqb (leaf_takes Pg (keep q) e (page_of st.image q)) 2) (stops index_full) (edit_leaf Pg keep only false e q st s)
     unfolding edit_leaf key_rule holds leaf_takes made
-    leaf-full lo hi q up (edits.insert k v) (At j) z =
+    leaf-full lo hi q up (edits.insert k v) (Ok j) z =
         let t = records_at Pg st.image q in
         rw (found_some (find k t) (search-there k lo t hi up j z).found)
-    leaf-full lo hi q up (edits.insert k v) (Missing j) z =
+    leaf-full lo hi q up (edits.insert k v) (Err j) z =
         let t = records_at Pg st.image q in
         let T = search-missing k lo t hi up j z in
         rw (lacks-find k t T.lacks) (put_full leaf_kind true j (rec_of k v) q st (add k v t) (T.inserted v))
-    leaf-full lo hi q up (edits.update k v) (At j) z =
+    leaf-full lo hi q up (edits.update k v) (Ok j) z =
         let t = records_at Pg st.image q in
         let T = search-there k lo t hi up j z in
         rw (found_some (find k t) T.found) (put_full leaf_kind false j (rec_of k v) q st (replace k v t) (T.updated v))
-    leaf-full lo hi q up (edits.update k v) (Missing j) z =
+    leaf-full lo hi q up (edits.update k v) (Err j) z =
         let t = records_at Pg st.image q in
         rw (lacks-find k t (search-missing k lo t hi up j z).lacks)
-    leaf-full lo hi q up (edits.delete k) (At j) z = rw (and-false (eqb (key_rule (edits.delete k) (records_at Pg st.image q)) 0))
-    leaf-full lo hi q up (edits.delete k) (Missing j) z = rw (and-false (eqb (key_rule (edits.delete k) (records_at Pg st.image q)) 0))
+    leaf-full lo hi q up (edits.delete k) (Ok j) z = rw (and-false (eqb (key_rule (edits.delete k) (records_at Pg st.image q)) 0))
+    leaf-full lo hi q up (edits.delete k) (Err j) z = rw (and-false (eqb (key_rule (edits.delete k) (records_at Pg st.image q)) 0))
 
     -- ---- a page of height h
 

@@ -1,5 +1,6 @@
 -- One edit in its leaf: refused with 8 or 9 exactly by the leaf's records, with 11 for want of pages, or made.
 -- Assumes nothing.
+use Rattle.std.specs.Prelude.{Err, Ok, Result}
 use Prim.Native.Nat.{ℕ, zero, suc, ◌≤◌, ◌<◌}
 use mathlib.Core.Path.{◌≡◌, refl, sym, ap, ◌∙◌, subst}
 use mathlib.Core.Logic.{◌⊎◌, inl, inr}
@@ -16,8 +17,6 @@ use Rattle.page.specs.Operations.{made, page_of}
 use Rattle.page.specs.Page.{RecOk, form_ok}
 use Rattle.page.specs.PageFormat.{PageFormat, Rules}
 use Rattle.page.specs.Search.{searched}
-use Rattle.page.specs.declared.Search.{Search}
-use Rattle.page.specs.declared.Search.TheVariants.{At, Missing}
 use Rattle.page.proofs.Facts.{form-leaf, leaf-form}
 use Rattle.page.proofs.Made.{All-made}
 use Rattle.image.specs.Facts.{Nonempty, Rising}
@@ -186,25 +185,25 @@ module _ (Pg : PageFormat) (rules : Rules Pg) (keep : ℕ → Pg.Keep) where
               fresh = tt;
             }))
 
-    pub leaf-ended : (e : Edit) → Proper e → lo ≤ key_of e → key_of e < hi → (s : Search) → searched (key_of e) 0 (Pg.recs p) ≡ s →
+    pub leaf-ended : (e : Edit) → Proper e → lo ≤ key_of e → key_of e < hi → (s : Result ℕ ℕ) → searched (key_of e) 0 (Pg.recs p) ≡ s →
         EndedAt (key_rule e (Pg.recs p)) (Altered Pg keep n F only st 0 lo hi c (apply_edit e (Pg.recs p)) (leaf_takes Pg (keep q) e p ≡ 2)) (edit_leaf Pg keep only false e q st s)
     unfolding edit_leaf key_rule holds apply_edit made leaf_takes
-    leaf-ended (edits.insert k v) P low high (At j) z =
+    leaf-ended (edits.insert k v) P low high (Ok j) z =
         let T = search-there k lo (Pg.recs p) hi H.under.rising j z in rw (found_some (find k (Pg.recs p)) T.found) refl
-    leaf-ended (edits.insert k v) P low high (Missing j) z =
+    leaf-ended (edits.insert k v) P low high (Err j) z =
         let T = search-missing k lo (Pg.recs p) hi H.under.rising j z in
         rw (lacks-find k (Pg.recs p) T.lacks)
         (put-leaf true j (rec_of k v) (record { low = P.high; few = P.short }) P.low (add k v (Pg.recs p)) (T.inserted v)
         (omega (arith, ap length (T.inserted v), length-insert_at j (rec_of k v) (Pg.recs p)))
         (rising-add k v lo (Pg.recs p) hi H.under.rising low high T.lacks))
-    leaf-ended (edits.update k v) P low high (At j) z =
+    leaf-ended (edits.update k v) P low high (Ok j) z =
         let T = search-there k lo (Pg.recs p) hi H.under.rising j z in
         rw (found_some (find k (Pg.recs p)) T.found)
         (put-leaf false j (rec_of k v) (record { low = P.high; few = P.short }) P.low (replace k v (Pg.recs p)) (T.updated v)
         (omega (arith, ap length (T.updated v), length-set (Pg.recs p) j (rec_of k v), T.inside))
         (rising-replace k v lo (Pg.recs p) hi H.under.rising))
-    leaf-ended (edits.update k v) P low high (Missing j) z = let T = search-missing k lo (Pg.recs p) hi H.under.rising j z in rw (lacks-find k (Pg.recs p) T.lacks) refl
-    leaf-ended (edits.delete k) P low high (At j) z =
+    leaf-ended (edits.update k v) P low high (Err j) z = let T = search-missing k lo (Pg.recs p) hi H.under.rising j z in rw (lacks-find k (Pg.recs p) T.lacks) refl
+    leaf-ended (edits.delete k) P low high (Ok j) z =
         let T = search-there k lo (Pg.recs p) hi H.under.rising j z in
         rw (found_some (find k (Pg.recs p)) T.found) (drop-leaf _ j T.inside (without k (Pg.recs p)) T.deleted (rising-without k lo (Pg.recs p) hi H.under.rising))
-    leaf-ended (edits.delete k) P low high (Missing j) z = let T = search-missing k lo (Pg.recs p) hi H.under.rising j z in rw (lacks-find k (Pg.recs p) T.lacks) refl
+    leaf-ended (edits.delete k) P low high (Err j) z = let T = search-missing k lo (Pg.recs p) hi H.under.rising j z in rw (lacks-find k (Pg.recs p) T.lacks) refl

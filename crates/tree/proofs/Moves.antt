@@ -1,5 +1,6 @@
 -- An edit that is made leaves root, index and free pages as document 01 says.
 -- Assumes nothing.
+use Rattle.std.specs.Prelude.{Err, Ok, Result}
 use Prim.Native.Nat.{ℕ, ◌≤◌, ◌<◌}
 use mathlib.Core.Path.{◌≡◌, refl, sym, ap, ◌∙◌, subst}
 use mathlib.Core.Bool.{Bool, true, false}
@@ -13,8 +14,6 @@ use Rattle.page.specs.Layout.{slot_count, leaf_kind, index_kind, Rec, rec_of, si
 use Rattle.page.specs.Page.{records, RecOk}
 use Rattle.page.specs.Operations.{made, delete, page_of}
 use Rattle.page.specs.PageFormat.{format1}
-use Rattle.page.specs.declared.Search.{Search}
-use Rattle.page.specs.declared.Search.TheVariants.{At, Missing}
 use Rattle.image.specs.Image.{child_of, children, next_sep, start_of}
 use Rattle.edit.specs.EditList.{Edit, key_of}
 use Rattle.edit.specs.EditList as edits
@@ -59,18 +58,18 @@ module _ (n : ℕ) (st : State) (pre : List Rec) (c : Rec) (post : List Rec) (S 
       dropped-is format1 (λ b. Yields (Stays st) (rooted format1 1 (onto b (λ x s. absorbed format1 no_keep index_kind (length pre) (low_of (length pre) 0 c.key) st.root x s))))
       (only_leaf format1 st.image 1 st.root) j (child_of c) st (left-stays s (refl, refl)) (refl, refl)
 
-  edit-does : (e : Edit) → Proper e → (s : Search) → where_in e st c ≡ s → Yields (λ t. Does st t pre c post e) (leaf_edit e st (length pre) c s)
+  edit-does : (e : Edit) → Proper e → (s : Result ℕ ℕ) → where_in e st c ≡ s → Yields (λ t. Does st t pre c post e) (leaf_edit e st (length pre) c s)
   unfolding edit_leaf made onto rooted
-  edit-does (edits.insert k v) P (At j) q = tt
-  edit-does (edits.insert k v) P (Missing j) q =
+  edit-does (edits.insert k v) P (Ok j) q = tt
+  edit-does (edits.insert k v) P (Err j) q =
       let T = search-missing k (start_of pre 0 c.key) rs (next_sep post) S.rising j q in
       put_in true j (rec_of k v) (record { low = P.high; few = P.short }) (add k v rs) (T.inserted v) (omega (arith, length-insert_at j (rec_of k v) rs))
-  edit-does (edits.update k v) P (At j) q =
+  edit-does (edits.update k v) P (Ok j) q =
       let T = search-there k (start_of pre 0 c.key) rs (next_sep post) S.rising j q in
       put_in false j (rec_of k v) (record { low = P.high; few = P.short }) (replace k v rs) (T.updated v) (omega (arith, length-set rs j (rec_of k v), T.inside))
-  edit-does (edits.update k v) P (Missing j) q = tt
-  edit-does (edits.delete k) P (At j) q = drop-stays j
-  edit-does (edits.delete k) P (Missing j) q = tt
+  edit-does (edits.update k v) P (Err j) q = tt
+  edit-does (edits.delete k) P (Ok j) q = drop-stays j
+  edit-does (edits.delete k) P (Err j) q = tt
 
 -- an edit that is made leaves root, index and free pages as document 01 says
 pub edit-moves : (n : ℕ) (st : State) → Good n st → (e : Edit) → Proper e → (t : State) → edited e st ≡ done t → InLeaf e st t

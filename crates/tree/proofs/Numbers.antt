@@ -1,5 +1,6 @@
 -- The numbers that edits are refused with: 8 to 11, and no other (document 01, 'Each call and when it says no').
 -- Assumes nothing.
+use Rattle.std.specs.Prelude.{Err, Ok, Result}
 use Prim.Native.Nat.{ℕ, zero, suc, ◌≤◌}
 use mathlib.Core.Path.{◌≡◌, subst}
 use mathlib.Core.Bool.{Bool, true, false, ◌&&◌}
@@ -11,8 +12,6 @@ use Rattle.page.specs.Layout.{leaf_kind, Rec, rec_of, size}
 use Rattle.page.specs.Operations.{page_of, fits_in}
 use Rattle.page.specs.PageFormat.{PageFormat, format1}
 use Rattle.page.specs.Search.{searched}
-use Rattle.page.specs.declared.Search.{Search}
-use Rattle.page.specs.declared.Search.TheVariants.{At, Missing}
 use Rattle.image.specs.Image.{child_of, records_at}
 use Rattle.image.specs.Route.{route}
 use Rattle.edit.specs.EditList.{Edit, key_of}
@@ -64,14 +63,14 @@ module _ (Pg : PageFormat) (keep : ℕ → Pg.Keep) where
   absorbed-numbered kind i low q (one a) st = put-numbered kind false false i _ q st
   absorbed-numbered kind i low q (two a k b) st = then-numbered _ q _ (put-numbered kind false _ _ _ q st) (λ x s. put-numbered kind false _ _ _ x s)
 
-  leaf-numbered : (only full : Bool) (e : Edit) (q : ℕ) (st : State) (s : Search) → InRange (edit_leaf Pg keep only full e q st s)
+  leaf-numbered : (only full : Bool) (e : Edit) (q : ℕ) (st : State) (s : Result ℕ ℕ) → InRange (edit_leaf Pg keep only full e q st s)
   unfolding edit_leaf dropped
-  leaf-numbered only full (edits.insert k v) q st (At j) = (omega arith, omega arith)
-  leaf-numbered only full (edits.insert k v) q st (Missing j) = put-numbered leaf_kind full true j (rec_of k v) q st
-  leaf-numbered only full (edits.update k v) q st (At j) = put-numbered leaf_kind full false j (rec_of k v) q st
-  leaf-numbered only full (edits.update k v) q st (Missing j) = (omega arith, omega arith)
-  leaf-numbered only full (edits.delete k) q st (At j) = tt
-  leaf-numbered only full (edits.delete k) q st (Missing j) = (omega arith, omega arith)
+  leaf-numbered only full (edits.insert k v) q st (Ok j) = (omega arith, omega arith)
+  leaf-numbered only full (edits.insert k v) q st (Err j) = put-numbered leaf_kind full true j (rec_of k v) q st
+  leaf-numbered only full (edits.update k v) q st (Ok j) = put-numbered leaf_kind full false j (rec_of k v) q st
+  leaf-numbered only full (edits.update k v) q st (Err j) = (omega arith, omega arith)
+  leaf-numbered only full (edits.delete k) q st (Ok j) = tt
+  leaf-numbered only full (edits.delete k) q st (Err j) = (omega arith, omega arith)
 
   onto-numbered : (a : PageStep) (f : Change → State → PageStep) → InRange a → ((c : Change) (s : State) → InRange (f c s)) → InRange (onto a f)
   unfolding onto

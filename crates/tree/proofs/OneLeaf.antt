@@ -1,6 +1,7 @@
 -- A list of one edit that its leaf has room for changes that leaf and nothing else: an insert or update changes its header and the bytes of the new
 -- record, and a delete that leaves it with a record its header alone.
 -- Assumes nothing.
+use Rattle.std.specs.Prelude.{Err, Ok, Result}
 use Prim.Native.Nat.{ℕ, ◌+◌, ◌-◌, ◌*◌, ◌/◌, ◌%◌, ◌≤◌, ◌<◌}
 use mathlib.Core.Path.{◌≡◌, refl, sym, ap, ap₂, ◌∙◌}
 use mathlib.Core.Logic.{◌⊎◌, inl, inr}
@@ -17,8 +18,6 @@ use Rattle.page.specs.Layout.{page_size, line_size, Rec, rec_of, size, read_head
 use Rattle.page.specs.Page.{records, laid_out, RecOk}
 use Rattle.page.specs.Operations.{in_place, delete, page_of}
 use Rattle.page.specs.PageFormat.{format1, Lower}
-use Rattle.page.specs.declared.Search.{Search}
-use Rattle.page.specs.declared.Search.TheVariants.{At, Missing}
 use Rattle.page.proofs.Records.{size-even}
 use Rattle.page.proofs.Facts.{ok-is}
 use Rattle.page.proofs.Placed.{laid-length, laid-start, place-shows, place-lower, place-old, place-below, delete-shows, delete-lower, delete-past}
@@ -82,25 +81,25 @@ module _ (st t : State) (i : ℕ) (c : Rec) where
   leaf = page_of st.image (child_of c)
 
   -- a record that has room is put in its place
-  put-at : (e : Edit) (ins : Bool) (r : Rec) → Puts e ins r → (s : Search) → NotFull ins (size r) leaf → leaf_edit e st i c s ≡ done t → (j : ℕ) × (t ≡ with_page (child_of c) (in_place ins j r leaf) st)
+  put-at : (e : Edit) (ins : Bool) (r : Rec) → Puts e ins r → (s : Result ℕ ℕ) → NotFull ins (size r) leaf → leaf_edit e st i c s ≡ done t → (j : ℕ) × (t ≡ with_page (child_of c) (in_place ins j r leaf) st)
   unfolding edit_leaf put onto absorbed rooted
-  put-at _ _ _ (inserts k v) (At j) room e = let z : ◌≡◌ {A = ℕ} 0 1 = cc in absurd (omega arith)
-  put-at _ _ _ (inserts k v) (Missing j) room e =
+  put-at _ _ _ (inserts k v) (Ok j) room e = let z : ◌≡◌ {A = ℕ} 0 1 = cc in absurd (omega arith)
+  put-at _ _ _ (inserts k v) (Err j) room e =
       let f : is_full format1 tt true (size (rec_of k v)) leaf ≡ false = full-exact true (size (rec_of k v)) leaf ∙ room-test true (size (rec_of k v)) leaf room in
       let g : done (with_page (child_of c) (in_place true j (rec_of k v) leaf) st) ≡ done t = rw f at e in
       (j, cc)
-  put-at _ _ _ (updates k v) (At j) room e =
+  put-at _ _ _ (updates k v) (Ok j) room e =
       let f : is_full format1 tt false (size (rec_of k v)) leaf ≡ false = full-exact false (size (rec_of k v)) leaf ∙ room-test false (size (rec_of k v)) leaf room in
       let g : done (with_page (child_of c) (in_place false j (rec_of k v) leaf) st) ≡ done t = rw f at e in
       (j, cc)
-  put-at _ _ _ (updates k v) (Missing j) room e = let z : ◌≡◌ {A = ℕ} 0 1 = cc in absurd (omega arith)
+  put-at _ _ _ (updates k v) (Err j) room e = let z : ◌≡◌ {A = ℕ} 0 1 = cc in absurd (omega arith)
 
   -- a record is dropped from a leaf that is not left empty
-  drop_at : (k lo hi : ℕ) → laid_out leaf ≡ true → Rising lo (records leaf) hi → 2 ≤ length (records leaf) → (s : Search) → where_in (edits.delete k) st c ≡ s → leaf_edit (edits.delete k) st i c s ≡ done t →
+  drop_at : (k lo hi : ℕ) → laid_out leaf ≡ true → Rising lo (records leaf) hi → 2 ≤ length (records leaf) → (s : Result ℕ ℕ) → where_in (edits.delete k) st c ≡ s → leaf_edit (edits.delete k) st i c s ≡ done t →
       (j : ℕ) × (j < length (records leaf)) × (t ≡ with_page (child_of c) (delete leaf j) st)
   unfolding edit_leaf dropped onto absorbed rooted
-  drop_at k lo hi laid up some (Missing j) z e = let z : ◌≡◌ {A = ℕ} 0 1 = cc in absurd (omega arith)
-  drop_at k lo hi laid up some (At j) z e =
+  drop_at k lo hi laid up some (Err j) z e = let z : ◌≡◌ {A = ℕ} 0 1 = cc in absurd (omega arith)
+  drop_at k lo hi laid up some (Ok j) z e =
       let inside = (search-there k lo (records leaf) hi up j z).inside in
       let left : eqb (length (records (delete leaf j))) 0 ≡ false =
       ne_eqb (length (records (delete leaf j))) 0 (λ z. omega (arith, ap length (delete-shows leaf laid j).recs, length-remove_at j (records leaf) inside)) in

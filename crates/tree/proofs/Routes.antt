@@ -1,9 +1,9 @@
 -- One page down: of the pages that a page names, the one that the key of an edit belongs to. The pages beside it say nothing of that key.
 -- Assumes nothing.
+use Rattle.std.specs.Prelude.{None, Some}
 use Prim.Native.Nat.{ℕ, suc, ◌≤◌, ◌<◌}
 use mathlib.Core.Path.{◌≡◌, refl, sym, ap, ◌∙◌, subst}
 use mathlib.Core.List.{List, [], ◌∷◌, ◌++◌}
-use mathlib.Core.Option.{none, some}
 use native.Mathlib.Omega.{arith}
 use lib.ListN.{drop, get_or, length, take}
 use lib.Seq.{length-take-le, split_at}
@@ -30,7 +30,7 @@ use Rattle.tree.specs.Grounds.{next_page, next_slot}
 find-middle : (k : ℕ) (a b d : List Rec) → Below a k → From (suc k) d → find k (a ++ (b ++ d)) ≡ find k b
 find-middle k a b d low high =
     find-seek k (a ++ (b ++ d))
-    ∙ seek-middle (λ (r : Rec). r.key) (λ (r : Rec). some r.value) none k a b d (below-lacks k a low) (above-lacks k d high)
+    ∙ seek-middle (λ (r : Rec). r.key) (λ (r : Rec). Some r.value) None k a b d (below-lacks k a low) (above-lacks k d high)
     ∙ sym (find-seek k b)
 
 rule-middle : (e : Edit) (a b d : List Rec) → Below a (key_of e) → From (suc (key_of e)) d → key_rule e (a ++ (b ++ d)) ≡ key_rule e b

@@ -1,5 +1,6 @@
 -- An edit under a page of any height: if the page stays, the header of a page under it has sunk.
 -- Assumes nothing.
+use Rattle.std.specs.Prelude.{Err, Ok, Result}
 use Prim.Native.Nat.{ℕ, zero, suc, ◌≤◌, ◌<◌}
 use mathlib.Core.Path.{◌≡◌, refl, sym, ap, ◌∙◌, subst}
 use mathlib.Core.Bool.{Bool, true, false}
@@ -10,8 +11,6 @@ use Rattle.page.specs.Layout.{Rec, leaf_kind, rec_of}
 use Rattle.page.specs.Operations.{page_of}
 use Rattle.page.specs.PageFormat.{PageFormat, Rules, Sinking}
 use Rattle.page.specs.Search.{searched}
-use Rattle.page.specs.declared.Search.{Search}
-use Rattle.page.specs.declared.Search.TheVariants.{At, Missing}
 use Rattle.image.specs.Image.{child_of, first_key, pages_in, records_at, start_of}
 use Rattle.image.specs.Route.{route}
 use Rattle.image.specs.Table.{table_in}
@@ -77,7 +76,7 @@ module _ (Pg : PageFormat) (sinking : Sinking Pg) where
 module _ (Pg : PageFormat) (rules : Rules Pg) (keep : ℕ → Pg.Keep) (sinking : Sinking Pg) where
   -- ---- a leaf
 
-  pub leaf-sinks : (n : ℕ) (F : List ℕ) (only full : Bool) (st : State) (lo hi : ℕ) (c : Rec) → Here Pg n F only st 0 lo hi c → (e : Edit) → Proper e → (s : Search) →
+  pub leaf-sinks : (n : ℕ) (F : List ℕ) (only full : Bool) (st : State) (lo hi : ℕ) (c : Rec) → Here Pg n F only st 0 lo hi c → (e : Edit) → Proper e → (s : Result ℕ ℕ) →
       searched (key_of e) 0 (records_at Pg st.image (child_of c)) ≡ s → IfMade (SinksUnder Pg sinking st 0 (child_of c)) (edit_leaf Pg keep only full e (child_of c) st s)
   unfolding edit_leaf
   leaf-sinks n F only full st lo hi c H e P s z = sunk-own Pg sinking st st 0 (child_of c) refl (edit_leaf Pg keep only full e (child_of c) st s) (go e P s z)
@@ -91,13 +90,13 @@ module _ (Pg : PageFormat) (rules : Rules Pg) (keep : ℕ → Pg.Keep) (sinking 
       laid : Pg.laid (page_of st.image (child_of c)) ≡ true
       laid = (rules.reads.ok-true leaf_kind (child_of c) (page_of st.image (child_of c)) H.under.page).laid
 
-      go : (e : Edit) → Proper e → (s : Search) → searched (key_of e) 0 (records_at Pg st.image q) ≡ s → IfMade (Sinks Pg sinking st q) (edit_leaf Pg keep only full e q st s)
-      go (edits.insert k v) P (At j) z = tt
-      go (edits.insert k v) P (Missing j) z = put-sinks Pg rules keep sinking n st H.long q page laid leaf_kind full true j (rec_of k v) (record { low = P.high; few = P.short })
-      go (edits.update k v) P (At j) z = put-sinks Pg rules keep sinking n st H.long q page laid leaf_kind full false j (rec_of k v) (record { low = P.high; few = P.short })
-      go (edits.update k v) P (Missing j) z = tt
-      go (edits.delete k) P (At j) z = dropped-sinks Pg rules keep sinking n st H.long q page laid only j (search-there k lo (records_at Pg st.image q) hi H.under.rising j z).inside
-      go (edits.delete k) P (Missing j) z = tt
+      go : (e : Edit) → Proper e → (s : Result ℕ ℕ) → searched (key_of e) 0 (records_at Pg st.image q) ≡ s → IfMade (Sinks Pg sinking st q) (edit_leaf Pg keep only full e q st s)
+      go (edits.insert k v) P (Ok j) z = tt
+      go (edits.insert k v) P (Err j) z = put-sinks Pg rules keep sinking n st H.long q page laid leaf_kind full true j (rec_of k v) (record { low = P.high; few = P.short })
+      go (edits.update k v) P (Ok j) z = put-sinks Pg rules keep sinking n st H.long q page laid leaf_kind full false j (rec_of k v) (record { low = P.high; few = P.short })
+      go (edits.update k v) P (Err j) z = tt
+      go (edits.delete k) P (Ok j) z = dropped-sinks Pg rules keep sinking n st H.long q page laid only j (search-there k lo (records_at Pg st.image q) hi H.under.rising j z).inside
+      go (edits.delete k) P (Err j) z = tt
 
   -- ---- a page above, once the step s is made under the child
 

@@ -1,15 +1,13 @@
 -- One edit on the tree, by the height of its pages: one rule for a record put into a page of any kind, and one for what a page takes from the page under it
 -- (document 01, 'Edits').
 -- Assumes nothing.
-use Rattle.std.specs.Prelude.{ℕ, zero, suc, ◌+◌, ◌*◌, Bool, true, false, ◌&&◌, ◌||◌, not, List, [], ◌∷◌, length, get_or, take, drop, eqb, leb}
+use Rattle.std.specs.Prelude.{ℕ, zero, suc, ◌+◌, ◌*◌, Bool, true, false, ◌&&◌, ◌||◌, not, List, [], ◌∷◌, length, get_or, take, drop, eqb, leb, Err, Ok, Result}
 use Rattle.codec.specs.Lists.{pick}
 use Rattle.device.specs.Calls.{key_present, key_missing, index_full, pages_out}
 use Rattle.page.specs.Layout.{leaf_kind, Rec, rec_of, size}
 use Rattle.page.specs.Operations.{made, sizes, page_of, fits_in}
 use Rattle.page.specs.PageFormat.{PageFormat, format1}
 use Rattle.page.specs.Search.{searched}
-use Rattle.page.specs.declared.Search.{Search}
-use Rattle.page.specs.declared.Search.TheVariants.{At, Missing}
 use Rattle.image.specs.Image.{child_of, index_rec, records_at, leaves_in, height_in, tallest, first_key}
 use Rattle.image.specs.Route.{route}
 use Rattle.edit.specs.EditList.{Edit, key_of}
@@ -100,13 +98,13 @@ absorbed Pg keep kind i low q (two a k b) st =
 -- ---- one edit under page q
 
 -- "8 insert of a key present; 9 other edit of a missing key"
-unfoldable pub edit_leaf : (Pg : PageFormat) → (ℕ → Pg.Keep) → Bool → Bool → Edit → ℕ → State → Search → PageStep
-edit_leaf Pg keep only full (edits.insert k v) q st (At j) = stops key_present
-edit_leaf Pg keep only full (edits.insert k v) q st (Missing j) = put Pg keep leaf_kind full true j (rec_of k v) q st
-edit_leaf Pg keep only full (edits.update k v) q st (At j) = put Pg keep leaf_kind full false j (rec_of k v) q st
-edit_leaf Pg keep only full (edits.update k v) q st (Missing j) = stops key_missing
-edit_leaf Pg keep only full (edits.delete k) q st (At j) = dropped Pg only j q st
-edit_leaf Pg keep only full (edits.delete k) q st (Missing j) = stops key_missing
+unfoldable pub edit_leaf : (Pg : PageFormat) → (ℕ → Pg.Keep) → Bool → Bool → Edit → ℕ → State → Result ℕ ℕ → PageStep
+edit_leaf Pg keep only full (edits.insert k v) q st (Ok j) = stops key_present
+edit_leaf Pg keep only full (edits.insert k v) q st (Err j) = put Pg keep leaf_kind full true j (rec_of k v) q st
+edit_leaf Pg keep only full (edits.update k v) q st (Ok j) = put Pg keep leaf_kind full false j (rec_of k v) q st
+edit_leaf Pg keep only full (edits.update k v) q st (Err j) = stops key_missing
+edit_leaf Pg keep only full (edits.delete k) q st (Ok j) = dropped Pg only j q st
+edit_leaf Pg keep only full (edits.delete k) q st (Err j) = stops key_missing
 
 unfoldable pub onto : PageStep → (Change → State → PageStep) → PageStep
 onto (stops n) f = stops n

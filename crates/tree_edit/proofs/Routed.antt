@@ -1,5 +1,6 @@
 -- One edit in the page that its key is routed to: what it comes to by the search, and what it asks for.
 -- Assumes nothing.
+use Rattle.std.specs.Prelude.{Err, Ok, Result}
 use Prim.Native.Nat.{ℕ, suc, ◌≤◌, ◌<◌}
 use mathlib.Core.Path.{◌≡◌, refl, sym, ap, ◌∙◌}
 use mathlib.Core.Bool.{Bool, true, false}
@@ -14,8 +15,6 @@ use Rattle.page.specs.Page.{records}
 use Rattle.page.specs.Operations.{page_of}
 use Rattle.page.specs.PageFormat.{format1}
 use Rattle.page.specs.Search.{searched}
-use Rattle.page.specs.declared.Search.{Search}
-use Rattle.page.specs.declared.Search.TheVariants.{At, Missing}
 use Rattle.page.proofs.Made.{length-made}
 use Rattle.image.specs.Image.{child_of, children, tallest}
 use Rattle.image.specs.Facts.{Rising}
@@ -50,7 +49,7 @@ module _ (kind k : ℕ) (v : List ℕ) where
 -- ---- in the page c of its key k, whose bytes are x, where the search answers s
 
 module _ (st : State) (k : ℕ) (c : Child) (here : c ≡ child_at st.image st.root (route k (records (page_of st.image st.root)))) (x : List ℕ)
-    (page : x ≡ page_of st.image c.page) (s : Search) (answer : s ≡ searched k 0 (records x)) where
+    (page : x ≡ page_of st.image c.page) (s : Result ℕ ℕ) (answer : s ≡ searched k 0 (records x)) where
   abbrev cs : List Rec
   cs = records (page_of st.image st.root)
 
@@ -73,44 +72,44 @@ module _ (st : State) (k : ℕ) (c : Child) (here : c ≡ child_at st.image st.r
       ∙ sym (ap (λ (h : ℕ). rooted format1 h (edit_in format1 no_keep (only_leaf format1 st.image h st.root) (eqb h tallest) e h 0 st.root st)) (height-one st.image st.root))
 
   -- what the search answers is t
-  said : (t : Search) → s ≡ t → (e : Edit) → key_of e ≡ k →
+  said : (t : Result ℕ ℕ) → s ≡ t → (e : Edit) → key_of e ≡ k →
       upward st.root c (edit_leaf format1 no_keep (eqb (length (records (page_of st.image st.root))) 1) (leb slot_count (length (records (page_of st.image st.root)))) e c.page st t) ≡ edited e st
   unfolding edit_in
   said t q e z =
-      let leaf : Child → Search → Step =
+      let leaf : Child → Result ℕ ℕ → Step =
       λ d y. upward st.root d (edit_leaf format1 no_keep (eqb (length cs) 1) (leb slot_count (length cs)) e d.page st y) in
       ap (leaf c) (sym q ∙ sym answer-is)
       ∙ ap (λ (d : Child). leaf d (searched k 0 (records (page_of st.image d.page)))) here
       ∙ ap (λ (j : ℕ). let d = child_at st.image st.root (route j cs) in leaf d (searched j 0 (records (page_of st.image d.page)))) (sym z)
       ∙ one-height e
 
-  module _ (j : ℕ) (found : s ≡ At j) where
+  module _ (j : ℕ) (found : s ≡ Ok j) where
     pub insert-present : (v : List ℕ) → refused 8 ≡ edited (insert k v) st
     unfolding edit_leaf onto rooted
-    insert-present v = said (At j) found (insert k v) refl
+    insert-present v = said (Ok j) found (insert k v) refl
 
     pub update-there : (v : List ℕ) →
         upward st.root c (put format1 no_keep leaf_kind (leb slot_count (length (records (page_of st.image st.root)))) false j (rec_of k v) c.page st) ≡ edited (update k v) st
     unfolding edit_leaf
-    update-there v = said (At j) found (update k v) refl
+    update-there v = said (Ok j) found (update k v) refl
 
     pub delete-there : upward st.root c (dropped format1 (eqb (length (records (page_of st.image st.root))) 1) j c.page st) ≡ edited (delete k) st
     unfolding edit_leaf
-    delete-there = said (At j) found (delete k) refl
+    delete-there = said (Ok j) found (delete k) refl
 
-  module _ (j : ℕ) (missing : s ≡ Missing j) where
+  module _ (j : ℕ) (missing : s ≡ Err j) where
     pub insert-missing : (v : List ℕ) →
         upward st.root c (put format1 no_keep leaf_kind (leb slot_count (length (records (page_of st.image st.root)))) true j (rec_of k v) c.page st) ≡ edited (insert k v) st
     unfolding edit_leaf
-    insert-missing v = said (Missing j) missing (insert k v) refl
+    insert-missing v = said (Err j) missing (insert k v) refl
 
     pub update-missing : (v : List ℕ) → refused 9 ≡ edited (update k v) st
     unfolding edit_leaf onto rooted
-    update-missing v = said (Missing j) missing (update k v) refl
+    update-missing v = said (Err j) missing (update k v) refl
 
     pub delete-missing : refused 9 ≡ edited (delete k) st
     unfolding edit_leaf onto rooted
-    delete-missing = said (Missing j) missing (delete k) refl
+    delete-missing = said (Err j) missing (delete k) refl
 
   -- ---- what the page can take
 
@@ -121,15 +120,15 @@ module _ (st : State) (k : ℕ) (c : Child) (here : c ≡ child_at st.image st.r
     rising : Rising 0 rs (suc top_key)
     rising = laid-rising (page_of st.image c.page) (child-ok at).laid (child-ok at).rise
 
-    pub found-less : (j : ℕ) → s ≡ At j → j < length (records (page_of st.image c.page))
+    pub found-less : (j : ℕ) → s ≡ Ok j → j < length (records (page_of st.image c.page))
     found-less j q = (search-there k 0 rs (suc top_key) rising j (answer-is ∙ q)).inside
 
     module _ (v : List ℕ) (high : k ≤ top_key) (short : length v ≤ value_most) (j : ℕ) where
       changes : (ins : Bool) → j < pick ins (suc (length rs)) (length rs) → CanPut (page_of st.image c.page) (record { ins = ins; at = j; key = k }) v
       changes ins h = record { ok = (child-ok at).laid; good = record { low = high; few = short }; place = rw (length-made ins j (rec_of k v) rs) h }
 
-      pub can-insert : s ≡ Missing j → CanPut (page_of st.image c.page) (record { ins = true; at = j; key = k }) v
+      pub can-insert : s ≡ Err j → CanPut (page_of st.image c.page) (record { ins = true; at = j; key = k }) v
       can-insert q = changes true (omega (arith, (search-missing k 0 rs (suc top_key) rising j (answer-is ∙ q)).inside))
 
-      pub can-update : s ≡ At j → CanPut (page_of st.image c.page) (record { ins = false; at = j; key = k }) v
+      pub can-update : s ≡ Ok j → CanPut (page_of st.image c.page) (record { ins = false; at = j; key = k }) v
       can-update q = changes false (found-less j q)

@@ -1,6 +1,9 @@
 -- A row of 'Worked on paper': transactions from a store on, mostly a fresh one of 8 pages, one more, and what is read off its answer.
 -- Assumes nothing.
-use Rattle.std.specs.Prelude.{ℕ, ◌/◌, ◌≡◌, List, [], ◌∷◌, ◌++◌, length, get_or, take, replicate, eqb}
+use Rattle.std.specs.Prelude.{ℕ, ◌/◌, ◌≡◌, List, [], ◌∷◌, ◌++◌, length, get_or, take, replicate, eqb, Err, Ok}
+use Rattle.device.specs.Calls.{number_in}
+use Rattle.device.specs.declared.Refusal.{Refusal}
+use Rattle.journal.specs.declared.Commit.{Commit}
 use Rattle.codec.specs.Lists.{pick}
 use Rattle.device.specs.Tape.{Op, store, flush, barrier, malformed, decode, barrier_count}
 use Rattle.page.specs.Layout.{read_head}
@@ -12,16 +15,14 @@ use Rattle.image.specs.Fresh.{fresh}
 use Rattle.edit.specs.EditList.{Edit}
 use Rattle.edit.specs.Reads.{list_bytes}
 use Rattle.journal.specs.declared.Way.TheVariants.{ByLine}
-use Rattle.transaction.specs.Calls.{Result, transaction_call}
-use Rattle.transaction.specs.declared.Transacted.{Transacted}
-use Rattle.transaction.specs.declared.Transacted.TheVariants.{Accepted, Refused}
+use Rattle.transaction.specs.Calls.{Called, transaction_call}
 
 -- the tape lent: longer than any of these rows needs
 unfoldable pub lent_tape : List ℕ
 lent_tape = replicate 4096 0
 
 -- a transaction of these edits on the image a, which is lent for work too
-unfoldable pub transacted : List ℕ → List Edit → Result
+unfoldable pub transacted : List ℕ → List Edit → Called
 transacted a es = transaction_call ByLine a a lent_tape (list_bytes es)
 
 -- the image that accepted transactions leave, one after the other
@@ -47,21 +48,21 @@ pub data Probe : Type 0 where
   -- the number of records in the table
   records : Probe
 
-unfoldable pub refusal_in : Transacted → ℕ
-refusal_in (Accepted c) = 0
-refusal_in (Refused r) = r.number
+unfoldable pub refusal_in : Result Commit Refusal → ℕ
+refusal_in (Ok c) = 0
+refusal_in (Err r) = (number_in r)
 
-unfoldable pub edit_number_in : Transacted → ℕ
-edit_number_in (Accepted c) = 0
-edit_number_in (Refused r) = r.edit
+unfoldable pub edit_number_in : Result Commit Refusal → ℕ
+edit_number_in (Ok c) = 0
+edit_number_in (Err r) = r.edit
 
-unfoldable pub bytes_in : Transacted → ℕ
-bytes_in (Accepted c) = c.bytes
-bytes_in (Refused r) = 0
+unfoldable pub bytes_in : Result Commit Refusal → ℕ
+bytes_in (Ok c) = c.bytes
+bytes_in (Err r) = 0
 
-unfoldable pub flushes_in : Transacted → ℕ
-flushes_in (Accepted c) = c.flushes
-flushes_in (Refused r) = 0
+unfoldable pub flushes_in : Result Commit Refusal → ℕ
+flushes_in (Ok c) = c.flushes
+flushes_in (Err r) = 0
 
 -- kind 1 and a word, kind 2 and a line, kind 3 and a line, or kind 4 and 0
 unfoldable pub kind_and_place : Op → List ℕ
@@ -75,10 +76,10 @@ kinds_and_places [] = []
 kinds_and_places (o ∷ cs) = kind_and_place o ++ kinds_and_places cs
 
 -- the commands on the tape, as far as it is used
-abbrev pub commands_in : Result → List Op
+abbrev pub commands_in : Called → List Op
 commands_in r = decode (length r.work) (take (bytes_in r.answer) r.tape)
 
-unfoldable pub read_off : Result → Probe → List ℕ
+unfoldable pub read_off : Called → Probe → List ℕ
 read_off r refusal = refusal_in r.answer ∷ []
 read_off r edit_number = edit_number_in r.answer ∷ []
 read_off r bytes = bytes_in r.answer ∷ []
@@ -91,7 +92,7 @@ read_off r (slot p j) = get_or (read_head (page_of r.work p)).slots j 0 ∷ []
 read_off r (is_reached p) = pick (among p (reached r.work (root_of r.work))) 1 0 ∷ []
 read_off r records = length (table r.work) ∷ []
 
-unfoldable pub read_all : Result → List Probe → List ℕ
+unfoldable pub read_all : Called → List Probe → List ℕ
 read_all r [] = []
 read_all r (p ∷ ps) = read_off r p ++ read_all r ps
 

@@ -1,5 +1,6 @@
 -- `find_cut`: the cut at the place found, or none if that lies past the tape.
 -- Assumes nothing.
+use Rattle.std.specs.Prelude.{Err}
 use Prim.Native.Nat.{ℕ, ◌*◌, ◌≤◌, ◌<◌}
 use mathlib.Core.Path.{◌≡◌, refl, sym, ap, ◌∙◌, subst}
 use mathlib.Core.List.{List, [], ◌++◌}
@@ -10,7 +11,6 @@ use borrow.Author.Rules.{rules}
 use Rattle.device.specs.Tape.{decode}
 use Rattle.cuts.specs.All.{choices_up_to}
 use Rattle.cuts.specs.Products.{ways, Names, Sought}
-use Rattle.cuts.specs.declared.Counted.TheVariants.{Refused}
 use Rattle.cuts.proofs.Calls.{found-cut, no_cut}
 use Rattle.cuts.proofs.Sought.{front_length, front-asks, front-gives, sought-listed, sought-past}
 use Rattle.cuts.proofs.find_cut.Goals as goal
@@ -44,7 +44,7 @@ again c = take_at _ _ _ (kept c)
 pub returns-then-count-commands : goal.returns-then-count-commands
 returns-then-count-commands c =
     let k = found (goal.at.returns-then-count-commands c).After-seek-place in
-    record { value = ap Refused c.of.ensures ∙ sym (no_cut _ _ (omega (arith, sought-past _ _ _ _ _ _ k (omega (arith, c.if-count-commands.true, c.requires.tape_value))))); choices_after = refl }
+    record { value = ap Err c.of.ensures ∙ sym (no_cut _ _ (omega (arith, sought-past _ _ _ _ _ _ k (omega (arith, c.if-count-commands.true, c.requires.tape_value))))); choices_after = refl }
 
 -- it lies within the tape
 within : (c : Else-count-commands) → c.seek-place.result.commands ≤ length (decode (64 * length c.args.choices.now) c.args.tape.now)

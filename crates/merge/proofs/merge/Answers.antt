@@ -1,11 +1,11 @@
 -- `merge` answers and leaves what `merge_call` says: the third buffer's size, the two checks, and then the tables.
 -- Assumes nothing.
+use Rattle.std.specs.Prelude.{Err, Ok}
 use mathlib.Core.Path.{◌≡◌, sym, ap, ◌∙◌}
 use mathlib.Core.Bool.{true}
 use lib.ListN.{length}
 use borrow.Author.Tests.{not-true, not-false}
 use Rattle.device.specs.Calls.{is_image_size, refused}
-use Rattle.device.specs.declared.Answer.TheVariants as answers
 use Rattle.device.proofs.Calls.{said}
 use Rattle.image.specs.Table.{table}
 use Rattle.image.specs.Calls.{check_call}
@@ -21,17 +21,17 @@ returns-then-not-is_image_size c =
     let a = c.args in
     let bad = bad-buffer (sym c.is_image_size.ensures ∙ not-true _ c.if-not-is_image_size.true-raw) in
     let done = said (merge_call a.first.now a.second.now a.out.now) (refused 1 a.out.now) (says-merge _ _ _ _ bad) in
-    record { value = ap answers.Refused c.of.ensures ∙ done.0; out_after = done.1 }
+    record { value = ap Err c.of.ensures ∙ done.0; out_after = done.1 }
 
 -- the third buffer is an image
 sized : (c : Else-not-is_image_size) → is_image_size (length c.args.out.now) ≡ true
 sized c = sym c.is_image_size.ensures ∙ not-false _ c.if-not-is_image_size.false-raw
 
 -- the first image is sound, and so is the second
-first-checked : (c : In-Accepted) → check_call c.args.first.now ≡ answers.Accepted
+first-checked : (c : In-Accepted) → check_call c.args.first.now ≡ Ok tt
 first-checked c = sym c.check.ensures ∙ c.in-Accepted.is
 
-begun : (c : In-Accepted-check) → (is_image_size (length c.args.out.now) ≡ true) → (check_call c.args.first.now ≡ answers.Accepted) → let a = c.args in Begun a.first.now a.second.now a.out.now
+begun : (c : In-Accepted-check) → (is_image_size (length c.args.out.now) ≡ true) → (check_call c.args.first.now ≡ Ok tt) → let a = c.args in Begun a.first.now a.second.now a.out.now
 begun c sized first-checked = record { size = sized; first = first-checked; second = sym c.check-in-Accepted.ensures ∙ c.in-Accepted-check.is }
 
 pub merge_sound-requires : goal.merge_sound-requires

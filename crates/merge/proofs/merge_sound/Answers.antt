@@ -1,10 +1,10 @@
 -- `merge_sound`: a key in both, or the leaves that were counted.
 -- Assumes nothing.
+use Rattle.std.specs.Prelude.{Err}
 use mathlib.Core.Path.{◌≡◌, sym, ap, ◌∙◌}
 use mathlib.Core.Bool.{true}
 use lib.ListN.{length}
 use Rattle.device.specs.Calls.{refused}
-use Rattle.device.specs.declared.Answer.TheVariants.{Refused}
 use Rattle.device.proofs.Calls.{said, holds, fails}
 use Rattle.image.specs.Table.{table}
 use Rattle.merge.specs.Tables.{merged, apart}
@@ -28,7 +28,7 @@ returns-in-InBoth c =
     let a = c.args in
     let none = counted-both _ _ (sym c.count_leaves.ensures ∙ c.in-InBoth.is) in
     let done = said (merge_tables (table a.first.now) (table a.second.now) a.out.now) (refused 20 a.out.now) (fails _ _ _ _ none) in
-    record { value = ap Refused c.of.ensures ∙ done.0; out_after = done.1 }
+    record { value = ap Err c.of.ensures ∙ done.0; out_after = done.1 }
 
 pub returns-in-Leaves : goal.returns-in-Leaves
 unfolding merge_tables

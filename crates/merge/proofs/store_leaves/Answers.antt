@@ -1,5 +1,6 @@
 -- `store_leaves`: two refusals; else page 0 and zeros, the leaves, and the index over them.
 -- Assumes nothing.
+use Rattle.std.specs.Prelude.{Err}
 use Prim.Native.Nat.{ℕ, ◌+◌, ◌*◌, ◌≤◌}
 use mathlib.Core.Path.{sym, ap, subst, ◌∙◌}
 use mathlib.Core.List.{List}
@@ -7,7 +8,6 @@ use native.Mathlib.Omega.{arith}
 use lib.ListN.{length, take}
 use Rattle.codec.specs.Lists.{All}
 use Rattle.device.specs.Calls.{accepted, refused}
-use Rattle.device.specs.declared.Answer.TheVariants.{Refused}
 use Rattle.device.proofs.Calls.{said}
 use Rattle.page.specs.Layout.{page_size, top_key, index_kind}
 use Rattle.page.specs.Operations.{fill}
@@ -26,12 +26,12 @@ use Rattle.merge.proofs.store_leaves.Goals.{After-fill_leaves-seps, After-put_bl
 pub returns-then-leaves-gt28 : goal.returns-then-leaves-gt28
 returns-then-leaves-gt28 c =
     let done = said (store_leaves (leaves_of (merged (table c.args.first.now) (table c.args.second.now))) c.args.out.now) (refused 10 c.args.out.now) (store_many _ _ (omega (arith, c.if-leaves-gt28.true, c.requires.second_value.1))) in
-    record { value = ap Refused c.of.ensures ∙ done.0; out_after = done.1 }
+    record { value = ap Err c.of.ensures ∙ done.0; out_after = done.1 }
 
 pub returns-then-out-leaves : goal.returns-then-out-leaves
 returns-then-out-leaves c =
     let done = said (store_leaves (leaves_of (merged (table c.args.first.now) (table c.args.second.now))) c.args.out.now) (refused 11 c.args.out.now) (store-short _ _ (omega (arith, c.if-leaves-gt28.false, c.requires.second_value.1)) (omega (arith, c.if-out-leaves.true, c.requires.second_value.1))) in
-    record { value = ap Refused c.of-then-out-leaves.ensures ∙ done.0; out_after = done.1 }
+    record { value = ap Err c.of-then-out-leaves.ensures ∙ done.0; out_after = done.1 }
 
 -- there is room for all
 fits : (c : After-put_blank) → page_size * (c.args.leaves + 2) ≤ length c.put_blank.new.image

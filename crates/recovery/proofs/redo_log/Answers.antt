@@ -1,12 +1,12 @@
 -- `redo_log`: the logged pages and the replayed tree decide; then the log is replayed.
 -- Assumes nothing.
+use Rattle.std.specs.Prelude.{Err, Ok}
 use mathlib.Core.Path.{sym, ap, ◌∙◌}
-use Rattle.recovery.specs.declared.Recovered.TheVariants.{Refused}
 use native.Mathlib.Omega.{arith}
 use borrow.Author.Tests.{not-true, not-false}
 use lib.ListN.{length}
+use Rattle.device.specs.declared.Cause.TheVariants.{TapeShort}
 use Rattle.image.proofs.Zero.{size-true, waiting-facts}
-use Rattle.tape_write.specs.declared.Replayed.TheVariants as replays
 use Rattle.recovery.proofs.Replay.{log-waits}
 use Rattle.recovery.proofs.Shown.{log-refused, tree-refused, redone}
 use Rattle.recovery.proofs.redo_log.Goals as goal
@@ -35,8 +35,8 @@ redo-requires c =
 
 pub returns-in-Done : goal.returns-in-Done
 returns-in-Done c = let whole =
-    redone c.args.way c.args.image.now c.args.work.now c.args.tape.now c.requires.0 c.requires.1 c.args.headers c.args.root c.requires.2 (sym c.logged_ok.ensures ∙ not-false _ c.if-not-logged_ok.false-raw) (sym c.replay_ok.ensures ∙ not-false _ c.if-not-replay_ok.false-raw) _ (replays.Done c.in-Done.bytes c.in-Done.flushes) c.in-Done.is _ _ (c.redo.ensures.value, (c.redo.ensures.work_after, c.redo.ensures.tape_after)) in record { value = whole.0; work_after = whole.1.0; tape_after = whole.1.1 }
+    redone c.args.way c.args.image.now c.args.work.now c.args.tape.now c.requires.0 c.requires.1 c.args.headers c.args.root c.requires.2 (sym c.logged_ok.ensures ∙ not-false _ c.if-not-logged_ok.false-raw) (sym c.replay_ok.ensures ∙ not-false _ c.if-not-replay_ok.false-raw) _ (Ok (record { bytes = c.in-Done.bytes; flushes = c.in-Done.flushes })) c.in-Done.is _ _ (c.redo.ensures.value, (c.redo.ensures.work_after, c.redo.ensures.tape_after)) in record { value = whole.0; work_after = whole.1.0; tape_after = whole.1.1 }
 
 pub returns-in-TapeShort : goal.returns-in-TapeShort
 returns-in-TapeShort c =
-    let e = redone c.args.way c.args.image.now c.args.work.now c.args.tape.now c.requires.0 c.requires.1 c.args.headers c.args.root c.requires.2 (sym c.logged_ok.ensures ∙ not-false _ c.if-not-logged_ok.false-raw) (sym c.replay_ok.ensures ∙ not-false _ c.if-not-replay_ok.false-raw) _ replays.TapeShort c.in-TapeShort.is _ _ (c.redo.ensures.value, (c.redo.ensures.work_after, c.redo.ensures.tape_after)) in record { value = ap Refused c.of-in-TapeShort.ensures ∙ e.0; work_after = e.1.0; tape_after = e.1.1 }
+    let e = redone c.args.way c.args.image.now c.args.work.now c.args.tape.now c.requires.0 c.requires.1 c.args.headers c.args.root c.requires.2 (sym c.logged_ok.ensures ∙ not-false _ c.if-not-logged_ok.false-raw) (sym c.replay_ok.ensures ∙ not-false _ c.if-not-replay_ok.false-raw) _ (Err TapeShort) c.in-TapeShort.is _ _ (c.redo.ensures.value, (c.redo.ensures.work_after, c.redo.ensures.tape_after)) in record { value = ap Err c.of-in-TapeShort.ensures ∙ e.0; work_after = e.1.0; tape_after = e.1.1 }

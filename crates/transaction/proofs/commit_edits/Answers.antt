@@ -1,9 +1,10 @@
 -- `commit_edits`: what writing the tape came to, with the image put back where the transaction is refused.
 -- Assumes nothing.
+use Rattle.std.specs.Prelude.{Err, Ok}
 use mathlib.Core.Path.{sym, ◌∙◌, subst}
 use native.Mathlib.Omega.{arith}
+use Rattle.device.specs.declared.Cause.TheVariants.{LogFull, TapeShort}
 use Rattle.tree_edit.specs.Asked.{CanMark}
-use Rattle.tape_write.specs.declared.Written.TheVariants as writes
 use Rattle.transaction.proofs.Joining.{image-size, can-mark, marks-at, lent-are}
 use Rattle.transaction.proofs.Shown.{commit-shows, refused-shows}
 use Rattle.transaction.proofs.commit_edits.Goals as goal
@@ -30,12 +31,12 @@ copy_all-requires-in-TapeShort c =
 
 pub returns-in-Done : goal.returns-in-Done
 returns-in-Done c = let whole =
-    commit-shows c.args.way c.args.image.now c.args.work.now c.args.tape.now _ (writes.Done c.in-Done.done) c.in-Done.is _ _ (c.commit.ensures.value, (c.commit.ensures.work_after, c.commit.ensures.tape_after)) in record { value = whole.0; work_after = whole.1.0; tape_after = whole.1.1 }
+    commit-shows c.args.way c.args.image.now c.args.work.now c.args.tape.now _ (Ok c.in-Done.done) c.in-Done.is _ _ (c.commit.ensures.value, (c.commit.ensures.work_after, c.commit.ensures.tape_after)) in record { value = whole.0; work_after = whole.1.0; tape_after = whole.1.1 }
 
 pub returns-in-LogFull : goal.returns-in-LogFull
 returns-in-LogFull c = let whole =
-    refused-shows _ c.args.image.now _ _ (commit-shows c.args.way c.args.image.now c.args.work.now c.args.tape.now _ writes.LogFull c.in-LogFull.is _ _ (c.commit.ensures.value, (c.commit.ensures.work_after, c.commit.ensures.tape_after))) _ c.of.ensures _ c.copy_all.ensures in record { value = whole.0; work_after = whole.1.0; tape_after = whole.1.1 }
+    refused-shows _ c.args.image.now _ _ (commit-shows c.args.way c.args.image.now c.args.work.now c.args.tape.now _ (Err LogFull) c.in-LogFull.is _ _ (c.commit.ensures.value, (c.commit.ensures.work_after, c.commit.ensures.tape_after))) _ c.of.ensures _ c.copy_all.ensures in record { value = whole.0; work_after = whole.1.0; tape_after = whole.1.1 }
 
 pub returns-in-TapeShort : goal.returns-in-TapeShort
 returns-in-TapeShort c = let whole =
-    refused-shows _ c.args.image.now _ _ (commit-shows c.args.way c.args.image.now c.args.work.now c.args.tape.now _ writes.TapeShort c.in-TapeShort.is _ _ (c.commit.ensures.value, (c.commit.ensures.work_after, c.commit.ensures.tape_after))) _ c.of-in-TapeShort.ensures _ c.copy_all-in-TapeShort.ensures in record { value = whole.0; work_after = whole.1.0; tape_after = whole.1.1 }
+    refused-shows _ c.args.image.now _ _ (commit-shows c.args.way c.args.image.now c.args.work.now c.args.tape.now _ (Err TapeShort) c.in-TapeShort.is _ _ (c.commit.ensures.value, (c.commit.ensures.work_after, c.commit.ensures.tape_after))) _ c.of-in-TapeShort.ensures _ c.copy_all-in-TapeShort.ensures in record { value = whole.0; work_after = whole.1.0; tape_after = whole.1.1 }

@@ -1,9 +1,9 @@
 -- `index_in`: page 0, and then the index.
 -- Assumes nothing.
+use Rattle.std.specs.Prelude.{Err}
 use mathlib.Core.Path.{sym, ap, ◌∙◌}
 use borrow.Author.Tests.{not-true, not-false}
 use Rattle.image.specs.Calls.{index_from, index_call}
-use Rattle.image.specs.declared.Root.TheVariants.{Refused}
 use Rattle.image.proofs.Read.{root-facts}
 use Rattle.image.proofs.calls.index_in.Goals as goal
 
@@ -12,7 +12,7 @@ index_ok-requires c = root-facts _ _ (sym c.root_in.ensures ∙ c.in-At.is)
 
 pub returns-then-not-index_ok : goal.returns-then-not-index_ok
 unfolding index_call index_from
-returns-then-not-index_ok c = ap Refused c.of.ensures ∙ rw (sym c.root_in.ensures ∙ c.in-At.is, sym c.index_ok.ensures ∙ not-true _ c.if-not-index_ok.true-raw)
+returns-then-not-index_ok c = ap Err c.of.ensures ∙ rw (sym c.root_in.ensures ∙ c.in-At.is, sym c.index_ok.ensures ∙ not-true _ c.if-not-index_ok.true-raw)
 
 pub returns-in-Refused : goal.returns-in-Refused
 unfolding index_call index_from

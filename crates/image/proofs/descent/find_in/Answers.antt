@@ -1,5 +1,6 @@
 -- `find_in` answers the offset and the length of the value that a search of the leaf finds.
 -- Assumes nothing.
+use Rattle.std.specs.Prelude.{Ok, Some}
 use Prim.Native.Nat.{ℕ, ◌+◌, ◌*◌, ◌≤◌, ◌<◌}
 use mathlib.Core.Path.{◌≡◌, sym, ap, ◌∙◌}
 use mathlib.Core.Bool.{true}
@@ -11,7 +12,6 @@ use Rattle.codec.specs.Numbers.{number}
 use Rattle.page.specs.Layout.{page_size, leaf_kind, Rec, rec_of, record_at}
 use Rattle.page.specs.Page.{records, laid_out}
 use Rattle.page.proofs.Facts.{page_ok-true, ok-is}
-use Rattle.image.specs.declared.Lookup.TheVariants.{Found}
 use Rattle.image.proofs.Search.{search-at, search-missing}
 use Rattle.image.proofs.CodePages.{slot, value_in, length-here, record-here}
 use Rattle.image.proofs.descent.find_in.Goals as goal
@@ -71,7 +71,7 @@ returns-in-At c =
     c.number_at.ensures.0 ∙ ap (λ (o : ℕ). number (part a.page.now (o + 8) 2)) c.slot_at-at.ensures
     ∙ length-here a.page.now (laid (goal.at.returns-in-At c).Start) i (found (goal.at.returns-in-At c).In-At) (rec_of 0 []) ∙ ap (λ (r : Rec). length r.value) (record-here a.page.now (laid (goal.at.returns-in-At c).Start) i (found (goal.at.returns-in-At c).In-At) (rec_of 0 [])) in
     ap (Found (1024 * a.own + c.slot_at-at.result + 16)) n
-    ∙ ap (λ (o : ℕ). Found (1024 * a.own + o + 16) (length (record_at a.page.now (slot a.page.now i)).value)) c.slot_at-at.ensures
+    ∙ ap (λ (o : ℕ). Ok (Some (record { offset = (1024 * a.own + o + 16); length = (length (record_at a.page.now (slot a.page.now i)).value) }))) c.slot_at-at.ensures
     ∙ sym (search-at leaf_kind a.own a.own a.page.now c.requires a.key i (sym c.find.ensures ∙ c.in-At.is)).1
 
 pub returns-in-Missing : goal.returns-in-Missing

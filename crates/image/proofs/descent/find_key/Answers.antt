@@ -1,5 +1,6 @@
 -- `find_key`: the leaf is judged, and then searched.
 -- Assumes nothing.
+use Rattle.std.specs.Prelude.{Err}
 use Prim.Native.Nat.{ℕ, ◌+◌, ◌*◌, ◌≤◌}
 use mathlib.Core.Path.{◌≡◌, sym, ap, ◌∙◌}
 use mathlib.Core.Bool.{true}
@@ -13,7 +14,6 @@ use Rattle.image.specs.Table.{in_image, page_entries, found_in}
 use Rattle.image.specs.Descent.{leaf_for, leaf_sound}
 use Rattle.image.specs.Calls.{leaf_lookup}
 use Rattle.image.specs.declared.Place.{Place}
-use Rattle.image.specs.declared.Lookup.TheVariants.{Refused}
 use Rattle.image.proofs.CodeDescent.{leaf-fits, sound-page}
 use Rattle.image.proofs.descent.find_key.Goals as goal
 use Rattle.image.proofs.descent.find_key.Goals.{After-leaf_for-leaf, After-leaf_sound, Else-not-leaf_sound}
@@ -36,7 +36,7 @@ pub returns-then-not-leaf_sound : goal.returns-then-not-leaf_sound
 unfolding leaf_lookup
 returns-then-not-leaf_sound c =
     let a = c.args in
-    ap Refused c.of.ensures ∙ rw (judged (goal.at.returns-then-not-leaf_sound c).After-leaf_sound ∙ not-true _ c.if-not-leaf_sound.true-raw)
+    ap Err c.of.ensures ∙ rw (judged (goal.at.returns-then-not-leaf_sound c).After-leaf_sound ∙ not-true _ c.if-not-leaf_sound.true-raw)
 
 pub page_of-requires : goal.page_of-requires
 page_of-requires c = fits (goal.at.page_of-requires c).After-leaf_for-leaf

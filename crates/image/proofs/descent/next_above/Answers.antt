@@ -1,18 +1,17 @@
 -- `next_above`: the leaf that the number belongs to, and only if it has no larger key, the leaf that its range's end belongs to.
 -- Assumes nothing.
+use Rattle.std.specs.Prelude.{Err, None, Ok, Option, Result, Some}
 use borrow.Enum.Refused.{opened}
 use mathlib.Core.Path.{◌≡◌, refl, sym, ap, ◌∙◌}
 use mathlib.Core.Logic.{◌⊎◌, inl, inr}
 use native.Mathlib.Omega.{arith}
 use denote.Enum.Declared.{tag_of}
 use borrow.Author.Tests.{le-leb, lt-leb}
+use Rattle.device.specs.declared.Refusal.{Refusal}
 use Rattle.page.specs.Layout.{top_key}
 use Rattle.image.specs.Table.{or_else}
 use Rattle.image.specs.Calls.{leaf_next, next_after, next_from}
 use Rattle.image.specs.declared.Place.{Place}
-use Rattle.image.specs.declared.Root.TheVariants as roots
-use Rattle.image.specs.declared.Next.{Next}
-use Rattle.image.specs.declared.Next.TheVariants.{Key, Last, Refused}
 use Rattle.image.specs.contracts.Next.{the_type}
 use Rattle.image.proofs.CodeDescent.{leaf-fits}
 use Rattle.image.proofs.descent.next_above.Goals as goal
@@ -24,27 +23,27 @@ next_at-here-requires c = (c.requires, leaf-fits c.args.image.now c.args.root c.
 -- the whole answer, by the leaf's
 either : (c : After-next_at-here) →
     let a = c.args in
-    next_from a.image.now a.key (roots.At a.root) ≡ or_else c.next_at-here.result (next_after a.image.now a.root a.key c.leaf_for-leaf.result)
+    next_from a.image.now a.key (Ok a.root) ≡ or_else c.next_at-here.result (next_after a.image.now a.root a.key c.leaf_for-leaf.result)
 unfolding next_from
 either c =
     let a = c.args in
     ap (λ (p : Place). or_else (leaf_next a.image.now a.root a.key p) (next_after a.image.now a.root a.key p)) (sym c.leaf_for-leaf.ensures)
-    ∙ ap (λ (x : Next). or_else x (next_after a.image.now a.root a.key c.leaf_for-leaf.result)) (sym c.next_at-here.ensures)
+    ∙ ap (λ (x : Result (Option ℕ) Refusal). or_else x (next_after a.image.now a.root a.key c.leaf_for-leaf.result)) (sym c.next_at-here.ensures)
 
 -- what is not `Last`, by its tag
-not_last : (x y : Next) → (tag_of the_type x ≡ 0) ⊎ (tag_of the_type x ≡ 2) → x ≡ or_else x y
-not_last (Key j) y h = refl
-not_last Last y (inl h) = absurd (omega arith)
-not_last Last y (inr h) = absurd (omega arith)
-not_last (Refused r) y h = refl
+not_last : (x y : Result (Option ℕ) Refusal) → (tag_of the_type x ≡ 0) ⊎ (tag_of the_type x ≡ 2) → x ≡ or_else x y
+not_last (Ok (Some j)) y h = refl
+not_last (Ok None) y (inl h) = absurd (omega arith)
+not_last (Ok None) y (inr h) = absurd (omega arith)
+not_last (Err r) y h = refl
 
 -- where it has none
 after : (c : In-Last) →
-    (next_from c.args.image.now c.args.key (roots.At c.args.root) ≡ or_else c.next_at-here.result (next_after c.args.image.now c.args.root c.args.key c.leaf_for-leaf.result)) → let a = c.args in
-    next_from a.image.now a.key (roots.At a.root) ≡ next_after a.image.now a.root a.key c.leaf_for-leaf.result
+    (next_from c.args.image.now c.args.key (Ok c.args.root) ≡ or_else c.next_at-here.result (next_after c.args.image.now c.args.root c.args.key c.leaf_for-leaf.result)) → let a = c.args in
+    next_from a.image.now a.key (Ok a.root) ≡ next_after a.image.now a.root a.key c.leaf_for-leaf.result
 after c either =
     let a = c.args in
-    either ∙ ap (λ (x : Next). or_else x (next_after a.image.now a.root a.key c.leaf_for-leaf.result)) c.in-Last.is
+    either ∙ ap (λ (x : Result (Option ℕ) Refusal). or_else x (next_after a.image.now a.root a.key c.leaf_for-leaf.result)) c.in-Last.is
 
 pub returns-in_default : goal.returns-in_default
 returns-in_default c = not_last c.next_at-here.result _ (opened c.in_default.in_default-own.keys2) ∙ sym (either (goal.at.returns-in_default c).After-next_at-here)

@@ -1,5 +1,6 @@
 -- `next_at`: the leaf is judged, and then searched.
 -- Assumes nothing.
+use Rattle.std.specs.Prelude.{Err}
 use Prim.Native.Nat.{ℕ}
 use mathlib.Core.Path.{◌≡◌, sym, ap, ◌∙◌}
 use mathlib.Core.Bool.{true}
@@ -13,14 +14,13 @@ use Rattle.page.proofs.Facts.{page_ok-true}
 use Rattle.image.specs.Table.{above}
 use Rattle.image.specs.Descent.{leaf_sound}
 use Rattle.image.specs.Calls.{leaf_next}
-use Rattle.image.specs.declared.Next.TheVariants.{Refused}
 use Rattle.image.proofs.CodeDescent.{sound-page, above-largest}
 use Rattle.image.proofs.descent.next_at.Goals as goal
 use Rattle.image.proofs.descent.next_at.Goals.{Else-not-leaf_sound}
 
 pub returns-then-not-leaf_sound : goal.returns-then-not-leaf_sound
 unfolding leaf_next
-returns-then-not-leaf_sound c = ap Refused c.of.ensures ∙ rw (sym c.leaf_sound.ensures ∙ not-true _ c.if-not-leaf_sound.true-raw)
+returns-then-not-leaf_sound c = ap Err c.of.ensures ∙ rw (sym c.leaf_sound.ensures ∙ not-true _ c.if-not-leaf_sound.true-raw)
 
 judged : (c : Else-not-leaf_sound) →
     let a = c.args in

@@ -1,5 +1,6 @@
 -- `next_in` answers the first key that is not below the number after the given one.
 -- Assumes nothing.
+use Rattle.std.specs.Prelude.{Ok, Result, Some}
 use Prim.Native.Nat.{ℕ, suc}
 use mathlib.Core.Path.{◌≡◌, sym, ap, ◌∙◌}
 use mathlib.Core.List.{[]}
@@ -8,13 +9,11 @@ use native.Mathlib.Numerals.{add-one}
 use Rattle.page.specs.Layout.{rec_of}
 use Rattle.page.specs.Page.{records}
 use Rattle.page.specs.Search.{searched}
-use Rattle.page.specs.declared.Search.{Search}
-use Rattle.image.specs.declared.Next.TheVariants.{Key}
 use Rattle.image.proofs.Search.{above_at, above-missing, above-end}
 use Rattle.image.proofs.descent.next_in.Goals as goal
 use Rattle.image.proofs.descent.next_in.Goals.{After-find}
 
-sought : (c : After-find) (s : Search) →
+sought : (c : After-find) (s : Result ℕ ℕ) →
     let a = c.args in
     c.find.result ≡ s → searched (suc a.key) 0 (records a.page.now) ≡ s
 sought c s e =
@@ -29,12 +28,12 @@ key_at-requires c =
 pub returns-then-i-count : goal.returns-then-i-count
 returns-then-i-count c =
     let a = c.args in
-    ap Key c.key_at-then-i-count.ensures ∙ sym (above-missing a.key (records a.page.now) (rec_of 0 []) c.in-Missing.i (sought (goal.at.returns-then-i-count c).After-find _ c.in-Missing.is) (omega (arith, c.count.ensures, c.if-i-count.true)))
+    ap Ok (Some c.key_at-then-i-count.ensures) ∙ sym (above-missing a.key (records a.page.now) (rec_of 0 []) c.in-Missing.i (sought (goal.at.returns-then-i-count c).After-find _ c.in-Missing.is) (omega (arith, c.count.ensures, c.if-i-count.true)))
 
 pub returns-in-At : goal.returns-in-At
 returns-in-At c =
     let a = c.args in
-    ap Key c.key_at.ensures ∙ sym (above_at a.key (records a.page.now) (rec_of 0 []) c.in-At.i (sought (goal.at.returns-in-At c).After-find _ c.in-At.is)).1
+    ap Ok (Some c.key_at.ensures) ∙ sym (above_at a.key (records a.page.now) (rec_of 0 []) c.in-At.i (sought (goal.at.returns-in-At c).After-find _ c.in-At.is)).1
 
 pub returns-else-i-count : goal.returns-else-i-count
 returns-else-i-count c =

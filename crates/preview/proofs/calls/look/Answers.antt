@@ -1,21 +1,21 @@
 -- `look`: the key that is asked, then the keys of the list, then what is seen.
 -- Assumes nothing.
+use Rattle.std.specs.Prelude.{Err}
 use mathlib.Core.Path.{◌≡◌, sym, ap, ◌∙◌}
 use mathlib.Core.Bool.{true}
 use borrow.Author.Tests.{le-leb, lt-leb}
 use Rattle.image.specs.Calls.{key_ok}
 use Rattle.preview.specs.Calls.{rules_of, keys_of}
-use Rattle.preview.specs.declared.Preview.TheVariants.{Refused}
 use Rattle.preview.proofs.calls.look.Goals as goal
 use Rattle.preview.proofs.calls.look.Goals.{Else-key-gt-TOP_KEY}
 
 pub returns-then-key-lt1 : goal.returns-then-key-lt1
 unfolding keys_of key_ok
-returns-then-key-lt1 c = ap Refused c.of.ensures ∙ rw (lt-leb 1 _ c.if-key-lt1.true)
+returns-then-key-lt1 c = ap Err c.of.ensures ∙ rw (lt-leb 1 _ c.if-key-lt1.true)
 
 pub returns-then-key-gt-TOP_KEY : goal.returns-then-key-gt-TOP_KEY
 unfolding keys_of key_ok
-returns-then-key-gt-TOP_KEY c = ap Refused c.of-then-key-gt-TOP_KEY.ensures ∙ rw (le-leb 1 _ c.if-key-lt1.false, lt-leb _ 999999999999 c.if-key-gt-TOP_KEY.true)
+returns-then-key-gt-TOP_KEY c = ap Err c.of-then-key-gt-TOP_KEY.ensures ∙ rw (le-leb 1 _ c.if-key-lt1.false, lt-leb _ 999999999999 c.if-key-gt-TOP_KEY.true)
 
 pub see-requires : goal.see-requires
 see-requires c = c.requires

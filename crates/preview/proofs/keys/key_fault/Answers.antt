@@ -1,8 +1,8 @@
 -- `key_fault`: 8 for an insert of a key that is there, 9 for another edit of one that is not, and 4 where its leaf is not read.
 -- Assumes nothing.
+use Rattle.std.specs.Prelude.{Err}
 use mathlib.Core.Path.{ap, ◌∙◌}
 use borrow.Author.Tests.{eq-eqb, ne_eqb}
-use Rattle.edit.specs.declared.Judged.TheVariants.{Faulty}
 use Rattle.preview.specs.Noted.{fault_by}
 use Rattle.preview.proofs.keys.key_fault.Goals as goal
 
@@ -16,7 +16,7 @@ returns-then-kind-eq1-2 c = rw (c.in-Absent.is, eq-eqb _ 1 c.if-kind-eq1-2.true)
 
 pub returns-in-Unsound : goal.returns-in-Unsound
 unfolding fault_by
-returns-in-Unsound c = ap Faulty c.of.ensures ∙ rw c.in-Unsound.is
+returns-in-Unsound c = ap Err c.of.ensures ∙ rw c.in-Unsound.is
 
 pub returns-else-kind-eq1 : goal.returns-else-kind-eq1
 unfolding fault_by

@@ -1,17 +1,19 @@
 -- `see`: what the edits that are left make of what is seen so far, or of the image's answer, is what all of them make of the image's answer.
 -- Assumes nothing.
+use Rattle.std.specs.Prelude.{Option, Result}
 use Prim.Native.Nat.{◌+◌, ◌≤◌}
 use mathlib.Core.Path.{◌≡◌, refl, sym, ap, ap₂, ◌∙◌}
 use mathlib.Core.Bool.{Bool, true, false}
 use native.Mathlib.Omega.{arith}
 use lib.ListN.{length}
+use Rattle.preview.specs.declared.Shown.{Shown}
+use Rattle.device.specs.declared.Refusal.{Refusal}
 use Rattle.codec.specs.Lists.{pick}
 use Rattle.image.specs.Calls.{leaf_lookup}
 use Rattle.edit.specs.EditList.{edits_of, edit_list}
 use Rattle.edit.proofs.Parsing.{list-whole}
 use Rattle.edit.proofs.Heads.{head-none, head-fits, head-rest}
 use Rattle.preview.specs.Calls.{in_image, seen_from, seen}
-use Rattle.preview.specs.declared.Preview.{Preview}
 use Rattle.preview.proofs.Walk.{seen-own, seen_other}
 use Rattle.preview.proofs.seen.see.Goals as goal
 use Rattle.preview.proofs.seen.see.Goals.{After-loop-at, Joined-long_at-key, then-long_at-key, else-long_at-key}
@@ -54,8 +56,8 @@ loop-at-preserved c =
     let rest = head-rest l.invariant.1 more _ c.wide-n.ensures.0 in
     let a = c.args in
     let stored = in_image (leaf_lookup a.image.now a.root a.key) in
-    let to : (own : Bool) (answer : Preview) → c.if-long_at-key.own ≡ own → c.if-long_at-key.answer ≡ answer → _ =
-    λ own answer p q. ap₂ (λ (o : Bool) (x : Preview). seen_from a.key (l.at + 10 + c.wide-n.result) (pick o x stored) rest.edits) p q in (
+    let to : (own : Bool) (answer : Result (Option Shown) Refusal) → c.if-long_at-key.own ≡ own → c.if-long_at-key.answer ≡ answer → _ =
+    λ own answer p q. ap₂ (λ (o : Bool) (x : Result (Option Shown) Refusal). seen_from a.key (l.at + 10 + c.wide-n.result) (pick o x stored) rest.edits) p q in (
       fits (goal.at.loop-at-preserved c).Joined-long_at-key,
       rest,
       elim c.if-long_at-key.branch [

@@ -12,7 +12,7 @@ use borrow.Author.Tests.{le-leb}
 use Rattle.device.specs.declared.Refusal.{Refusal}
 use Rattle.codec.specs.Lists.{part, pick}
 use Rattle.codec.proofs.Tests.{both}
-use Rattle.device.specs.Calls.{is_image_size, refusal}
+use Rattle.device.specs.Calls.{Answer, is_image_size, refusal}
 use Rattle.page.specs.Layout.{top_key, Rec, rec_of}
 use Rattle.page.specs.Page.{records}
 use Rattle.page.specs.Operations.{page_of}
@@ -39,7 +39,7 @@ pub check_sound : (img : List ℕ) → check_call img ≡ Ok tt → sound img �
 unfolding check_call root_call check_from root_from sound sound_from
 check_sound img h = go (is_image_size (length img)) (page_zero img) h
   where
-    tree : (t : Bool) → pick t (Ok tt) (Err (refusal 4)) ≡ Ok tt → t ≡ true
+    tree : (t : Bool) → pick {A = Answer} t (Ok tt) (Err (refusal 4)) ≡ Ok tt → t ≡ true
     tree true e = refl
     tree false e = let z : ◌≡◌ {A = ℕ} 0 1 = cc in absurd (omega arith)
 

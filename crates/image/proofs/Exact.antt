@@ -20,6 +20,7 @@ use Rattle.image.specs.Image.{sound}
 use Rattle.image.specs.Facts.{Rising}
 use Rattle.image.specs.Table.{table, listing, find, found_in, above}
 use Rattle.image.specs.Says.{Member, Smallest, AtMost}
+use Rattle.image.proofs.Parts.{some-injective}
 use Rattle.image.proofs.Rising.{rising-from}
 use Rattle.image.proofs.Order.{recs-listing}
 use Rattle.image.proofs.Routing.{above-skip, above-first}
@@ -29,7 +30,7 @@ use Rattle.image.proofs.Values.{Listed, listing-listed}
 
 -- what a lookup's answer says of records whose values stand in the image
 abbrev pub Told : List ℕ → ℕ → List Rec → Result (Option Part) Refusal → Type 0
-Told img k rs (Ok (Some (record { offset = o; length = n }))) = (find k rs ≡ Some (part img o n)) × (length (part img o n) ≡ n) × (o + n ≤ length img)
+Told img k rs (Ok (Some x)) = (find k rs ≡ Some (part img x.offset x.length)) × (length (part img x.offset x.length) ≡ x.length) × (x.offset + x.length ≤ length img)
 Told img k rs (Ok None) = find k rs ≡ None
 Told img k rs (Err r) = ⊥
 
@@ -39,7 +40,7 @@ tells img k [] h = refl
 tells img k (e ∷ es) h = go (eqb e.rec.key k) refl (tells img k es h.1)
   where
     on : (a : Result (Option Part) Refusal) → eqb e.rec.key k ≡ false → Told img k (recs es) a → Told img k (recs (e ∷ es)) a
-    on (Ok (Some (record { offset = o; length = n }))) d t = (rw d t.0, t.1, t.2)
+    on (Ok (Some x)) d t = (rw d t.0, t.1, t.2)
     on (Ok None) d t = rw d t
     on (Err r) d t = t
 
@@ -60,7 +61,7 @@ module _ (img : List ℕ) (k : ℕ) (es : List Entry) (h : All (Listed img) es) 
   found-entries v e = go (found_in k es) refl (tells img k es h)
     where
       go : (a : Result (Option Part) Refusal) → found_in k es ≡ a → Told img k (recs es) a → (o : ℕ) × (n : ℕ) × (found_in k es ≡ Ok (Some (record { offset = o; length = n }))) × (part img o n ≡ v)
-      go (Ok (Some (record { offset = o; length = n }))) f t = (o, n, f, some-injective (part img o n) v (sym t.0 ∙ e))
+      go (Ok (Some x)) f t = (x.offset, x.length, f, some-injective (part img x.offset x.length) v (sym t.0 ∙ e))
       go (Ok None) f t = let z : ◌≡◌ {A = ℕ} 0 1 = cc (t, e) in absurd (omega arith)
       go (Err r) f t = absurd t
 
@@ -68,7 +69,7 @@ module _ (img : List ℕ) (k : ℕ) (es : List Entry) (h : All (Listed img) es) 
   missing-entries e = go (found_in k es) (tells img k es h)
     where
       go : (a : Result (Option Part) Refusal) → Told img k (recs es) a → a ≡ Ok None
-      go (Ok (Some (record { offset = o; length = n }))) t = let z : ◌≡◌ {A = ℕ} 0 1 = cc (t.0, e) in absurd (omega arith)
+      go (Ok (Some x)) t = let z : ◌≡◌ {A = ℕ} 0 1 = cc (t.0, e) in absurd (omega arith)
       go (Ok None) t = refl
       go (Err r) t = absurd t
 
@@ -196,7 +197,7 @@ module _ (k lo : ℕ) (l : List Rec) (hi : ℕ) (h : Rising lo l hi) where
       go : (a : Result (Option ℕ) Refusal) → TellsNext k l a → a ≡ Ok (Some j)
       go (Ok (Some i)) t =
           let e : i ≡ j = omega (arith, s.least t.rec t.member (omega (arith, t.is, t.over)), t.least s.rec s.member (omega (arith, s.is, s.over)), s.is, t.is) in
-          ap Ok (Some e)
+          ap (λ (i : ℕ). Ok (Some i)) e
       go (Ok None) t = absurd (omega (arith, t s.rec s.member, s.is, s.over))
       go (Err r) t = absurd t
 

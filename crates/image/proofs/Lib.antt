@@ -1,4 +1,5 @@
 pub mod General
+pub mod Parts
 pub mod Rising
 pub mod Ranges
 pub mod IndexRecords

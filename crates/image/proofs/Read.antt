@@ -155,13 +155,13 @@ module _ (img : List ℕ) (k root : ℕ) (opened : Opened img root) (b : Belongs
 
 pub ranged-is : (k : ℕ) (a : Result (Option Part) Refusal) → ((r : Refusal) → a ≡ Err r → ⊥) → ranged k a ≡ pick (key_ok k) a (Err (refusal 6))
 unfolding ranged
-ranged-is k (Ok (Some (record { offset = o; length = n }))) h = refl
+ranged-is k (Ok (Some x)) h = refl
 ranged-is k (Ok None) h = refl
 ranged-is k (Err r) h = absurd (h r refl)
 
 pub ranged-in : (k : ℕ) → key_ok k ≡ true → (a : Result (Option Part) Refusal) → ranged k a ≡ a
 unfolding ranged
-ranged-in k q (Ok (Some (record { offset = o; length = n }))) = rw q
+ranged-in k q (Ok (Some x)) = rw q
 ranged-in k q (Ok None) = rw q
 ranged-in k q (Err r) = refl
 

@@ -24,6 +24,7 @@ use Rattle.image.specs.Table.{page_entries, find, found_in, above, or_else}
 use Rattle.image.specs.Descent.{leaf_for}
 use Rattle.image.specs.Calls.{index_call, key_ok, ranged, lookup_from, lookup_call, value_at, value_call, next_after, next_from, next_call}
 use Rattle.image.specs.Says.{AtMost, NotOpened, GoodLeaf, ReadSound, ReadUnsound, read_records, LookupSays, not_opened, bad-leaf, bad-key, found, missing, NextSays, next-not-opened, next-bad-leaf, here, bad-after, after, last}
+use Rattle.image.proofs.Parts.{part-same}
 use Rattle.image.proofs.Rising.{From, rising-from}
 use Rattle.image.proofs.Soundness.{page-rising}
 use Rattle.image.proofs.Order.{recs-page}
@@ -60,7 +61,7 @@ module _ (img : List ℕ) (k : ℕ) where
     read-says low high a e = go a e (read-tells a e)
       where
         go : (a : Result (Option Part) Refusal) → found_in k (page_entries img q) ≡ a → Told img k (read_records r) a → LookupSays img k a
-        go (Ok (Some (record { offset = o; length = n }))) f t = found root r low high o n f t.0 t.1 t.2
+        go (Ok (Some x)) f t = found root r low high x.offset x.length f t.0 t.1 t.2
         go (Ok None) f t = missing root r low high t
         go (Err s) f t = absurd t
 
@@ -107,9 +108,8 @@ module _ (img : List ℕ) (k : ℕ) where
       go _ (bad-leaf root u) f = let z : ◌≡◌ {A = ℕ} 0 1 = cc in absurd (omega arith)
       go _ (bad-key root r x) f = let z : ◌≡◌ {A = ℕ} 0 1 = cc in absurd (omega arith)
       go _ (found root r low high p m x y z inside) f =
-          let a : p ≡ o = cc in
-          let b : m ≡ n = cc in
-          omega arith
+          let same = part-same p m o n f in
+          omega (arith, same.0, same.1)
       go _ (missing root r low high x) f = let z : ◌≡◌ {A = ℕ} 0 1 = cc in absurd (omega arith)
 
   -- its companion is "empty if refused or missing"

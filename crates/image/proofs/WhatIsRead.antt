@@ -24,6 +24,7 @@ use Rattle.image.specs.Calls.{root_call, index_from, index_call, ranged, leaf_lo
 use Rattle.image.specs.Says.{read_records, LookupSays, not_opened, bad-leaf, bad-key, found, missing}
 use Rattle.image.specs.WhatIsRead.{ReadAlike, lookup_reads, after_reads, next_reads}
 use Rattle.image.specs.declared.Place.{Place}
+use Rattle.image.proofs.Parts.{part-same, some-injective}
 use Rattle.image.proofs.OneHeight.{leaf-one}
 use Rattle.image.proofs.Read.{opened-call, read-records}
 use Rattle.image.proofs.Says.{lookup-says}
@@ -96,7 +97,7 @@ module _ (a b : List ℕ) (keys : ℕ → List ℕ) (R : ReadAlike a b keys) whe
       go (Err r) f q = q
       go (Ok s) f q = test (index_ok a s) q
         where
-          test : (t : Bool) → pick t (Ok s) (Err (refusal 4)) ≡ Ok root → Ok s ≡ Ok root
+          test : (t : Bool) → pick t (Ok s) (Err (refusal 4)) ≡ Ok root → ◌≡◌ {A = Result ℕ Refusal} (Ok s) (Ok root)
           test true p = p
           test false p = let z : ◌≡◌ {A = ℕ} 0 1 = cc in absurd (omega arith)
 
@@ -126,8 +127,9 @@ value_in img k o n e = go (lookup_call img k) (lookup-says img k) e
   where
     go : (x : Result (Option Part) Refusal) → LookupSays img k x → x ≡ Ok (Some (record { offset = o; length = n })) → ValueIn img k o n
     go _ (found root r low high p m f v l i) q =
-        let a : p ≡ o = cc in
-        let b : m ≡ n = cc in
+        let same = part-same p m o n q in
+        let a : p ≡ o = same.0 in
+        let b : m ≡ n = same.1 in
         record { root = root; opens = opened-call img root r.opened; recs = read_records r; read = read-records img k root r; is = v ∙ ap₂ (λ (x y : ℕ). Some (part img x y)) a b }
     go _ (not_opened r x) q = let z : ◌≡◌ {A = ℕ} 0 1 = cc in absurd (omega arith)
     go _ (bad-leaf root u) q = let z : ◌≡◌ {A = ℕ} 0 1 = cc in absurd (omega arith)
@@ -153,7 +155,7 @@ value-reads a b k R = go (lookup_call a k) refl
         some-injective (part b o n) (part a o n) (sym y.is ∙ ap (find k) recs ∙ x.is)
 
     go : (x : Result (Option Part) Refusal) → lookup_call a k ≡ x → value_at b (lookup_call b k) ≡ value_at a (lookup_call a k)
-    go (Ok (Some (record { offset = o; length = n }))) e = ap (value_at b) (same ∙ e) ∙ bytes o n e ∙ sym (ap (value_at a) e)
+    go (Ok (Some x)) e = ap (value_at b) (same ∙ e) ∙ bytes x.offset x.length e ∙ sym (ap (value_at a) e)
     go (Ok None) e = ap (value_at b) (same ∙ e) ∙ sym (ap (value_at a) e)
     go (Err r) e = ap (value_at b) (same ∙ e) ∙ sym (ap (value_at a) e)
 

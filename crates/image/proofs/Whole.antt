@@ -12,7 +12,7 @@ use lib.Dec.{eqb}
 use Rattle.image.specs.declared.Part.{Part}
 use Rattle.codec.specs.Lists.{pick, All}
 use Rattle.codec.proofs.Tests.{not-true, All-map}
-use Rattle.device.specs.Calls.{is_image_size, refusal, refusal_at}
+use Rattle.device.specs.Calls.{Answer, is_image_size, refusal, refusal_at}
 use Rattle.device.specs.declared.Refusal.{Refusal}
 use Rattle.page.specs.Layout.{top_key, Rec}
 use Rattle.page.specs.Operations.{page_of}
@@ -36,7 +36,7 @@ pub check-refused : (img : List ℕ) (r : Refusal) → check_call img ≡ Err r 
 unfolding check_call check_from root_call root_from
 check-refused img r e = go (is_image_size (length img)) refl (page_zero img) refl e
   where
-    tree : (t : Bool) → pick t (Ok tt) (Err (refusal 4)) ≡ Err r → (refusal_at 4 0) ≡ r
+    tree : (t : Bool) → pick {A = Answer} t (Ok tt) (Err (refusal 4)) ≡ Err r → (refusal_at 4 0) ≡ r
     tree true f = let n : ◌≡◌ {A = ℕ} 0 1 = cc in absurd (omega arith)
     tree false f = cc
 

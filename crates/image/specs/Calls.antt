@@ -73,8 +73,7 @@ leaf_lookup img root k =
 -- "1, 3, 4 and 6 in the old order": 6 comes after the leaf's 4
 unfoldable pub ranged : ℕ → Result (Option Part) Refusal → Result (Option Part) Refusal
 ranged k (Err r) = Err r
-ranged k (Ok (Some (record { offset = o; length = n }))) = pick (key_ok k) (Ok (Some (record { offset = o; length = n }))) (Err (refusal key_range))
-ranged k (Ok None) = pick (key_ok k) (Ok None) (Err (refusal key_range))
+ranged k (Ok found) = pick (key_ok k) (Ok found) (Err (refusal key_range))
 
 unfoldable pub lookup_from : List ℕ → ℕ → Result ℕ Refusal → Result (Option Part) Refusal
 lookup_from img k (Err r) = Err r
@@ -86,7 +85,7 @@ lookup_call img k = lookup_from img k (index_call img)
 
 -- "A companion hands back the value bytes themselves as part of the image, with no copy; empty if refused or missing."
 unfoldable pub value_at : List ℕ → Result (Option Part) Refusal → List ℕ
-value_at img (Ok (Some (record { offset = o; length = n }))) = part img o n
+value_at img (Ok (Some x)) = part img x.offset x.length
 value_at img (Ok None) = []
 value_at img (Err r) = []
 

@@ -1,5 +1,5 @@
 // One descent from the root to a leaf, and what the leaf answers. The index is sound; the leaf is judged as it is read.
-ghost use Rattle.std.specs.Prelude.{◌≡◌, true, map, ◌+◌, ◌*◌, ◌≤◌, ◌<◌, length, get_or};
+ghost use Rattle.std.specs.Prelude.{◌≡◌, true, Ok, map, ◌+◌, ◌*◌, ◌≤◌, ◌<◌, length, get_or};
 ghost use Rattle.page.specs.Layout.{page_size, leaf_kind, index_kind, top_key};
 ghost use Rattle.page.specs.Page.{records, entries, laid_out, page_ok, keys_rise};
 ghost use Rattle.image.specs.PageZero.{root_of};
@@ -8,12 +8,11 @@ ghost use Rattle.image.specs.Table.{in_image, found_in, above};
 ghost use Rattle.image.specs.Route.{route};
 ghost use Rattle.image.specs.Descent.{leaf_for, leaf_sound};
 ghost use Rattle.image.specs.Calls.{index_call, leaf_lookup, leaf_next, next_from};
-ghost use Rattle.image.specs.declared.Root.TheVariants as roots;
 
 use crate::tree::{leaf_ok, sep_after};
-use crate::{Lookup, Next, Place, pages};
-use device::Refusal;
-use page::{Search, find};
+use crate::{Part, Place, pages};
+use device::{Cause, Refusal};
+use page::find;
 
 // The root page's number.
 pub fn root_of(image: &[u8]) -> usize
@@ -29,8 +28,8 @@ pub fn route(page: &[u8], key: u64) -> usize
     ensures { result ≡ route key (records page.now) }
 {
     match find(page, key) {
-        Search::At(i) => i,
-        Search::Missing(i) => {
+        Ok(i) => i,
+        Err(i) => {
             if i == 0 {
                 return 0;
             }
@@ -64,7 +63,7 @@ pub fn down(page: &[u8], at: Place, key: u64) -> Place
 
 // The leaf that a key belongs to.
 pub fn leaf_for(image: &[u8], root: usize, key: u64) -> Place
-    requires { index_call image.now ≡ roots.At root }
+    requires { index_call image.now ≡ Ok root }
     ensures { result ≡ leaf_for image.now root key }
 {
     let top = Place {
@@ -77,7 +76,7 @@ pub fn leaf_for(image: &[u8], root: usize, key: u64) -> Place
 
 // Whether the leaf at a place is sound.
 pub fn leaf_sound(image: &[u8], root: usize, leaf: Place) -> bool
-    requires { (index_call image.now ≡ roots.At root) × (page_size * leaf.page + page_size ≤ length image.now) }
+    requires { (index_call image.now ≡ Ok root) × (page_size * leaf.page + page_size ≤ length image.now) }
     ensures { result ≡ leaf_sound image.now root leaf }
 {
     let only = pages::count(pages::page_of(image, root)) == 1;
@@ -85,76 +84,73 @@ pub fn leaf_sound(image: &[u8], root: usize, leaf: Place) -> bool
 }
 
 // Looks a key up in a leaf.
-pub fn find_in(page: &[u8], own: usize, key: u64) -> Lookup
+pub fn find_in(page: &[u8], own: usize, key: u64) -> Option<Part>
     requires { page_ok leaf_kind own page.now ≡ true }
-    ensures { result ≡ found_in key (map (in_image own) (entries page.now)) }
+    ensures { Ok result ≡ found_in key (map (in_image own) (entries page.now)) }
 {
     match find(page, key) {
-        Search::At(i) => {
+        Ok(i) => {
             let at = pages::slot_at(page, i);
-            Lookup::Found {
+            Some(Part {
                 offset: pages::PAGE_SIZE * own + at + 16,
                 length: codec::number_at(page, at + 8),
-            }
+            })
         }
-        Search::Missing(_) => Lookup::Missing,
+        Err(_) => None,
     }
 }
 
 // Judges the one leaf that a key belongs to, and looks the key up in it.
-pub fn find_key(image: &[u8], root: usize, key: u64) -> Lookup
-    requires { index_call image.now ≡ roots.At root }
+pub fn find_key(image: &[u8], root: usize, key: u64) -> Result<Option<Part>, Refusal>
+    requires { index_call image.now ≡ Ok root }
     ensures { result ≡ leaf_lookup image.now root key }
 {
     let leaf = leaf_for(image, root, key);
     if !leaf_sound(image, root, leaf) {
-        return Lookup::Refused(Refusal::of(Refusal::UNSOUND));
+        return Err(Refusal::of(Cause::Unsound));
     }
-    find_in(pages::page_of(image, leaf.page), leaf.page, key)
+    Ok(find_in(pages::page_of(image, leaf.page), leaf.page, key))
 }
 
 // The smallest key of a page above a key that is not the largest: the first that is not below the number after it.
-pub fn next_in(page: &[u8], key: u64) -> Next
+pub fn next_in(page: &[u8], key: u64) -> Option<u64>
     requires { (laid_out page.now ≡ true) × (key < top_key) }
-    ensures { result ≡ above key (records page.now) }
+    ensures { Ok result ≡ above key (records page.now) }
 {
     match find(page, key + 1) {
-        Search::At(i) => Next::Key(pages::key_at(page, i)),
-        Search::Missing(i) => {
+        Ok(i) => Some(pages::key_at(page, i)),
+        Err(i) => {
             if i < pages::count(page) {
-                return Next::Key(pages::key_at(page, i));
+                return Some(pages::key_at(page, i));
             }
-            Next::Last
+            None
         }
     }
 }
 
 // Judges the leaf at a place, and takes its smallest key above a number.
-pub fn next_at(image: &[u8], root: usize, key: u64, leaf: Place) -> Next
-    requires { (index_call image.now ≡ roots.At root) × (page_size * leaf.page + page_size ≤ length image.now) }
+pub fn next_at(image: &[u8], root: usize, key: u64, leaf: Place) -> Result<Option<u64>, Refusal>
+    requires { (index_call image.now ≡ Ok root) × (page_size * leaf.page + page_size ≤ length image.now) }
     ensures { result ≡ leaf_next image.now root key leaf }
 {
     if !leaf_sound(image, root, leaf) {
-        return Next::Refused(Refusal::of(Refusal::UNSOUND));
+        return Err(Refusal::of(Cause::Unsound));
     }
     if pages::TOP_KEY <= key {
-        return Next::Last;
+        return Ok(None);
     }
-    next_in(pages::page_of(image, leaf.page), key)
+    Ok(next_in(pages::page_of(image, leaf.page), key))
 }
 
 // The smallest key above a number: in the leaf that it belongs to, and only if that has none, in the leaf after it.
-pub fn next_above(image: &[u8], root: usize, key: u64) -> Next
-    requires { index_call image.now ≡ roots.At root }
-    ensures { result ≡ next_from image.now key (roots.At root) }
+pub fn next_above(image: &[u8], root: usize, key: u64) -> Result<Option<u64>, Refusal>
+    requires { index_call image.now ≡ Ok root }
+    ensures { result ≡ next_from image.now key (Ok root) }
 {
     let leaf = leaf_for(image, root, key);
-    let here = next_at(image, root, key, leaf);
-    let Next::Last = here else {
-        return here;
-    };
-    if pages::TOP_KEY < leaf.below {
-        return Next::Last;
+    match next_at(image, root, key, leaf)? {
+        Some(next) => Ok(Some(next)),
+        None if pages::TOP_KEY < leaf.below => Ok(None),
+        None => next_at(image, root, key, leaf_for(image, root, leaf.below)),
     }
-    next_at(image, root, key, leaf_for(image, root, leaf.below))
 }

@@ -1,8 +1,6 @@
 // The image: page 0, the index and its leaves, and the calls that read them.
 #![tactic(auto)]
 
-use device::Refusal;
-
 pub mod calls;
 pub mod descent;
 pub mod format;
@@ -10,7 +8,7 @@ pub mod page_zero;
 pub mod pages;
 pub mod tree;
 
-// What page 0 says.
+// What page 0 says. Three answers, which recovery tells apart: a wrong one is refused, and both of the others name a root.
 #[derive(Clone, Copy)]
 pub enum PageZero {
     // Line 0 departs from its layout, or the root is no page.
@@ -21,13 +19,6 @@ pub enum PageZero {
     Ready { root: usize },
 }
 
-// The root that page 0 names, or why it is not read.
-#[derive(Clone, Copy)]
-pub enum Root {
-    At(usize),
-    Refused(Refusal),
-}
-
 // A page on the way down from the root, and the range of the keys that belong to it.
 #[derive(Clone, Copy)]
 pub struct Place {
@@ -36,18 +27,9 @@ pub struct Place {
     pub below: u64,
 }
 
-// What a lookup answers: the value's offset in the image and its length, or that the key is missing.
-#[derive(Clone, Copy)]
-pub enum Lookup {
-    Found { offset: usize, length: usize },
-    Missing,
-    Refused(Refusal),
-}
-
-// What next key answers: the smallest larger key, or that there is none.
-#[derive(Clone, Copy)]
-pub enum Next {
-    Key(u64),
-    Last,
-    Refused(Refusal),
+// A part of a lent slice: the offset of its first byte, and its length.
+#[derive(Clone, Copy, Debug, PartialEq, Eq)]
+pub struct Part {
+    pub offset: usize,
+    pub length: usize,
 }

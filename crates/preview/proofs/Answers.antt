@@ -45,16 +45,16 @@ all_of P f (x ∷ l) = (f x, all_of P f l)
 
 -- the part of an answer, if it is one of the list, is not empty
 abbrev FilledPart : Result (Option Shown) Refusal → Type 0
-FilledPart (Ok (Some (InList (record { offset = o; length = n })))) = 1 ≤ n
-FilledPart (Ok (Some (InImage (record { offset = o; length = n })))) = Unit {0}
+FilledPart (Ok (Some (InList x))) = 1 ≤ x.length
+FilledPart (Ok (Some (InImage x))) = Unit {0}
 FilledPart (Ok None) = Unit {0}
 FilledPart (Err r) = Unit {0}
 
 -- an answer that shows what is held comes to it
 shows-held : (img bytes : List ℕ) (a : Result (Option Shown) Refusal) (x : Option (List ℕ)) → Shows img bytes x a → previewed img bytes a ≡ held x
 unfolding previewed held
-shows-held img bytes (Ok (Some (InList (record { offset = o; length = n })))) x s = sym (ap held s.0)
-shows-held img bytes (Ok (Some (InImage (record { offset = o; length = n })))) x s = sym (ap held s.0)
+shows-held img bytes (Ok (Some (InList f))) x s = sym (ap held s.0)
+shows-held img bytes (Ok (Some (InImage f))) x s = sym (ap held s.0)
 shows-held img bytes (Ok None) x s = sym (ap held s)
 shows-held img bytes (Err r) x s = absurd s
 
@@ -98,7 +98,7 @@ module _ (img bytes : List ℕ) (k : ℕ) where
   preview-answers = opening (index_call img) (opening-says img)
     where
       image : (root : ℕ) (es : List Edit) (A : Asked img bytes k root es) → NoEdit k es → ReadSound img k root ⊎ ReadUnsound img k root → (a : Result (Option Part) Refusal) → leaf_lookup img root k ≡ a → Answers img bytes k (in_image a)
-      image root es A h x (Ok (Some (record { offset = o; length = n }))) e = of_image root es A h o n (asked-lookup root es A ∙ e)
+      image root es A h x (Ok (Some f)) e = of_image root es A h f.offset f.length (asked-lookup root es A ∙ e)
       image root es A h x (Ok None) e = missing root es A h (asked-lookup root es A ∙ e)
       image root es A h (inr u) (Err r) e = let four : (refusal_at 4 0) ≡ r = cc (unsound-lookup img k root u, e) in subst (λ (s : Refusal). Answers img bytes k (Err s)) four (bad-leaf root es A h u)
       image root es A h (inl r) (Err s) e = absurd (read-answers img k root r s e)
@@ -158,8 +158,8 @@ module _ (img bytes : List ℕ) (k : ℕ) where
   part-exact = go (preview_call img bytes k)
     where
       go : (a : Result (Option Shown) Refusal) → part_of img bytes a ≡ bytes_in (previewed img bytes a)
-      go (Ok (Some (InList (record { offset = o; length = n })))) = refl
-      go (Ok (Some (InImage (record { offset = o; length = n })))) = refl
+      go (Ok (Some (InList x))) = refl
+      go (Ok (Some (InImage x))) = refl
       go (Ok None) = refl
       go (Err r) = refl
 

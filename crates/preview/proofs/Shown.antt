@@ -37,8 +37,8 @@ use Rattle.preview.specs.Calls.{in_image, brings, seen_from, seen}
 
 -- the answer says that a table holds x for the key, and its part lies in its slice
 abbrev pub Shows : List ℕ → List ℕ → Option (List ℕ) → Result (Option Shown) Refusal → Type 0
-Shows img bytes x (Ok (Some (InList (record { offset = o; length = n })))) = (x ≡ Some (part bytes o n)) × (length (part bytes o n) ≡ n) × (o + n ≤ length bytes)
-Shows img bytes x (Ok (Some (InImage (record { offset = o; length = n })))) = (x ≡ Some (part img o n)) × (length (part img o n) ≡ n) × (o + n ≤ length img)
+Shows img bytes x (Ok (Some (InList f))) = (x ≡ Some (part bytes f.offset f.length)) × (length (part bytes f.offset f.length) ≡ f.length) × (f.offset + f.length ≤ length bytes)
+Shows img bytes x (Ok (Some (InImage f))) = (x ≡ Some (part img f.offset f.length)) × (length (part img f.offset f.length) ≡ f.length) × (f.offset + f.length ≤ length img)
 Shows img bytes x (Ok None) = x ≡ None
 Shows img bytes x (Err r) = ⊥
 
@@ -101,7 +101,7 @@ unfolding in_image
 leaf-shows img bytes k root r = rw (read-lookup img k root r) (go (found_in k (page_entries img (child_of r.belongs.own))) (read-tells img k root r _ refl))
   where
     go : (a : Result (Option Part) Refusal) → Told img k (read_records r) a → Shows img bytes (find k (read_records r)) (in_image a)
-    go (Ok (Some (record { offset = o; length = n }))) e = e
+    go (Ok (Some x)) e = e
     go (Ok None) e = e
     go (Err s) e = e
 
@@ -117,7 +117,7 @@ unfolding in_image
 image-shows img bytes h k = go (found_in k (listing img)) refl
   where
     go : (a : Result (Option Part) Refusal) → found_in k (listing img) ≡ a → Shows img bytes (find k (table img)) (in_image a)
-    go (Ok (Some (record { offset = o; length = n }))) e = lookup-found img h k o n e
+    go (Ok (Some x)) e = lookup-found img h k x.offset x.length e
     go (Ok None) e = lookup-missing img h k e
     go (Err r) e = lookup-answers img h k r e
 
@@ -129,14 +129,14 @@ sound-shows img bytes h k es r kept = shows-from img bytes k 0 (in_image (found_
 -- ---- the part lies in its slice
 
 abbrev pub Inside : List ℕ → List ℕ → Result (Option Shown) Refusal → Type 0
-Inside img bytes (Ok (Some (InList (record { offset = o; length = n })))) = o + n ≤ length bytes
-Inside img bytes (Ok (Some (InImage (record { offset = o; length = n })))) = o + n ≤ length img
+Inside img bytes (Ok (Some (InList x))) = x.offset + x.length ≤ length bytes
+Inside img bytes (Ok (Some (InImage x))) = x.offset + x.length ≤ length img
 Inside img bytes (Ok None) = Unit {0}
 Inside img bytes (Err r) = Unit {0}
 
 shows-inside : (img bytes : List ℕ) (x : Option (List ℕ)) (a : Result (Option Shown) Refusal) → Shows img bytes x a → Inside img bytes a
-shows-inside img bytes x (Ok (Some (InList (record { offset = o; length = n })))) s = s.2
-shows-inside img bytes x (Ok (Some (InImage (record { offset = o; length = n })))) s = s.2
+shows-inside img bytes x (Ok (Some (InList f))) s = s.2
+shows-inside img bytes x (Ok (Some (InImage f))) s = s.2
 shows-inside img bytes x (Ok None) s = tt
 shows-inside img bytes x (Err r) s = tt
 

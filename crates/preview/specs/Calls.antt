@@ -16,7 +16,7 @@ use Rattle.edit.specs.Keys.{Source, keys_from}
 
 -- where no edit has the key: what the leaf that it belongs to holds for it, or that leaf's 4, "last of all"
 unfoldable pub in_image : Result (Option Part) Refusal → Result (Option Shown) Refusal
-in_image (Ok (Some (record { offset = o; length = n }))) = Ok (Some (InImage (record { offset = o; length = n })))
+in_image (Ok (Some x)) = Ok (Some (InImage x))
 in_image (Ok None) = Ok None
 in_image (Err r) = Err r
 
@@ -62,8 +62,8 @@ preview_call img bytes k = opened_of img bytes k (index_call img)
 
 -- "hands back a part of the edit list or a part of the image"; "refused or missing, the part is empty"
 unfoldable pub part_of : List ℕ → List ℕ → Result (Option Shown) Refusal → List ℕ
-part_of img bytes (Ok (Some (InList (record { offset = o; length = n })))) = part bytes o n
-part_of img bytes (Ok (Some (InImage (record { offset = o; length = n })))) = part img o n
+part_of img bytes (Ok (Some (InList x))) = part bytes x.offset x.length
+part_of img bytes (Ok (Some (InImage x))) = part img x.offset x.length
 part_of img bytes (Ok None) = []
 part_of img bytes (Err r) = []
 

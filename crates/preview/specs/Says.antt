@@ -15,14 +15,14 @@ pub data Finding : Type 0 where
 
 -- a preview of the image with the list `bytes`
 unfoldable pub previewed : List ℕ → List ℕ → Result (Option Shown) Refusal → Finding
-previewed img bytes (Ok (Some (InList (record { offset = o; length = n })))) = value (part bytes o n)
-previewed img bytes (Ok (Some (InImage (record { offset = o; length = n })))) = value (part img o n)
+previewed img bytes (Ok (Some (InList x))) = value (part bytes x.offset x.length)
+previewed img bytes (Ok (Some (InImage x))) = value (part img x.offset x.length)
 previewed img bytes (Ok None) = nothing
 previewed img bytes (Err r) = refused r
 
 -- a lookup in the image
 unfoldable pub looked_up : List ℕ → Result (Option Part) Refusal → Finding
-looked_up img (Ok (Some (record { offset = o; length = n }))) = value (part img o n)
+looked_up img (Ok (Some x)) = value (part img x.offset x.length)
 looked_up img (Ok None) = nothing
 looked_up img (Err r) = refused r
 

@@ -28,12 +28,12 @@ counted_numbers (Err r) = []
 
 -- a lookup: 1, the value's offset and its length; or three zeros where the key is missing. A refusal writes nothing
 unfoldable pub lookup_number : Result (Option Part) Refusal → ℕ
-lookup_number (Ok (Some (record { offset = o; length = n }))) = 0
+lookup_number (Ok (Some x)) = 0
 lookup_number (Ok None) = 0
 lookup_number (Err r) = (number_in r)
 
 unfoldable pub lookup_numbers : Result (Option Part) Refusal → List ℕ
-lookup_numbers (Ok (Some (record { offset = o; length = n }))) = 1 ∷ o ∷ n ∷ []
+lookup_numbers (Ok (Some x)) = 1 ∷ x.offset ∷ x.length ∷ []
 lookup_numbers (Ok None) = 0 ∷ 0 ∷ 0 ∷ []
 lookup_numbers (Err r) = []
 
@@ -51,14 +51,14 @@ next_numbers (Err r) = []
 -- a preview: edit number, which slice has the value (1 the edit list, 2 the image, 0 where the key is missing), its offset there and its length; a refusal has its edit number
 -- and zeros
 unfoldable pub preview_number : Result (Option Shown) Refusal → ℕ
-preview_number (Ok (Some (InList (record { offset = o; length = n })))) = 0
-preview_number (Ok (Some (InImage (record { offset = o; length = n })))) = 0
+preview_number (Ok (Some (InList x))) = 0
+preview_number (Ok (Some (InImage x))) = 0
 preview_number (Ok None) = 0
 preview_number (Err r) = (number_in r)
 
 unfoldable pub preview_numbers : Result (Option Shown) Refusal → List ℕ
-preview_numbers (Ok (Some (InList (record { offset = o; length = n })))) = 0 ∷ 1 ∷ o ∷ n ∷ []
-preview_numbers (Ok (Some (InImage (record { offset = o; length = n })))) = 0 ∷ 2 ∷ o ∷ n ∷ []
+preview_numbers (Ok (Some (InList x))) = 0 ∷ 1 ∷ x.offset ∷ x.length ∷ []
+preview_numbers (Ok (Some (InImage x))) = 0 ∷ 2 ∷ x.offset ∷ x.length ∷ []
 preview_numbers (Ok None) = 0 ∷ 0 ∷ 0 ∷ 0 ∷ []
 preview_numbers (Err r) = r.edit ∷ 0 ∷ 0 ∷ 0 ∷ []
 

@@ -1,64 +1,50 @@
 -- `next_above`: the leaf that the number belongs to, and only if it has no larger key, the leaf that its range's end belongs to.
 -- Assumes nothing.
-use Rattle.std.specs.Prelude.{Err, None, Ok, Option, Result, Some}
-use borrow.Enum.Refused.{opened}
-use mathlib.Core.Path.{◌≡◌, refl, sym, ap, ◌∙◌}
-use mathlib.Core.Logic.{◌⊎◌, inl, inr}
-use native.Mathlib.Omega.{arith}
-use denote.Enum.Declared.{tag_of}
+use Rattle.std.specs.Prelude.{ℕ, ◌≡◌, Err, None, Ok, Option, Result, Some}
+use Rattle.std.proofs.lemmas.Result.{err_from_is_err_and}
+use mathlib.Core.Path.{sym, ap, ◌∙◌}
 use borrow.Author.Tests.{le-leb, lt-leb}
 use Rattle.device.specs.declared.Refusal.{Refusal}
 use Rattle.page.specs.Layout.{top_key}
 use Rattle.image.specs.Table.{or_else}
 use Rattle.image.specs.Calls.{leaf_next, next_after, next_from}
 use Rattle.image.specs.declared.Place.{Place}
-use Rattle.image.specs.contracts.Next.{the_type}
 use Rattle.image.proofs.CodeDescent.{leaf-fits}
 use Rattle.image.proofs.descent.next_above.Goals as goal
-use Rattle.image.proofs.descent.next_above.Goals.{After-next_at-here, In-Last}
-
-pub next_at-here-requires : goal.next_at-here-requires
-next_at-here-requires c = (c.requires, leaf-fits c.args.image.now c.args.root c.requires c.args.key _ c.leaf_for-leaf.ensures)
-
--- the whole answer, by the leaf's
-either : (c : After-next_at-here) →
-    let a = c.args in
-    next_from a.image.now a.key (Ok a.root) ≡ or_else c.next_at-here.result (next_after a.image.now a.root a.key c.leaf_for-leaf.result)
-unfolding next_from
-either c =
-    let a = c.args in
-    ap (λ (p : Place). or_else (leaf_next a.image.now a.root a.key p) (next_after a.image.now a.root a.key p)) (sym c.leaf_for-leaf.ensures)
-    ∙ ap (λ (x : Result (Option ℕ) Refusal). or_else x (next_after a.image.now a.root a.key c.leaf_for-leaf.result)) (sym c.next_at-here.ensures)
-
--- what is not `Last`, by its tag
-not_last : (x y : Result (Option ℕ) Refusal) → (tag_of the_type x ≡ 0) ⊎ (tag_of the_type x ≡ 2) → x ≡ or_else x y
-not_last (Ok (Some j)) y h = refl
-not_last (Ok None) y (inl h) = absurd (omega arith)
-not_last (Ok None) y (inr h) = absurd (omega arith)
-not_last (Err r) y h = refl
-
--- where it has none
-after : (c : In-Last) →
-    (next_from c.args.image.now c.args.key (Ok c.args.root) ≡ or_else c.next_at-here.result (next_after c.args.image.now c.args.root c.args.key c.leaf_for-leaf.result)) → let a = c.args in
-    next_from a.image.now a.key (Ok a.root) ≡ next_after a.image.now a.root a.key c.leaf_for-leaf.result
-after c either =
-    let a = c.args in
-    either ∙ ap (λ (x : Result (Option ℕ) Refusal). or_else x (next_after a.image.now a.root a.key c.leaf_for-leaf.result)) c.in-Last.is
-
-pub returns-in_default : goal.returns-in_default
-returns-in_default c = not_last c.next_at-here.result _ (opened c.in_default.in_default-own.keys2) ∙ sym (either (goal.at.returns-in_default c).After-next_at-here)
-
-pub returns-then-leaf-gt-TOP_KEY : goal.returns-then-leaf-gt-TOP_KEY
-unfolding next_after
-returns-then-leaf-gt-TOP_KEY c = sym (after (goal.at.returns-then-leaf-gt-TOP_KEY c).In-Last (either (goal.at.returns-then-leaf-gt-TOP_KEY c).After-next_at-here) ∙ rw (lt-leb _ top_key c.if-leaf-gt-TOP_KEY.true))
+use Rattle.image.proofs.descent.next_above.Goals.{After-next_at}
 
 pub next_at-requires : goal.next_at-requires
-next_at-requires c = (c.requires, leaf-fits c.args.image.now c.args.root c.requires _ _ c.leaf_for.ensures)
+next_at-requires c = (c.requires, leaf-fits c.args.image.now c.args.root c.requires c.args.key _ c.leaf_for-leaf.ensures)
 
-pub returns : goal.returns
-unfolding next_after
-returns c =
+-- the whole answer, by the leaf's
+either : (c : After-next_at) (x : Result (Option ℕ) Refusal) → c.next_at.result ≡ x →
     let a = c.args in
-    c.next_at.ensures
+    next_from a.image.now a.key (Ok a.root) ≡ or_else x (next_after a.image.now a.root a.key c.leaf_for-leaf.result)
+unfolding next_from
+either c x is =
+    let a = c.args in
+    ap (λ (p : Place). or_else (leaf_next a.image.now a.root a.key p) (next_after a.image.now a.root a.key p)) (sym c.leaf_for-leaf.ensures)
+    ∙ ap (λ (y : Result (Option ℕ) Refusal). or_else y (next_after a.image.now a.root a.key c.leaf_for-leaf.result)) (sym c.next_at.ensures ∙ is)
+
+pub returns-in_err-next : goal.returns-in_err-next
+returns-in_err-next c =
+    let p = err_from_is_err_and c.from_residual.result c.from_residual.ensures.1 in
+    rw (p.1, p.2) (sym (either (goal.at.returns-in_err-next c).After-next_at _ c.in_err-next.was))
+
+pub returns-in-Some : goal.returns-in-Some
+returns-in-Some c = sym (either (goal.at.returns-in-Some c).After-next_at _ (c.in_ok-next.was ∙ ap Ok c.in-Some.is))
+
+pub returns-in-None : goal.returns-in-None
+unfolding next_after
+returns-in-None c = sym (either (goal.at.returns-in-None c).After-next_at _ (c.in_ok-next.was ∙ ap Ok c.in-None.is) ∙ rw (lt-leb _ top_key c.if-leaf-gt-TOP_KEY.true))
+
+pub next_at-requires-in-None-2 : goal.next_at-requires-in-None-2
+next_at-requires-in-None-2 c = (c.requires, leaf-fits c.args.image.now c.args.root c.requires _ _ c.leaf_for.ensures)
+
+pub returns-in-None-2 : goal.returns-in-None-2
+unfolding next_after
+returns-in-None-2 c =
+    let a = c.args in
+    c.next_at-in-None-2.ensures
     ∙ ap (leaf_next a.image.now a.root a.key) c.leaf_for.ensures
-    ∙ sym (after (goal.at.returns c).In-Last (either (goal.at.returns c).After-next_at-here) ∙ rw (le-leb _ top_key c.if-leaf-gt-TOP_KEY.false))
+    ∙ sym (either (goal.at.returns-in-None-2 c).After-next_at _ (c.in_ok-next.was ∙ ap Ok c.in-None.is) ∙ rw (le-leb _ top_key c.if-leaf-gt-TOP_KEY.false))

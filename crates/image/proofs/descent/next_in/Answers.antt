@@ -23,19 +23,19 @@ sought c s e =
 pub key_at-requires : goal.key_at-requires
 key_at-requires c =
     let a = c.args in
-    (c.requires.0, (above_at a.key (records a.page.now) (rec_of 0 []) c.in-At.i (sought (goal.at.key_at-requires c).After-find _ c.in-At.is)).0)
+    (c.requires.0, (above_at a.key (records a.page.now) (rec_of 0 []) c.in-Ok.i (sought (goal.at.key_at-requires c).After-find _ c.in-Ok.is)).0)
 
 pub returns-then-i-count : goal.returns-then-i-count
 returns-then-i-count c =
     let a = c.args in
-    ap Ok (Some c.key_at-then-i-count.ensures) ∙ sym (above-missing a.key (records a.page.now) (rec_of 0 []) c.in-Missing.i (sought (goal.at.returns-then-i-count c).After-find _ c.in-Missing.is) (omega (arith, c.count.ensures, c.if-i-count.true)))
+    ap (λ (k : ℕ). Ok (Some k)) c.key_at-then-i-count.ensures ∙ sym (above-missing a.key (records a.page.now) (rec_of 0 []) c.in-Err.i (sought (goal.at.returns-then-i-count c).After-find _ c.in-Err.is) (omega (arith, c.count.ensures, c.if-i-count.true)))
 
-pub returns-in-At : goal.returns-in-At
-returns-in-At c =
+pub returns-in-Ok : goal.returns-in-Ok
+returns-in-Ok c =
     let a = c.args in
-    ap Ok (Some c.key_at.ensures) ∙ sym (above_at a.key (records a.page.now) (rec_of 0 []) c.in-At.i (sought (goal.at.returns-in-At c).After-find _ c.in-At.is)).1
+    ap (λ (k : ℕ). Ok (Some k)) c.key_at.ensures ∙ sym (above_at a.key (records a.page.now) (rec_of 0 []) c.in-Ok.i (sought (goal.at.returns-in-Ok c).After-find _ c.in-Ok.is)).1
 
 pub returns-else-i-count : goal.returns-else-i-count
 returns-else-i-count c =
     let a = c.args in
-    sym (above-end a.key (records a.page.now) (rec_of 0 []) c.in-Missing.i (sought (goal.at.returns-else-i-count c).After-find _ c.in-Missing.is) (omega (arith, c.count.ensures, c.if-i-count.false)))
+    sym (above-end a.key (records a.page.now) (rec_of 0 []) c.in-Err.i (sought (goal.at.returns-else-i-count c).After-find _ c.in-Err.is) (omega (arith, c.count.ensures, c.if-i-count.false)))

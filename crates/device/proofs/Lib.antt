@@ -4,6 +4,7 @@ pub mod Decode
 pub mod Encode
 pub mod Counts
 pub mod Turns
+pub mod Causes
 pub mod Calls
 pub mod Cuts
 pub mod Lines

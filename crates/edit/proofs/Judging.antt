@@ -1,6 +1,6 @@
 -- The laws that the judge of the edit list cites: one edit's fault read at its place in the list, and one edit more judged.
 -- Assumes nothing.
-use Rattle.std.specs.Prelude.{Err, Ok}
+use Rattle.std.specs.Prelude.{Option, Some, None, Err, Ok}
 use Prim.Native.Nat.{ℕ, zero, suc, ◌+◌, ◌-◌, ◌≤◌, ◌<◌}
 use mathlib.Core.Path.{◌≡◌, refl, sym, ap, ◌∙◌}
 use mathlib.Core.Bool.{Bool, true, false, ◌&&◌, ◌||◌}
@@ -11,16 +11,17 @@ use native.Mathlib.Nat.{add-zero}
 use lib.ListN.{length, get_or, drop, length-drop, drop_of_length-le}
 use lib.Seq.{drop-drop, drop-cons, get_or-drop}
 use lib.Dec.{ltb, eqb}
-use borrow.Author.Tests.{lt-ltb, le-ltb, eq-eqb, ne_eqb}
-use Rattle.device.specs.Calls.{number_in, refusal_at}
+use borrow.Author.Tests.{lt-ltb, le-ltb, eq-eqb, ne_eqb, eqb-true, eqb-false}
+use Rattle.device.specs.Calls.{cause_of, refusal_at}
 use Rattle.codec.specs.Lists.{pick, part}
 use Rattle.codec.specs.Numbers.{number}
 use Rattle.codec.proofs.Lists.{part-drop}
+use Rattle.device.specs.declared.Cause.{Cause}
 use Rattle.device.specs.declared.Refusal.{Refusal}
 use Rattle.page.specs.Layout.{value_most}
 use Rattle.image.specs.Calls.{key_ok}
 use Rattle.edit.specs.EditList.{Edit, edits_most, head_size, kind_in, length_in, key_in, edit_in, fault_in, Listed, joined, edits_in, edit_list, listed, faulty, edits_of}
-use Rattle.edit.specs.Judged.{judged_of}
+use Rattle.edit.specs.Judged.{cause_named, judged_of}
 use Rattle.edit.proofs.Reading.{faultless}
 
 -- ---- one edit, at its place in the list
@@ -137,7 +138,23 @@ unfolding judged_of
 good-listed (listed es) e = refl
 good-listed (faulty k i) e = let z : ◌≡◌ {A = ℕ} 0 1 = cc in absurd (omega arith)
 
-pub faulty-listed : (l : Listed) (r : Refusal) → judged_of l ≡ Err r → l ≡ faulty (number_in r) r.edit
+pub faulty-listed : (l : Listed) (r : Refusal) → judged_of l ≡ Err r → (k : ℕ) × (i : ℕ) × (l ≡ faulty k i) × (refusal_at k i ≡ r)
 unfolding judged_of
 faulty-listed (listed es) r e = let z : ◌≡◌ {A = ℕ} 0 1 = cc in absurd (omega arith)
-faulty-listed (faulty k i) r e = let z : (refusal_at k i) ≡ r = cc in ap (λ (x : Refusal). faulty x.number x.edit) z
+faulty-listed (faulty k i) r e = (k, i, refl, cc)
+
+-- ---- what names a cause
+
+pub none-named : (k : ℕ) → ◌≡◌ {A = Option Cause} None (cause_named k) → k ≡ 0
+none-named k e = go (eqb k 0) refl e
+  where
+    go : (t : Bool) → eqb k 0 ≡ t → ◌≡◌ {A = Option Cause} None (pick t None (Some (cause_of k))) → k ≡ 0
+    go true q f = eqb-true k 0 q
+    go false q f = let z : ◌≡◌ {A = ℕ} 0 1 = cc in absurd (omega arith)
+
+pub some-named : (k : ℕ) (cause : Cause) → ◌≡◌ {A = Option Cause} (Some cause) (cause_named k) → (k ≡ 0 → ⊥) × (cause_of k ≡ cause)
+some-named k cause e = go (eqb k 0) refl e
+  where
+    go : (t : Bool) → eqb k 0 ≡ t → ◌≡◌ {A = Option Cause} (Some cause) (pick t None (Some (cause_of k))) → (k ≡ 0 → ⊥) × (cause_of k ≡ cause)
+    go true q f = let z : ◌≡◌ {A = ℕ} 0 1 = cc in absurd (omega arith)
+    go false q f = (eqb-false k 0 q, cc)

@@ -10,7 +10,7 @@ use native.Mathlib.Omega.{arith}
 use lib.ListN.{length}
 use lib.Dec.{eqb}
 use borrow.Author.Tests.{ne_eqb, eqb-true, eqb-false}
-use Rattle.device.specs.Calls.{Answer, number_in, refusal_at}
+use Rattle.device.specs.Calls.{cause_number, cause_of, Answer, number_in, refusal_at}
 use Rattle.codec.specs.Lists.{pick, All}
 use Rattle.codec.proofs.Tests.{All-map}
 use Rattle.device.specs.declared.Refusal.{Refusal}
@@ -68,6 +68,12 @@ broken-rule _ _ _ (present k v t h) = rw (found-holds k t h)
 broken-rule _ _ _ (no-update k v t h) = rw (missing-holds k t h)
 broken-rule _ _ _ (no-delete k t h) = rw (missing-holds k t h)
 
+-- its number is that of a cause
+broken-caused : (e : Edit) (t : List Rec) (n : ℕ) → Broken e t n → cause_number (cause_of n) ≡ n
+broken-caused _ _ _ (present k v t h) = refl
+broken-caused _ _ _ (no-update k v t h) = refl
+broken-caused _ _ _ (no-delete k t h) = refl
+
 -- 8 or 9, and no other number
 pub broken-number : (e : Edit) (t : List Rec) (n : ℕ) → Broken e t n → (n ≡ 8 → ⊥) → (n ≡ 9 → ⊥) → ⊥
 broken-number _ _ _ (present k v t h) x y = x refl
@@ -103,7 +109,7 @@ module _ (i : ℕ) (e : Edit) where
 
   -- what the answer says of what is read
   abbrev pub FaultSays : Option (List Rec) → Answer → Type 0
-  FaultSays o (Ok tt) = KeptIn e o
+  FaultSays o (Ok done) = KeptIn e o
   FaultSays o (Err r) = FaultIn e i o (number_in r) r.edit
 
   pub fault-says : (o : Option (List Rec)) → FaultSays o (key_fault i e o)
@@ -113,7 +119,7 @@ module _ (i : ℕ) (e : Edit) where
     where
       go : (n : ℕ) → Ruled e t n → FaultSays (Some t) (pick (eqb n 0) (Ok tt) (Err (refusal_at n i)))
       go _ (kept h) = h
-      go _ (broken n b) = rw (ne_eqb n 0 (broken-some e t n b)) (rule t n b)
+      go _ (broken n b) = rw (ne_eqb n 0 (broken-some e t n b)) (subst (λ (m : ℕ). FaultIn e i (Some t) m i) (sym (broken-caused e t n b)) (rule t n b))
 
 -- ---- a list of edits
 
@@ -129,7 +135,7 @@ kept-keys i (e ∷ es) s h = rw (kept-fault i e (s (key_of e)) h.0) (kept-keys (
 
 -- what the answer says of the edits es, the first of which is edit i
 abbrev KeysSay : ℕ → List Edit → Source → Answer → Type 0
-KeysSay i es s (Ok tt) = AllKeptBy es s
+KeysSay i es s (Ok done) = AllKeptBy es s
 KeysSay i es s (Err r) = FirstFault i es s (number_in r) r.edit
 
 fault-at-once : (i : ℕ) (e : Edit) (es : List Edit) (s : Source) (n j : ℕ) → FaultIn e i (s (key_of e)) n j → FirstFault i (e ∷ es) s n j
@@ -156,8 +162,8 @@ keys-say i [] s = tt
 keys-say i (e ∷ es) s = go (key_fault i e (s (key_of e))) (fault-says i e (s (key_of e))) (keys_from (suc i) es (made e s)) (keys-say (suc i) es (made e s))
   where
     go : (a : Answer) → FaultSays i e (s (key_of e)) a → (b : Answer) → KeysSay (suc i) es (made e s) b → KeysSay i (e ∷ es) s (or_fault a b)
-    go (Ok tt) h (Ok tt) g = (h, g)
-    go (Ok tt) h (Err r) g = fault-after i e es s (number_in r) r.edit h g
+    go (Ok done) h (Ok also) g = (h, g)
+    go (Ok done) h (Err r) g = fault-after i e es s (number_in r) r.edit h g
     go (Err r) h b g = fault-at-once i e es s (number_in r) r.edit h
 
 module _ (es : List Edit) (s : Source) where
@@ -237,7 +243,7 @@ broken-later es fs t h n i f =
     let u = apply_edits es t in
     let on = ap (keys_from m fs) (sym (all_made es t)) ∙ sym (kept-before 0 es fs (wholly t) h) ∙ fault-keys (es ++ fs) (wholly t) n i f in
     let g = subst (KeysSay m fs (wholly u)) on (keys-say m fs (wholly u)) in
-    omega (arith, (table-broken m fs u n i g).0)
+    omega (arith, (table-broken m fs u _ _ g).0)
 
 -- ---- what the table holds after an edit whose rule is kept
 
@@ -314,6 +320,6 @@ keys-same i (e ∷ es) s t h =
     go : (a : Answer) → FaultSays i e (s (key_of e)) a → (b : Answer) → FaultSays i e (t (key_of e)) b → a ≡ b → All (Alike s t) (on_if_good a (keys_read (suc i) es (made e s))) →
         (All (Alike (made e s) (made e t)) (keys_read (suc i) es (made e s)) → keys_from (suc i) es (made e s) ≡ keys_from (suc i) es (made e t)) →
         or_fault a (keys_from (suc i) es (made e s)) ≡ or_fault b (keys_from (suc i) es (made e t))
-    go (Ok tt) k (Ok tt) l same rest on = on (All-map (Alike s t) (Alike (made e s) (made e t)) (λ j. made-same e s t k l j) (keys_read (suc i) es (made e s)) rest)
-    go (Ok tt) k (Err q) l same rest on = let z : ◌≡◌ {A = ℕ} 0 1 = cc in absurd (omega arith)
+    go (Ok done) k (Ok also) l same rest on = on (All-map (Alike s t) (Alike (made e s) (made e t)) (λ j. made-same e s t k l j) (keys_read (suc i) es (made e s)) rest)
+    go (Ok done) k (Err q) l same rest on = let z : ◌≡◌ {A = ℕ} 0 1 = cc in absurd (omega arith)
     go (Err r) k b l same rest on = ap (λ (x : Answer). or_fault x (keys_from (suc i) es (made e t))) same

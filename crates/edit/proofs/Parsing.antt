@@ -10,7 +10,6 @@ use native.Mathlib.Nat.{not-suc-le-zero}
 use lib.ListN.{length, drop}
 use lib.Dec.{eqb}
 use borrow.Author.Tests.{eqb-true, eqb-false, eq-eqb, ne_eqb}
-use Rattle.device.specs.Calls.{number_in}
 use Rattle.codec.specs.Lists.{pick, All}
 use Rattle.edit.specs.EditList.{Edit, edits_most, head_size, edit_bytes, length_in, edit_in, fault_in, Listed, listed, faulty, joined, edits_in, edit_list}
 use Rattle.edit.specs.Reads.{Bytes, edit_value, Proper, Filled, Faultless, Fault, Reads, list_bytes, Whole, Stops, FirstFault, ListFault}
@@ -147,7 +146,7 @@ first-fault (suc n) i (b ∷ t) k j q = go (eqb (fault_in u) 0) refl (edits_in n
           before = edit_in u ∷ r.before;
           rest = r.rest;
           reads = (faultless u (eqb-true (fault_in u) 0 c), refl, r.reads);
-          number = omega (arith, (number_in r));
+          number = omega (arith, r.number);
           some = r.some;
           why = further (length r.before) r.rest r.why;
         }

@@ -54,7 +54,7 @@ key_fault i e (Some t) = pick (eqb (key_rule e t) 0) (Ok tt) (Err ((refusal_at (
 
 -- the first, or where it is good the second
 abbrev pub or_fault : Answer → Answer → Answer
-or_fault (Ok tt) rest = rest
+or_fault (Ok done) rest = rest
 or_fault (Err r) rest = Err r
 
 -- "Then edit by edit": the first of the edits es that is refused; the first of them is edit i
@@ -64,7 +64,7 @@ keys_from i (e ∷ es) s = or_fault (key_fault i e (s (key_of e))) (keys_from (s
 
 -- the keys that are looked for on the way: those of the edits up to the first that is refused
 abbrev pub on_if_good : Answer → List ℕ → List ℕ
-on_if_good (Ok tt) ks = ks
+on_if_good (Ok done) ks = ks
 on_if_good (Err r) ks = []
 
 unfoldable pub keys_read : ℕ → List Edit → Source → List ℕ

@@ -5,16 +5,9 @@ ghost use Rattle.std.specs.Prelude.{◌≡◌, ◌&&◌, ◌||◌, ◌≤◌, eq
 ghost use Rattle.codec.specs.Lists.{pick};
 ghost use Rattle.image.specs.Calls.{key_ok};
 ghost use Rattle.edit.specs.EditList.{fault_in, edit_list};
-ghost use Rattle.edit.specs.Judged.{judged_of};
+ghost use Rattle.edit.specs.Judged.{cause_named, judged_of};
 
-use device::Refusal;
-
-// What the whole list is: well formed, or refused for its first faulty edit.
-#[derive(Clone, Copy)]
-pub enum Judged {
-    Good,
-    Faulty(Refusal),
-}
+use device::{Cause, Refusal};
 
 // Whether the kind is unknown, or a delete has a length.
 fn bad_head(kind: u8, n: usize) -> bool
@@ -35,73 +28,66 @@ fn is_empty(kind: u8, n: usize) -> bool
     kind < 3 && n == 0
 }
 
-// The fault of a key, or 0.
-fn key_fault(key: u64) -> u8
-    ensures { result ≡ pick (key_ok key) 0 6 }
+// The fault of a key, if it has one.
+fn key_fault(key: u64) -> Option<Cause>
+    ensures { result ≡ cause_named (pick (key_ok key) 0 6) }
 {
     if key < 1 {
-        return Refusal::KEY_RANGE;
+        return Some(Cause::KeyRange);
     }
     if 999999999999 < key {
-        return Refusal::KEY_RANGE;
+        return Some(Cause::KeyRange);
     }
-    0
+    None
 }
 
-// Why the edit at `at` refuses the list, or 0.
-pub fn fault_at(list: &[u8], at: usize) -> u8
+// Why the edit at `at` refuses the list, if it does.
+pub fn fault_at(list: &[u8], at: usize) -> Option<Cause>
     requires { at ≤ length list.now }
-    ensures { result ≡ fault_in (drop at list.now) }
+    ensures { result ≡ cause_named (fault_in (drop at list.now)) }
 {
     let left = list.len() - at;
     if left < 10 {
-        return Refusal::BAD_LIST;
+        return Some(Cause::BadList);
     }
     let n = codec::wide(list[at + 1]);
     if bad_head(list[at], n) {
-        return Refusal::BAD_LIST;
+        return Some(Cause::BadList);
     }
     let whole = 10 + n;
     if 200 < n {
-        return Refusal::LONG_VALUE;
+        return Some(Cause::LongValue);
     }
     if is_empty(list[at], n) {
-        return Refusal::EMPTY_VALUE;
+        return Some(Cause::EmptyValue);
     }
     if left < whole {
-        return Refusal::BAD_LIST;
+        return Some(Cause::BadList);
     }
     key_fault(codec::long_at(list, at + 2))
 }
 
 // Judges the whole list, edit by edit; any byte after sixteen good edits is a seventeenth.
-pub fn judge(list: &[u8]) -> Judged
+pub fn judge(list: &[u8]) -> Result<(), Refusal>
     ensures { result ≡ judged_of (edit_list list.now) }
 {
     if list.len() == 0 {
-        return Judged::Faulty(Refusal {
-            number: Refusal::BAD_LIST,
-            edit: 0,
-        });
+        return Err(Refusal::of(Cause::BadList));
     }
     let mut at = 0;
     let mut edit: u8 = 0;
     while at < list.len() {
         if 15 < edit {
-            return Judged::Faulty(Refusal {
-                number: Refusal::BAD_LIST,
+            return Err(Refusal {
+                cause: Cause::BadList,
                 edit,
             });
         }
-        let fault = fault_at(list, at);
-        if fault != 0 {
-            return Judged::Faulty(Refusal {
-                number: fault,
-                edit,
-            });
+        if let Some(cause) = fault_at(list, at) {
+            return Err(Refusal { cause, edit });
         }
         at = at + 10 + codec::wide(list[at + 1]);
         edit = edit + 1;
     }
-    Judged::Good
+    Ok(())
 }

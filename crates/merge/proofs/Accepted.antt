@@ -173,7 +173,7 @@ module _ (out out' : List ℕ) where
 
   checked-alike : (c : Answer) (r s : Ran) → Alike r s → Alike (if_checked c out r) (if_checked c out' s)
   unfolding if_checked
-  checked-alike (Ok tt) r s h = h
+  checked-alike (Ok done) r s h = h
   checked-alike (Err k) r s h = (refl, λ e. absurd (not-accepted _ e))
 
   store-alike : length out' ≡ length out → (ls : List (List Rec)) → Alike (store_leaves ls out) (store_leaves ls out')

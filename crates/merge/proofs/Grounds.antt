@@ -128,5 +128,5 @@ module _ (a b out : List ℕ) where
       go : (s : Bool) → is_image_size (length out) ≡ s → (c : Answer) → check_call a ≡ c → (d : Answer) → check_call b ≡ d → MergeSays a b out (merge_call a b out)
       go false size c one d two = told _ (bad-buffer size)
       go true size (Err r) one d two = told _ (bad-first size r one)
-      go true size (Ok tt) one (Err r) two = told _ (bad-second size one r two)
-      go true size (Ok tt) one (Ok tt) two = begun-says (record { size = size; first = one; second = two }) (apart (table a) (table b)) refl
+      go true size (Ok done) one (Err r) two = told _ (bad-second size one r two)
+      go true size (Ok done) one (Ok also) two = begun-says (record { size = size; first = one; second = two }) (apart (table a) (table b)) refl

@@ -23,7 +23,7 @@ merge_tables t u out = unless (apart t u) key_in_both out (store_leaves (leaves_
 
 -- check's refusals, "each leaving the third buffer unchanged"
 unfoldable pub if_checked : Answer → List ℕ → Ran → Ran
-if_checked (Ok tt) out ran = ran
+if_checked (Ok done) out ran = ran
 if_checked (Err r) out ran = record { answer = Err r; work = out }
 
 -- "Refused: 1 for the third buffer, check's for the first image, check's for the second, 20 if a key is in both, 10, then 11"

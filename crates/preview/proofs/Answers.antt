@@ -1,6 +1,7 @@
 -- What the preview call answers: each refusal where its ground is the first that holds, else the part that the last edit of the key decides. On a sound image that is
 -- exactly what the ledger's table after the list holds.
 -- Assumes nothing.
+use Rattle.device.proofs.Causes.{refusal-numbered}
 use Rattle.std.specs.Prelude.{Err, None, Ok, Option, Result, Some}
 use Prim.Native.Nat.{ℕ, ◌≤◌}
 use mathlib.Core.Path.{◌≡◌, refl, sym, ap, ◌∙◌, subst}
@@ -8,9 +9,9 @@ use mathlib.Core.Logic.{◌⊎◌, inl, inr}
 use mathlib.Core.Bool.{Bool, true, false}
 use mathlib.Core.List.{List, [], ◌∷◌}
 use lib.ListN.{length}
-use Rattle.preview.specs.declared.Shown.{Shown}
+use Rattle.preview.specs.declared.Preview.{Preview}
 use Rattle.image.specs.declared.Part.{Part}
-use Rattle.preview.specs.declared.Shown.TheVariants.{InImage, InList}
+use Rattle.preview.specs.declared.Preview.TheVariants.{InImage, InList}
 use Rattle.codec.specs.Lists.{pick, All}
 use Rattle.device.specs.Calls.{refusal, Answer, number_in, refusal_at}
 use Rattle.device.specs.declared.Refusal.{Refusal}
@@ -44,14 +45,14 @@ all_of P f [] = tt
 all_of P f (x ∷ l) = (f x, all_of P f l)
 
 -- the part of an answer, if it is one of the list, is not empty
-abbrev FilledPart : Result (Option Shown) Refusal → Type 0
+abbrev FilledPart : Result (Option Preview) Refusal → Type 0
 FilledPart (Ok (Some (InList x))) = 1 ≤ x.length
 FilledPart (Ok (Some (InImage x))) = Unit {0}
 FilledPart (Ok None) = Unit {0}
 FilledPart (Err r) = Unit {0}
 
 -- an answer that shows what is held comes to it
-shows-held : (img bytes : List ℕ) (a : Result (Option Shown) Refusal) (x : Option (List ℕ)) → Shows img bytes x a → previewed img bytes a ≡ held x
+shows-held : (img bytes : List ℕ) (a : Result (Option Preview) Refusal) (x : Option (List ℕ)) → Shows img bytes x a → previewed img bytes a ≡ held x
 unfolding previewed held
 shows-held img bytes (Ok (Some (InList f))) x s = sym (ap held s.0)
 shows-held img bytes (Ok (Some (InImage f))) x s = sym (ap held s.0)
@@ -115,8 +116,9 @@ module _ (img bytes : List ℕ) (k : ℕ) where
 
       keys : (root : ℕ) → Opened img root → (es : List Edit) → Whole bytes es → 1 ≤ k → k ≤ 999999999999 → (j : Answer) → keys_from 0 es (records_for img root) ≡ j →
           Answers img bytes k (rules_of (seen (leaf_lookup img root k) k es) j)
-      keys root o es w low high (Err r) e = bad-edit root o es w low high (number_in r) r.edit (keys-fault es (records_for img root) r e)
-      keys root o es w low high (Ok tt) e = shown root es (record { opened = o; whole = w; low = low; high = high; kept = keys_kept es (records_for img root) e }) (last-or-none k es)
+      keys root o es w low high (Err r) e =
+          subst (λ (x : Refusal). Answers img bytes k (Err x)) (refusal-numbered r) (bad-edit root o es w low high (number_in r) r.edit (keys-fault es (records_for img root) r e))
+      keys root o es w low high (Ok done) e = shown root es (record { opened = o; whole = w; low = low; high = high; kept = keys_kept es (records_for img root) e }) (last-or-none k es)
 
       key : (root : ℕ) → Opened img root → (es : List Edit) → Whole bytes es → (b : Bool) → key_ok k ≡ b →
           Answers img bytes k (pick b (rules_of (seen (leaf_lookup img root k) k es) (keys_from 0 es (records_for img root))) (Err (refusal 6)))
@@ -132,7 +134,7 @@ module _ (img bytes : List ℕ) (k : ℕ) where
       opening (Ok root) o = list root o (edit_list bytes) refl
 
   -- and each case excludes the others: it is the answer where it holds
-  pub answers-preview : (a : Result (Option Shown) Refusal) → Answers img bytes k a → preview_call img bytes k ≡ a
+  pub answers-preview : (a : Result (Option Preview) Refusal) → Answers img bytes k a → preview_call img bytes k ≡ a
   unfolding preview_call opened_of list_of keys_of rules_of in_image brings
   answers-preview _ (bad-image r n) = rw (not-opened-call img r n)
   answers-preview _ (bad-list root o n i f) = rw (opened-call img root o, fault-list bytes n i f)
@@ -157,20 +159,20 @@ module _ (img bytes : List ℕ) (k : ℕ) where
   unfolding preview_value_call part_of previewed bytes_in
   part-exact = go (preview_call img bytes k)
     where
-      go : (a : Result (Option Shown) Refusal) → part_of img bytes a ≡ bytes_in (previewed img bytes a)
+      go : (a : Result (Option Preview) Refusal) → part_of img bytes a ≡ bytes_in (previewed img bytes a)
       go (Ok (Some (InList x))) = refl
       go (Ok (Some (InImage x))) = refl
       go (Ok None) = refl
       go (Err r) = refl
 
   -- the part of an answer lies in its slice
-  pub preview-inside : (a : Result (Option Shown) Refusal) → preview_call img bytes k ≡ a → Inside img bytes a
+  pub preview-inside : (a : Result (Option Preview) Refusal) → preview_call img bytes k ≡ a → Inside img bytes a
   unfolding preview_call opened_of list_of keys_of rules_of
   preview-inside a e = subst (Inside img bytes) e (opening (index_call img) (opening-says img))
     where
-      rules : (x : Result (Option Shown) Refusal) → Inside img bytes x → (j : Answer) → Inside img bytes (rules_of x j)
+      rules : (x : Result (Option Preview) Refusal) → Inside img bytes x → (j : Answer) → Inside img bytes (rules_of x j)
       rules x h (Err r) = tt
-      rules x h (Ok tt) = h
+      rules x h (Ok done) = h
 
       list : (root : ℕ) → Opened img root → (l : Listed) → edit_list bytes ≡ l → Inside img bytes (list_of (records_for img root) (leaf_lookup img root k) k l)
       list root o (faulty n i) e = tt
@@ -190,7 +192,7 @@ module _ (img bytes : List ℕ) (k : ℕ) where
       last : (es : List Edit) → Whole bytes es → (l : LastEdit k es) → Filled l.edit
       last es w l = All-middle Filled l.before l.edit l.later (subst (All Filled) l.shape (reads-filled bytes es [] w.reads))
 
-      go : (a : Result (Option Shown) Refusal) → Answers img bytes k a → FilledPart a
+      go : (a : Result (Option Preview) Refusal) → Answers img bytes k a → FilledPart a
       go _ (bad-image r n) = tt
       go _ (bad-list root o n i f) = tt
       go _ (bad-key root o es w q) = tt
@@ -237,10 +239,10 @@ module _ (img bytes : List ℕ) (h : sound img ≡ true) where
     refused-broken r q = go (keys_from 0 es (wholly (table img))) refl
       where
         go : (j : Answer) → keys_from 0 es (wholly (table img)) ≡ j → FirstBroken es (table img) (number_in r) r.edit
-        go (Ok tt) e = absurd (subst (Shows img bytes (find k (apply_edits es (table img)))) q (shows (keys_kept es (wholly (table img)) e)))
+        go (Ok done) e = absurd (subst (Shows img bytes (find k (apply_edits es (table img)))) q (shows (keys_kept es (wholly (table img)) e)))
         go (Err s) e =
             let same : s ≡ r = cc (by-rules (Err s) e, q) in
-            subst (λ (x : Refusal). FirstBroken es (table img) x.number x.edit) same (keys-fault es (wholly (table img)) s e)
+            subst (λ (x : Refusal). FirstBroken es (table img) (number_in x) x.edit) same (keys-fault es (wholly (table img)) s e)
 
     pub broken-refused : (n i : ℕ) → FirstBroken es (table img) n i → preview_call img bytes k ≡ Err (refusal_at n i)
     unfolding rules_of

@@ -5,10 +5,10 @@ use Prim.Native.Nat.{ℕ}
 use mathlib.Core.Path.{◌≡◌, refl, ap, ap₂, ◌∙◌}
 use mathlib.Core.List.{List, [], ◌∷◌, map}
 use Rattle.device.specs.Calls.{refusal_at}
-use Rattle.preview.specs.declared.Shown.{Shown}
+use Rattle.preview.specs.declared.Preview.{Preview}
 use Rattle.device.specs.declared.Refusal.{Refusal}
 use Rattle.image.specs.declared.Part.{Part}
-use Rattle.preview.specs.declared.Shown.TheVariants.{InList}
+use Rattle.preview.specs.declared.Preview.TheVariants.{InList}
 use Rattle.codec.specs.Lists.{part}
 use Rattle.codec.specs.Numbers.{number, bytes_of}
 use Rattle.page.specs.Layout.{Rec}
@@ -28,9 +28,9 @@ use Rattle.preview.proofs.Answers.{preview-sound}
 pub record Row : Type 0 where
   pub edits : List Edit
   pub key : ℕ
-  pub answer : Result (Option Shown) Refusal
+  pub answer : Result (Option Preview) Refusal
 
-abbrev pub given : Row → Result (Option Shown) Refusal
+abbrev pub given : Row → Result (Option Preview) Refusal
 given r = preview_call (fresh 8) (list_bytes r.edits) r.key
 
 unfoldable pub rows : List Row
@@ -54,7 +54,7 @@ rows =
     []
 
 -- what a fresh store leaves of the definition: it is sound, and its table is empty
-abbrev on_fresh : ℕ → Listed → Result (Option Shown) Refusal
+abbrev on_fresh : ℕ → Listed → Result (Option Preview) Refusal
 on_fresh k l = list_of (wholly []) (Ok None) k l
 
 fresh-call : (bytes : List ℕ) (k : ℕ) → preview_call (fresh 8) bytes k ≡ on_fresh k (edit_list bytes)
@@ -67,7 +67,7 @@ fresh-call bytes k =
 
 computed : (rs : List Row) → map given rs ≡ map (λ (r : Row). on_fresh r.key (edit_list (list_bytes r.edits))) rs
 computed [] = refl
-computed (r ∷ rs) = ap₂ (λ (a : Result (Option Shown) Refusal) (l : List Result (Option Shown) Refusal). a ∷ l) (fresh-call (list_bytes r.edits) r.key) (computed rs)
+computed (r ∷ rs) = ap₂ (λ (a : Result (Option Preview) Refusal) (l : List (Result (Option Preview) Refusal)). a ∷ l) (fresh-call (list_bytes r.edits) r.key) (computed rs)
 
 -- every row's answer is the call's
 pub previews-worked : map given rows ≡ map (λ (r : Row). r.answer) rows

@@ -1,6 +1,6 @@
 -- The judging of keys, edit by edit: what is noted says which keys are there now, and the edits that are left come to what all come to.
 -- Assumes nothing.
-use Rattle.std.specs.Prelude.{Err, None, Ok, Option, Some}
+use Rattle.std.specs.Prelude.{Result, not, Err, None, Ok, Option, Some}
 use Prim.Native.Nat.{ℕ, zero, suc, ◌+◌, ◌-◌, ◌≤◌, ◌<◌}
 use mathlib.Core.Path.{◌≡◌, refl, sym, ap, ◌∙◌, subst}
 use mathlib.Core.Bool.{Bool, true, false}
@@ -12,7 +12,7 @@ use lib.ListN.{length, get_or, take, drop, set, replicate, length-set}
 use lib.Seq.{get_or-set_same, get_or-set_other}
 use lib.Dec.{eqb}
 use borrow.Author.Tests.{eqb-true, eqb-false}
-use Rattle.device.specs.Calls.{Answer}
+use Rattle.device.specs.Calls.{unsound, refusal, Answer}
 use Rattle.codec.specs.Lists.{part, pick}
 use Rattle.codec.specs.Numbers.{number}
 use Rattle.device.specs.declared.Refusal.{Refusal}
@@ -33,30 +33,28 @@ use Rattle.edit.proofs.Parsing.{list-whole}
 use Rattle.edit.proofs.Keys.{FaultSays, fault-says, gives, find-own, find-other}
 use Rattle.edit.proofs.Heads.{Ahead, Head, head, head-none, head-rest, head-is}
 use Rattle.preview.specs.Noted.{kind_noted, presence, there_by, fault_by, Marks}
-use Rattle.preview.specs.declared.Presence.{Presence}
-use Rattle.preview.specs.declared.Presence.TheVariants.{Present, Absent, Unsound}
 use Rattle.preview.proofs.Walk.{next-key}
 
 -- ---- a key in its leaf
 
 module _ (p : List ℕ) (laid : laid_out p ≡ true) (rise : keys_rise (records p) ≡ true) (k j : ℕ) where
-  pub search-present : searched k 0 (records p) ≡ Ok j → presence k (Some (records p)) ≡ Present
-  unfolding presence holds
+  pub search-present : searched k 0 (records p) ≡ Ok j → holds k (records p) ≡ true
+  unfolding holds
   search-present e =
-      ap (λ (x : Option (List ℕ)). pick (is_some x) Present Absent) (search-find k 0 (records p) (suc top_key) (rec_of 0 []) (laid-rising p laid rise) j e).1
+      ap is_some (search-find k 0 (records p) (suc top_key) (rec_of 0 []) (laid-rising p laid rise) j e).1
 
-  pub search-absent : searched k 0 (records p) ≡ Err j → presence k (Some (records p)) ≡ Absent
-  unfolding presence holds
+  pub search-absent : searched k 0 (records p) ≡ Err j → holds k (records p) ≡ false
+  unfolding holds
   search-absent e =
-      ap (λ (x : Option (List ℕ)). pick (is_some x) Present Absent) (search-none k 0 (records p) (suc top_key) (rec_of 0 []) (laid-rising p laid rise) j e)
+      ap is_some (search-none k 0 (records p) (suc top_key) (rec_of 0 []) (laid-rising p laid rise) j e)
 
 -- what is read for the key, by whether its leaf is sound
 module _ (img : List ℕ) (root k : ℕ) where
-  pub sound-presence : leaf_sound img root (leaf_for img root k) ≡ true → (p : List ℕ) → p ≡ page_of img (leaf_for img root k).page → presence k (Some (records p)) ≡ presence k (records_for img root k)
-  unfolding records_for
+  pub sound-presence : leaf_sound img root (leaf_for img root k) ≡ true → (p : List ℕ) → p ≡ page_of img (leaf_for img root k).page → ◌≡◌ {A = Result Bool Refusal} (Ok (holds k (records p))) (presence k (records_for img root k))
+  unfolding records_for presence
   sound-presence h p e = rw (h, e)
 
-  pub unsound-presence : leaf_sound img root (leaf_for img root k) ≡ false → Unsound ≡ presence k (records_for img root k)
+  pub unsound-presence : leaf_sound img root (leaf_for img root k) ≡ false → Err (refusal unsound) ≡ presence k (records_for img root k)
   unfolding records_for presence
   unsound-presence h = rw h
 
@@ -82,7 +80,7 @@ unfolding fault_by presence key_fault key_rule edit_of
 fault-by i kind k v None = refl
 fault-by i kind k v (Some t) = go (eqb kind 1) (eqb kind 2) (holds k t) refl
   where
-    go : (a b h : Bool) → holds k t ≡ h → fault_by i a (pick h Present Absent) ≡ key_fault i (pick a (insert k v) (pick b (update k v) (delete k))) (Some t)
+    go : (a b h : Bool) → holds k t ≡ h → fault_by i a (Ok h) ≡ key_fault i (pick a (insert k v) (pick b (update k v) (delete k))) (Some t)
     go true b true e = rw e
     go true b false e = rw e
     go false true true e = rw e
@@ -91,12 +89,12 @@ fault-by i kind k v (Some t) = go (eqb kind 1) (eqb kind 2) (holds k t) refl
     go false false false e = rw e
 
 -- it leaves its key there unless it is a delete
-edit-leaves : (kind k : ℕ) (v : List ℕ) (before : Presence) → 1 ≤ kind → kind ≤ 3 → there_by kind before ≡ pick (is_some (gives (edit_of kind k v))) Present Absent
+edit-leaves : (kind k : ℕ) (v : List ℕ) (before : Result Bool Refusal) → 1 ≤ kind → kind ≤ 3 → there_by kind before ≡ Ok (is_some (gives (edit_of kind k v)))
 unfolding there_by edit_of
 edit-leaves kind k v before low high = go (eqb kind 1) refl (eqb kind 2) refl
   where
     go : (a : Bool) → eqb kind 1 ≡ a → (b : Bool) → eqb kind 2 ≡ b →
-        pick (eqb kind 0) before (pick (eqb kind 3) Absent Present) ≡ pick (is_some (gives (pick a (insert k v) (pick b (update k v) (delete k))))) Present Absent
+        pick (eqb kind 0) before (Ok (not (eqb kind 3))) ≡ Ok (is_some (gives (pick a (insert k v) (pick b (update k v) (delete k)))))
     go true p b q = rw (eqb-true kind 1 p)
     go false p true q = rw (eqb-true kind 2 q)
     go false p false q =
@@ -104,15 +102,15 @@ edit-leaves kind k v before low high = go (eqb kind 1) refl (eqb kind 2) refl
         rw three
 
 -- whether a key is there, once the edit is made: its own as it leaves it, another as before
-presence-own : (e : Edit) (o : Option (List Rec)) → KeptIn e o → presence (key_of e) (made_in e o) ≡ pick (is_some (gives e)) Present Absent
+presence-own : (e : Edit) (o : Option (List Rec)) → KeptIn e o → presence (key_of e) (made_in e o) ≡ Ok (is_some (gives e))
 unfolding presence holds
 presence-own e None h = absurd h
-presence-own e (Some t) h = ap (λ (x : Option (List ℕ)). pick (is_some x) Present Absent) (find-own e t h)
+presence-own e (Some t) h = ap (λ (x : Option (List ℕ)). Ok (is_some x)) (find-own e t h)
 
 presence-other : (e : Edit) (j : ℕ) → (key_of e ≡ j → ⊥) → (o : Option (List Rec)) → presence j (made_in e o) ≡ presence j o
 unfolding presence holds
 presence-other e j other None = refl
-presence-other e j other (Some t) = ap (λ (x : Option (List ℕ)). pick (is_some x) Present Absent) (find-other e j t other)
+presence-other e j other (Some t) = ap (λ (x : Option (List ℕ)). Ok (is_some x)) (find-other e j t other)
 
 -- ---- what is noted
 
@@ -205,10 +203,10 @@ module _ {read : Source} {list keys kinds : List ℕ} {all : Answer} {at n : ℕ
           there-next : (j : ℕ) → there_by (kind_noted (set keys n k) (set kinds n kind) j (suc n)) (presence j (read j)) ≡ presence j (made next s j)
           there-next j = ap (λ (x : ℕ). there_by x (presence j (read j))) (noted-next keys kinds n k kind j a b) ∙ go (eqb k j) refl
             where
-              leaves : there_by kind (presence j (read j)) ≡ pick (is_some (gives next)) Present Absent
+              leaves : there_by kind (presence j (read j)) ≡ Ok (is_some (gives next))
               leaves =
                   edit-leaves kind k v (presence j (read j)) (omega (arith, first, kind_at list at, H.ok.known.kind-low)) (omega (arith, first, kind_at list at, H.ok.known.kind-high))
-                  ∙ ap (λ (e : Edit). pick (is_some (gives e)) Present Absent) next-is
+                  ∙ ap (λ (e : Edit). Ok (is_some (gives e))) next-is
 
               go : (q : Bool) → eqb k j ≡ q → there_by (pick q kind (kind_noted keys kinds j n)) (presence j (read j)) ≡ presence j (made next s j)
               go true q =

@@ -10,7 +10,7 @@ use native.Mathlib.Omega.{arith}
 use lib.ListN.{length, length-append}
 use lib.Dec.{eqb}
 use borrow.Author.Tests.{eqb-true, eqb-false, eq-eqb, ne_eqb}
-use Rattle.preview.specs.declared.Shown.{Shown}
+use Rattle.preview.specs.declared.Preview.{Preview}
 use Rattle.device.specs.declared.Refusal.{Refusal}
 use Rattle.codec.specs.Lists.{pick}
 use Rattle.edit.specs.EditList.{Edit, key_of, edit_bytes}
@@ -19,12 +19,12 @@ use Rattle.preview.specs.Calls.{brings, seen_from}
 use Rattle.preview.specs.Answers.{NoEdit, LastEdit}
 
 module _ (k : ℕ) where
-  pub no-edit : (at : ℕ) (answer : Result (Option Shown) Refusal) (es : List Edit) → NoEdit k es → seen_from k at answer es ≡ answer
+  pub no-edit : (at : ℕ) (answer : Result (Option Preview) Refusal) (es : List Edit) → NoEdit k es → seen_from k at answer es ≡ answer
   unfolding seen_from
   no-edit at answer [] h = refl
   no-edit at answer (e ∷ es) h = rw (ne_eqb (key_of e) k h.0) (no-edit (at + length (edit_bytes e)) answer es h.1)
 
-  seen-append : (at : ℕ) (answer : Result (Option Shown) Refusal) (es fs : List Edit) → seen_from k at answer (es ++ fs) ≡ seen_from k (at + length (list_bytes es)) (seen_from k at answer es) fs
+  seen-append : (at : ℕ) (answer : Result (Option Preview) Refusal) (es fs : List Edit) → seen_from k at answer (es ++ fs) ≡ seen_from k (at + length (list_bytes es)) (seen_from k at answer es) fs
   unfolding seen_from
   seen-append at answer [] fs =
       let e : at ≡ at + 0 = omega arith in
@@ -34,7 +34,7 @@ module _ (k : ℕ) where
       let o : at + length (edit_bytes e) + length (list_bytes es) ≡ at + length (edit_bytes e ++ list_bytes es) = omega (arith, length-append (edit_bytes e) (list_bytes es)) in
       seen-append (at + length (edit_bytes e)) a es fs ∙ ap (λ (x : ℕ). seen_from k x (seen_from k (at + length (edit_bytes e)) a es) fs) o
 
-  pub last-edit : (answer : Result (Option Shown) Refusal) (es : List Edit) (l : LastEdit k es) → seen_from k 0 answer es ≡ brings (length (list_bytes l.before)) l.edit
+  pub last-edit : (answer : Result (Option Preview) Refusal) (es : List Edit) (l : LastEdit k es) → seen_from k 0 answer es ≡ brings (length (list_bytes l.before)) l.edit
   unfolding seen_from
   last-edit answer es l =
       let o = length (list_bytes l.before) in

@@ -11,10 +11,10 @@ use lib.ListN.{length, drop, length-drop}
 use lib.Seq.{drop-drop}
 use lib.Dec.{eqb}
 use borrow.Author.Tests.{eqb-true, eqb-false}
-use Rattle.preview.specs.declared.Shown.{Shown}
+use Rattle.preview.specs.declared.Preview.{Preview}
 use Rattle.device.specs.declared.Refusal.{Refusal}
 use Rattle.image.specs.declared.Part.{Part}
-use Rattle.preview.specs.declared.Shown.TheVariants.{InImage, InList}
+use Rattle.preview.specs.declared.Preview.TheVariants.{InImage, InList}
 use Rattle.codec.specs.Lists.{part}
 use Rattle.codec.proofs.Lists.{length_part, part-drop}
 use Rattle.page.specs.Layout.{Rec}
@@ -36,7 +36,7 @@ use Rattle.edit.proofs.Keys.{gives, find-own, find-other}
 use Rattle.preview.specs.Calls.{in_image, brings, seen_from, seen}
 
 -- the answer says that a table holds x for the key, and its part lies in its slice
-abbrev pub Shows : List ℕ → List ℕ → Option (List ℕ) → Result (Option Shown) Refusal → Type 0
+abbrev pub Shows : List ℕ → List ℕ → Option (List ℕ) → Result (Option Preview) Refusal → Type 0
 Shows img bytes x (Ok (Some (InList f))) = (x ≡ Some (part bytes f.offset f.length)) × (length (part bytes f.offset f.length) ≡ f.length) × (f.offset + f.length ≤ length bytes)
 Shows img bytes x (Ok (Some (InImage f))) = (x ≡ Some (part img f.offset f.length)) × (length (part img f.offset f.length) ≡ f.length) × (f.offset + f.length ≤ length img)
 Shows img bytes x (Ok None) = x ≡ None
@@ -81,7 +81,7 @@ reads-rest bytes at e es r =
 kept_read : (e : Edit) (k : ℕ) (s : Source) (t : List Rec) → s k ≡ Some t → key_of e ≡ k → KeptIn e (s (key_of e)) → Kept e t
 kept_read e k s t r own h = subst (KeptIn e) (ap s own ∙ r) h
 
-shows-from : (img bytes : List ℕ) (k at : ℕ) (answer : Result (Option Shown) Refusal) (es : List Edit) (s : Source) (t : List Rec) → s k ≡ Some t → Reads (drop at bytes) es [] → AllKeptBy es s →
+shows-from : (img bytes : List ℕ) (k at : ℕ) (answer : Result (Option Preview) Refusal) (es : List Edit) (s : Source) (t : List Rec) → s k ≡ Some t → Reads (drop at bytes) es [] → AllKeptBy es s →
     Shows img bytes (find k t) answer → Shows img bytes (find k (apply_edits es t)) (seen_from k at answer es)
 unfolding seen_from apply_edits
 shows-from img bytes k at answer [] s t q r h w = w
@@ -128,19 +128,19 @@ sound-shows img bytes h k es r kept = shows-from img bytes k 0 (in_image (found_
 
 -- ---- the part lies in its slice
 
-abbrev pub Inside : List ℕ → List ℕ → Result (Option Shown) Refusal → Type 0
+abbrev pub Inside : List ℕ → List ℕ → Result (Option Preview) Refusal → Type 0
 Inside img bytes (Ok (Some (InList x))) = x.offset + x.length ≤ length bytes
 Inside img bytes (Ok (Some (InImage x))) = x.offset + x.length ≤ length img
 Inside img bytes (Ok None) = Unit {0}
 Inside img bytes (Err r) = Unit {0}
 
-shows-inside : (img bytes : List ℕ) (x : Option (List ℕ)) (a : Result (Option Shown) Refusal) → Shows img bytes x a → Inside img bytes a
+shows-inside : (img bytes : List ℕ) (x : Option (List ℕ)) (a : Result (Option Preview) Refusal) → Shows img bytes x a → Inside img bytes a
 shows-inside img bytes x (Ok (Some (InList f))) s = s.2
 shows-inside img bytes x (Ok (Some (InImage f))) s = s.2
 shows-inside img bytes x (Ok None) s = tt
 shows-inside img bytes x (Err r) s = tt
 
-inside-from : (img bytes : List ℕ) (k at : ℕ) (answer : Result (Option Shown) Refusal) (es : List Edit) → Reads (drop at bytes) es [] → Inside img bytes answer → Inside img bytes (seen_from k at answer es)
+inside-from : (img bytes : List ℕ) (k at : ℕ) (answer : Result (Option Preview) Refusal) (es : List Edit) → Reads (drop at bytes) es [] → Inside img bytes answer → Inside img bytes (seen_from k at answer es)
 unfolding seen_from
 inside-from img bytes k at answer [] r w = w
 inside-from img bytes k at answer (e ∷ es) r w =

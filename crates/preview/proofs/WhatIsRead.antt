@@ -9,7 +9,7 @@ use native.Mathlib.Omega.{arith}
 use lib.ListN.{length}
 use lib.Dec.{eqb}
 use borrow.Author.Tests.{ne_eqb}
-use Rattle.preview.specs.declared.Shown.{Shown}
+use Rattle.preview.specs.declared.Preview.{Preview}
 use Rattle.device.specs.declared.Refusal.{Refusal}
 use Rattle.image.specs.declared.Part.{Part}
 use Rattle.codec.specs.Lists.{part, pick, All}
@@ -40,7 +40,7 @@ use Rattle.preview.proofs.Answers.{preview-answers}
 
 -- ---- an edit of the key hides what the image holds
 
-hidden : (k at : ℕ) (x y : Result (Option Shown) Refusal) (es : List Edit) → has_edit k es ≡ true → seen_from k at x es ≡ seen_from k at y es
+hidden : (k at : ℕ) (x y : Result (Option Preview) Refusal) (es : List Edit) → has_edit k es ≡ true → seen_from k at x es ≡ seen_from k at y es
 unfolding has_edit seen_from
 hidden k at x y [] h = let z : ◌≡◌ {A = ℕ} 0 1 = cc in absurd (omega arith)
 hidden k at x y (e ∷ es) h = go (eqb (key_of e) k) h (λ g. hidden k (at + length (edit_bytes e)) x y es g)
@@ -86,7 +86,7 @@ module _ (a b bytes : List ℕ) (k : ℕ) (R : ReadAlike a b (preview_reads a by
     judged-alike : (es : List Edit) (j : Answer) → All (SameLeaf root) (last_read k es j) → rules_of (seen (leaf_lookup b root k) k es) j ≡ rules_of (seen (leaf_lookup a root k) k es) j
     unfolding last_read rules_of
     judged-alike es (Err r) h = refl
-    judged-alike es (Ok tt) h = seen_alike es (has_edit k es) refl h
+    judged-alike es (Ok done) h = seen_alike es (has_edit k es) refl h
 
     list-alike : (l : Listed) → All (SameLeaf root) (list_reads (records_for a root) k l) → list_of (records_for b root) (leaf_lookup b root k) k l ≡ list_of (records_for a root) (leaf_lookup a root k) k l
     unfolding list_of keys_of list_reads
@@ -137,7 +137,7 @@ module _ (a b bytes : List ℕ) (k : ℕ) (R : ReadAlike a b (preview_reads a by
       preview-answers-a : Answers a bytes k (preview_call a bytes k)
       preview-answers-a = preview-answers a bytes k
 
-      go : (x : Result (Option Shown) Refusal) → Answers a bytes k x → part_of b bytes x ≡ part_of a bytes x
+      go : (x : Result (Option Preview) Refusal) → Answers a bytes k x → part_of b bytes x ≡ part_of a bytes x
       go _ (of_image root es A h o n e) = value_same root es A h o n e
       go _ (bad-image r n) = refl
       go _ (bad-list root o n i f) = refl

@@ -2,8 +2,8 @@
 -- Assumes nothing.
 use Rattle.std.specs.Prelude.{ℕ, ◌+◌, ◌≤◌, ◌<◌, ◌≡◌, ◌⊎◌, List, ◌∷◌, ◌++◌, length, Err, None, Ok, Option, Result, Some}
 use Rattle.device.specs.Calls.{refusal_at}
-use Rattle.preview.specs.declared.Shown.{Shown}
-use Rattle.preview.specs.declared.Shown.TheVariants.{InImage, InList}
+use Rattle.preview.specs.declared.Preview.{Preview}
+use Rattle.preview.specs.declared.Preview.TheVariants.{InImage, InList}
 use Rattle.codec.specs.Lists.{All}
 use Rattle.device.specs.declared.Refusal.{Refusal}
 use Rattle.image.specs.Table.{table}
@@ -47,7 +47,7 @@ pub record AskedSound (img bytes : List ℕ) (k : ℕ) (es : List Edit) : Type 0
 -- "Refused: check's, then the list's, then 6 for the key asked, then 8 and 9. Edit numbers are as in a transaction, 0 for the key asked"; "a leaf's 4 comes just before the
 -- 8 or 9 of the first edit that needs that leaf, or last of all for the key asked"; else "a part of the edit list or a part of the image, as the last edit of that key decides": a
 -- value stands in the list 10 bytes after its edit's start
-pub data Answers (img bytes : List ℕ) (k : ℕ) : Result (Option Shown) Refusal → Type 0 where
+pub data Answers (img bytes : List ℕ) (k : ℕ) : Result (Option Preview) Refusal → Type 0 where
   bad-image : (r : Refusal) → NotOpened img r → Answers img bytes k (Err r)
   bad-list : (root : ℕ) → Opened img root → (n i : ℕ) → ListFault bytes n i → Answers img bytes k (Err (refusal_at n i))
   bad-key : (root : ℕ) → Opened img root → (es : List Edit) → Whole bytes es → (k < 1) ⊎ (999999999999 < k) → Answers img bytes k (Err (refusal_at 6 0))

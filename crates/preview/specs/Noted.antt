@@ -1,13 +1,12 @@
 -- What the code notes of the edits that it has judged: the key and the kind of each, by their numbers.
 -- Assumes nothing.
-use Rattle.std.specs.Prelude.{ℕ, zero, suc, ◌≡◌, Bool, true, List, length, get_or, eqb, Err, None, Ok, Option, Some}
+use Rattle.std.specs.Prelude.{ℕ, zero, suc, ◌≡◌, Bool, true, false, not, List, length, get_or, eqb, Err, None, Ok, Option, Some, Result}
 use Rattle.codec.specs.Lists.{pick}
 use Rattle.device.specs.Calls.{unsound, key_present, key_missing, refusal, Answer, refusal_at}
+use Rattle.device.specs.declared.Refusal.{Refusal}
 use Rattle.page.specs.Layout.{Rec}
 use Rattle.image.specs.Descent.{leaf_for, leaf_sound}
 use Rattle.edit.specs.Keys.{holds}
-use Rattle.preview.specs.declared.Presence.{Presence}
-use Rattle.preview.specs.declared.Presence.TheVariants.{Present, Absent, Unsound}
 
 -- the kind of the last edit of the key k among the first n that are noted, or 0
 unfoldable pub kind_noted : List ℕ → List ℕ → ℕ → ℕ → ℕ
@@ -15,19 +14,19 @@ kind_noted keys kinds k zero = 0
 kind_noted keys kinds k (suc n) = pick (eqb (get_or keys n 0) k) (get_or kinds n 0) (kind_noted keys kinds k n)
 
 -- whether the key k is there, by the records that are read for it
-unfoldable pub presence : ℕ → Option (List Rec) → Presence
-presence k None = Unsound
-presence k (Some t) = pick (holds k t) Present Absent
+unfoldable pub presence : ℕ → Option (List Rec) → Result Bool Refusal
+presence k None = Err (refusal unsound)
+presence k (Some t) = Ok (holds k t)
 
 -- whether the key is there then, where `before` says whether it was before them all: a delete (3) leaves it missing
-unfoldable pub there_by : ℕ → Presence → Presence
-there_by kind before = pick (eqb kind 0) before (pick (eqb kind 3) Absent Present)
+unfoldable pub there_by : ℕ → Result Bool Refusal → Result Bool Refusal
+there_by kind before = pick (eqb kind 0) before (Ok (not (eqb kind 3)))
 
 -- what is said of edit i, an insert or another, whose key is there or not
-unfoldable pub fault_by : ℕ → Bool → Presence → Answer
-fault_by i inserts Unsound = Err (refusal unsound)
-fault_by i inserts Present = pick inserts (Err (refusal_at key_present i)) (Ok tt)
-fault_by i inserts Absent = pick inserts (Ok tt) (Err (refusal_at key_missing i))
+unfoldable pub fault_by : ℕ → Bool → Result Bool Refusal → Answer
+fault_by i inserts (Err r) = Err r
+fault_by i inserts (Ok true) = pick inserts (Err (refusal_at key_present i)) (Ok tt)
+fault_by i inserts (Ok false) = pick inserts (Ok tt) (Err (refusal_at key_missing i))
 
 -- the marks of pages whose leaf is judged, one for each page that an image can have: only leaves that are sound are marked
 pub record Marks (img : List ℕ) (root : ℕ) (marks : List ℕ) : Type 0 where

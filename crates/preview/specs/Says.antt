@@ -1,9 +1,9 @@
 -- What an answer comes to, wherever the value stands, so that a preview, a lookup and a table can be compared.
 -- Assumes nothing.
 use Rattle.std.specs.Prelude.{ℕ, List, [], Err, None, Ok, Option, Result, Some}
-use Rattle.preview.specs.declared.Shown.{Shown}
+use Rattle.preview.specs.declared.Preview.{Preview}
 use Rattle.image.specs.declared.Part.{Part}
-use Rattle.preview.specs.declared.Shown.TheVariants.{InImage, InList}
+use Rattle.preview.specs.declared.Preview.TheVariants.{InImage, InList}
 use Rattle.codec.specs.Lists.{part}
 use Rattle.device.specs.declared.Refusal.{Refusal}
 
@@ -14,7 +14,7 @@ pub data Finding : Type 0 where
   refused : Refusal → Finding
 
 -- a preview of the image with the list `bytes`
-unfoldable pub previewed : List ℕ → List ℕ → Result (Option Shown) Refusal → Finding
+unfoldable pub previewed : List ℕ → List ℕ → Result (Option Preview) Refusal → Finding
 previewed img bytes (Ok (Some (InList x))) = value (part bytes x.offset x.length)
 previewed img bytes (Ok (Some (InImage x))) = value (part img x.offset x.length)
 previewed img bytes (Ok None) = nothing

@@ -1,7 +1,7 @@
 -- What the reading calls read, and what they reply: lookup, next key and preview, each with its companion (document 02 (b)).
 -- Assumes nothing.
 use Rattle.std.specs.Prelude.{ℕ, Bool, false, ◌||◌, List, [], ◌∷◌, ◌++◌, eqb, Err, Ok, Option, Result}
-use Rattle.preview.specs.declared.Shown.{Shown}
+use Rattle.preview.specs.declared.Preview.{Preview}
 use Rattle.device.specs.declared.Refusal.{Refusal}
 use Rattle.image.specs.declared.Part.{Part}
 use Rattle.device.specs.Calls.{Answer}
@@ -23,7 +23,7 @@ has_edit k (e ∷ es) = eqb (key_of e) k || has_edit k es
 -- "or last of all for the key asked", only if no edit has it
 unfoldable pub last_read : ℕ → List Edit → Answer → List ℕ
 last_read k es (Err r) = []
-last_read k es (Ok tt) = pick (has_edit k es) [] (k ∷ [])
+last_read k es (Ok done) = pick (has_edit k es) [] (k ∷ [])
 
 unfoldable pub list_reads : Source → ℕ → Listed → List ℕ
 list_reads read k (faulty n i) = []
@@ -43,7 +43,7 @@ pub data Asking : Type 0 where
 pub data Reply : Type 0 where
   looked : Result (Option Part) Refusal → List ℕ → Reply
   next : Result (Option ℕ) Refusal → Reply
-  seen : Result (Option Shown) Refusal → List ℕ → Reply
+  seen : Result (Option Preview) Refusal → List ℕ → Reply
 
 unfoldable pub reply_to : Asking → List ℕ → Reply
 reply_to (lookup k) img = looked (lookup_call img k) (value_call img k)

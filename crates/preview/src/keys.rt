@@ -1,21 +1,17 @@
 // The key rules of a list: "8 insert of a key present; 9 other edit of a missing key", each edit seeing those before it and the one leaf that its
 // key belongs to.
-ghost use Rattle.std.specs.Prelude.{◌≡◌, true, ◌≤◌, eqb};
-ghost use Rattle.std.proofs.Math.Option.{some};
+ghost use Rattle.std.specs.Prelude.{◌≡◌, true, Ok, ◌≤◌, eqb};
 ghost use Rattle.page.specs.Page.{records, laid_out, keys_rise};
 ghost use Rattle.image.specs.Descent.{records_for};
 ghost use Rattle.image.specs.Calls.{index_call};
-ghost use Rattle.image.specs.declared.Root.TheVariants as roots;
 ghost use Rattle.edit.specs.EditList.{listed, edits_of, edit_list};
-ghost use Rattle.edit.specs.Keys.{keys_from};
+ghost use Rattle.edit.specs.Keys.{holds, keys_from};
 ghost use Rattle.preview.specs.Noted.{kind_noted, presence, there_by, fault_by, Marks};
 
-use crate::Presence;
-use device::Refusal;
-use edit::Judged;
+use device::{Cause, Refusal};
 use image::descent::{leaf_for, leaf_sound};
 use image::pages::page_of;
-use page::{Search, find};
+use page::find;
 
 // The kind of the last edit of a key among the first n that are noted, or 0.
 fn kind_noted(keys: &[u64; 16], kinds: &[u8; 16], n: usize, key: u64) -> u8
@@ -33,32 +29,29 @@ fn kind_noted(keys: &[u64; 16], kinds: &[u8; 16], n: usize, key: u64) -> u8
 }
 
 // Whether a sound page holds a key.
-fn in_page(page: &[u8], key: u64) -> Presence
+fn in_page(page: &[u8], key: u64) -> bool
     requires { (laid_out page.now ≡ true) × (keys_rise (records page.now) ≡ true) }
-    ensures { result ≡ presence key (some (records page.now)) }
+    ensures { result ≡ holds key (records page.now) }
 {
-    match find(page, key) {
-        Search::At(_) => Presence::Present,
-        Search::Missing(_) => Presence::Absent,
-    }
+    find(page, key).is_ok()
 }
 
 // Whether the image holds a key, by the leaf that it belongs to. A leaf that is found sound is marked by its page, and not judged again.
-fn in_leaf(image: &[u8], root: usize, judged: &mut [u8], key: u64) -> Presence
-    requires { (index_call image.now ≡ roots.At root) × Marks image.now root judged.old }
+fn in_leaf(image: &[u8], root: usize, judged: &mut [u8], key: u64) -> Result<bool, Refusal>
+    requires { (index_call image.now ≡ Ok root) × Marks image.now root judged.old }
     ensures value { result ≡ presence key (records_for image.now root key) }
     ensures marks { Marks image.now root judged.new }
 {
     let leaf = leaf_for(image, root, key);
     let own = leaf.page;
     if judged[own] != 0 {
-        return in_page(page_of(image, own), key);
+        return Ok(in_page(page_of(image, own), key));
     }
     if !leaf_sound(image, root, leaf) {
-        return Presence::Unsound;
+        return Err(Refusal::of(Cause::Unsound));
     }
     judged[own] = 1;
-    in_page(page_of(image, own), key)
+    Ok(in_page(page_of(image, own), key))
 }
 
 // Whether a key is there after the first n edits: as the last of them that has it leaves it, else as the image has it.
@@ -70,48 +63,43 @@ fn is_there(
     kinds: &[u8; 16],
     n: usize,
     key: u64,
-) -> Presence
-    requires { (index_call image.now ≡ roots.At root) × Marks image.now root judged.old × (n ≤ 16) }
+) -> Result<bool, Refusal>
+    requires { (index_call image.now ≡ Ok root) × Marks image.now root judged.old × (n ≤ 16) }
     ensures value { result ≡ there_by (kind_noted keys.now kinds.now key n) (presence key (records_for image.now root key)) }
     ensures marks { Marks image.now root judged.new }
 {
     match kind_noted(keys, kinds, n, key) {
         0 => in_leaf(image, root, judged, key),
-        3 => Presence::Absent,
-        _ => Presence::Present,
+        3 => Ok(false),
+        _ => Ok(true),
     }
 }
 
 // What is said of edit n, of this kind, where `there` says whether its key is there.
-fn key_fault(n: u8, kind: u8, there: Presence) -> Judged
-    ensures { result ≡ fault_by n (eqb kind 1) there }
+fn key_fault(n: u8, kind: u8, there: bool) -> Result<(), Refusal>
+    ensures { result ≡ fault_by n (eqb kind 1) (Ok there) }
 {
-    match there {
-        Presence::Unsound => Judged::Faulty(Refusal::of(Refusal::UNSOUND)),
-        Presence::Present => {
-            if kind == 1 {
-                return Judged::Faulty(Refusal {
-                    number: Refusal::KEY_PRESENT,
-                    edit: n,
-                });
-            }
-            Judged::Good
-        }
-        Presence::Absent => {
-            if kind == 1 {
-                return Judged::Good;
-            }
-            Judged::Faulty(Refusal {
-                number: Refusal::KEY_MISSING,
+    if there {
+        if kind == 1 {
+            return Err(Refusal {
+                cause: Cause::KeyPresent,
                 edit: n,
-            })
+            });
         }
+        return Ok(());
     }
+    if kind == 1 {
+        return Ok(());
+    }
+    Err(Refusal {
+        cause: Cause::KeyMissing,
+        edit: n,
+    })
 }
 
 // Judges the keys of a well-formed list, edit by edit. Key and kind of each are noted, so that the edits after it need not read the list again.
-pub(crate) fn judge_keys(image: &[u8], root: usize, list: &[u8]) -> Judged
-    requires { (index_call image.now ≡ roots.At root) × (edit_list list.now ≡ listed (edits_of (edit_list list.now))) }
+pub(crate) fn judge_keys(image: &[u8], root: usize, list: &[u8]) -> Result<(), Refusal>
+    requires { (index_call image.now ≡ Ok root) × (edit_list list.now ≡ listed (edits_of (edit_list list.now))) }
     ensures { result ≡ keys_from 0 (edits_of (edit_list list.now)) (records_for image.now root) }
 {
     let mut keys = [0u64; 16];
@@ -122,15 +110,12 @@ pub(crate) fn judge_keys(image: &[u8], root: usize, list: &[u8]) -> Judged
     while at < list.len() {
         let kind = list[at];
         let key = codec::long_at(list, at + 2);
-        let there = is_there(image, root, &mut judged, &keys, &kinds, n, key);
-        let fault = key_fault(n as u8, kind, there);
-        let Judged::Good = fault else {
-            return fault;
-        };
+        let there = is_there(image, root, &mut judged, &keys, &kinds, n, key)?;
+        key_fault(n as u8, kind, there)?;
         keys[n] = key;
         kinds[n] = kind;
         n += 1;
         at = at + 10 + codec::wide(list[at + 1]);
     }
-    Judged::Good
+    Ok(())
 }

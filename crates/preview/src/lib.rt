@@ -2,27 +2,15 @@
 // tape play no part.
 #![tactic(auto)]
 
-use device::Refusal;
+use image::Part;
 
 pub mod calls;
 pub mod keys;
 pub mod seen;
 
-// What a preview answers: the part that is the value, in one of the two lent slices, or that the key would be missing.
-#[derive(Clone, Copy)]
+// The value that a preview shows: a part of one of the two lent slices.
+#[derive(Clone, Copy, Debug, PartialEq, Eq)]
 pub enum Preview {
-    // In the edit list: the value's offset there and its length.
-    InList { offset: usize, length: usize },
-    // In the image: the same.
-    InImage { offset: usize, length: usize },
-    Missing,
-    Refused(Refusal),
-}
-
-// Whether a key is there when an edit comes to it; unsound where the leaf that it belongs to is.
-#[derive(Clone, Copy)]
-pub enum Presence {
-    Present,
-    Absent,
-    Unsound,
+    InList(Part),
+    InImage(Part),
 }

@@ -3,11 +3,11 @@
 use Rattle.std.specs.Prelude.{ℕ, List, [], ◌∷◌, length, leb, Err, None, Ok, Option, Result, Some}
 use Rattle.std.proofs.lemmas.List.Edits.{sets}
 use Rattle.device.specs.Calls.{number_in}
-use Rattle.preview.specs.declared.Shown.{Shown}
+use Rattle.preview.specs.declared.Preview.{Preview}
 use Rattle.device.specs.declared.Refusal.{Refusal}
 use Rattle.journal.specs.declared.Redone.{Redone}
 use Rattle.image.specs.declared.Part.{Part}
-use Rattle.preview.specs.declared.Shown.TheVariants.{InImage, InList}
+use Rattle.preview.specs.declared.Preview.TheVariants.{InImage, InList}
 use Rattle.codec.specs.Lists.{pick}
 use Rattle.journal.specs.declared.CommitPlace.{CommitPlace}
 use Rattle.journal.specs.declared.CommitPlace.TheVariants.{Header, Root, Log}
@@ -50,13 +50,13 @@ next_numbers (Err r) = []
 
 -- a preview: edit number, which slice has the value (1 the edit list, 2 the image, 0 where the key is missing), its offset there and its length; a refusal has its edit number
 -- and zeros
-unfoldable pub preview_number : Result (Option Shown) Refusal → ℕ
+unfoldable pub preview_number : Result (Option Preview) Refusal → ℕ
 preview_number (Ok (Some (InList x))) = 0
 preview_number (Ok (Some (InImage x))) = 0
 preview_number (Ok None) = 0
 preview_number (Err r) = (number_in r)
 
-unfoldable pub preview_numbers : Result (Option Shown) Refusal → List ℕ
+unfoldable pub preview_numbers : Result (Option Preview) Refusal → List ℕ
 preview_numbers (Ok (Some (InList x))) = 0 ∷ 1 ∷ x.offset ∷ x.length ∷ []
 preview_numbers (Ok (Some (InImage x))) = 0 ∷ 2 ∷ x.offset ∷ x.length ∷ []
 preview_numbers (Ok None) = 0 ∷ 0 ∷ 0 ∷ 0 ∷ []

@@ -66,7 +66,7 @@ module _ (way : Way) (a work tape bytes : List ℕ) where
 
       check : is_image_size (length a) ≡ true → length work ≡ length a → (c : Answer) → check_call a ≡ c → Answers way a work tape bytes (checked_of way a work tape bytes c)
       check size same (Err r) e = bad-image size same r e
-      check size same (Ok tt) e = list (record { size = size; same = same; checked = e }) (edit_list bytes) refl
+      check size same (Ok done) e = list (record { size = size; same = same; checked = e }) (edit_list bytes) refl
 
   -- the cases exclude each other: each is the call's answer where it holds
   pub begun-call : Begun a work → transaction_call way a work tape bytes ≡ list_of way a work tape (edit_list bytes)

@@ -61,7 +61,7 @@ list_of way a work tape (listed es) = outcome_of way a tape (edits_on a es)
 
 unfoldable pub checked_of : Way → List ℕ → List ℕ → List ℕ → List ℕ → Answer → Called
 checked_of way a work tape bytes (Err r) = record { answer = Err r; work = work; tape = tape }
-checked_of way a work tape bytes (Ok tt) = list_of way a work tape (edit_list bytes)
+checked_of way a work tape bytes (Ok done) = list_of way a work tape (edit_list bytes)
 
 -- "Transaction: 1; 2 if the work buffer's length isn't the image's; check's; then the list, ..."
 unfoldable pub transaction_call : Way → List ℕ → List ℕ → List ℕ → List ℕ → Called

@@ -2,7 +2,7 @@
 -- Assumes nothing.
 use Rattle.std.specs.Prelude.{Err, None, Ok, Some}
 use mathlib.Core.Path.{sym, ◌∙◌}
-use Rattle.preview.specs.declared.Shown.TheVariants.{InImage, InList}
+use Rattle.preview.specs.declared.Preview.TheVariants.{InImage, InList}
 use Rattle.store.specs.Numbers.{preview_number, preview_numbers}
 use Rattle.store.proofs.Written.{written}
 use Rattle.store.proofs.quote_preview.Goals as goal

@@ -1,5 +1,6 @@
 -- `look`: the key that is asked, then the keys of the list, then what is seen.
 -- Assumes nothing.
+use Rattle.std.proofs.lemmas.Result.{err_from_is_err_and}
 use Rattle.std.specs.Prelude.{Err}
 use mathlib.Core.Path.{◌≡◌, sym, ap, ◌∙◌}
 use mathlib.Core.Bool.{true}
@@ -24,10 +25,12 @@ ranged : (c : Else-key-gt-TOP_KEY) → key_ok c.args.key ≡ true
 unfolding key_ok
 ranged c = rw (le-leb 1 _ c.if-key-lt1.false, le-leb _ 999999999999 c.if-key-gt-TOP_KEY.false)
 
-pub returns-in-Faulty : goal.returns-in-Faulty
+pub returns-in_err-judge_keys : goal.returns-in_err-judge_keys
 unfolding keys_of rules_of
-returns-in-Faulty c = rw (ranged (goal.at.returns-in-Faulty c).Else-key-gt-TOP_KEY, sym c.judge_keys.ensures ∙ c.in-Faulty.is)
+returns-in_err-judge_keys c =
+    let p = err_from_is_err_and c.from_residual.result c.from_residual.ensures.1 in
+    rw (p.1, p.2, ranged (goal.at.returns-in_err-judge_keys c).Else-key-gt-TOP_KEY, sym c.judge_keys.ensures ∙ c.in_err-judge_keys.was)
 
-pub returns-in-Good : goal.returns-in-Good
+pub returns : goal.returns
 unfolding keys_of rules_of
-returns-in-Good c = c.see.ensures ∙ rw (ranged (goal.at.returns-in-Good c).Else-key-gt-TOP_KEY, sym c.judge_keys.ensures ∙ c.in-Good.is)
+returns c = c.see.ensures ∙ rw (ranged (goal.at.returns c).Else-key-gt-TOP_KEY, sym c.judge_keys.ensures ∙ c.in_ok-judge_keys.was)

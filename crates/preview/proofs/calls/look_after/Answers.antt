@@ -1,5 +1,7 @@
 -- `look_after`: a faulty list refuses; else the keys are judged.
 -- Assumes nothing.
+use Rattle.std.proofs.lemmas.Result.{err_from_is_err_and}
+use Rattle.std.specs.Prelude.{Err}
 use mathlib.Core.Path.{sym, ap, ◌∙◌}
 use Rattle.image.specs.Descent.{records_for}
 use Rattle.image.specs.Calls.{leaf_lookup}
@@ -10,14 +12,16 @@ use Rattle.preview.proofs.calls.look_after.Goals as goal
 
 pub look-requires : goal.look-requires
 look-requires c =
-    (c.requires, good-listed (edit_list c.args.edits.now) (sym c.judge.ensures ∙ c.in-Good.is))
+    (c.requires, good-listed (edit_list c.args.edits.now) (sym c.judge.ensures ∙ c.in_ok-judge.was))
 
-pub returns-in-Faulty : goal.returns-in-Faulty
+pub returns-in_err-judge : goal.returns-in_err-judge
 unfolding list_of
-returns-in-Faulty c =
-    ap (list_of (records_for c.args.image.now c.args.root) (leaf_lookup c.args.image.now c.args.root c.args.key) c.args.key) (sym (faulty-listed (edit_list c.args.edits.now) _ (sym c.judge.ensures ∙ c.in-Faulty.is)))
+returns-in_err-judge c =
+    let p = err_from_is_err_and c.from_residual.result c.from_residual.ensures.1 in
+    let f = faulty-listed (edit_list c.args.edits.now) _ (sym c.judge.ensures ∙ c.in_err-judge.was) in
+    rw (p.1, p.2, f.2) (ap Err (sym f.3))
 
-pub returns-in-Good : goal.returns-in-Good
+pub returns : goal.returns
 unfolding list_of
-returns-in-Good c =
-    c.look.ensures ∙ ap (list_of (records_for c.args.image.now c.args.root) (leaf_lookup c.args.image.now c.args.root c.args.key) c.args.key) (sym (good-listed (edit_list c.args.edits.now) (sym c.judge.ensures ∙ c.in-Good.is)))
+returns c =
+    c.look.ensures ∙ ap (list_of (records_for c.args.image.now c.args.root) (leaf_lookup c.args.image.now c.args.root c.args.key) c.args.key) (sym (good-listed (edit_list c.args.edits.now) (sym c.judge.ensures ∙ c.in_ok-judge.was)))

@@ -1,5 +1,6 @@
 -- `in_leaf`: a leaf that is marked is sound, and one that is found so is marked.
 -- Assumes nothing.
+use Rattle.std.specs.Prelude.{Ok, Err}
 use Prim.Native.Nat.{ℕ, ◌+◌, ◌*◌, ◌≤◌, ◌<◌}
 use mathlib.Core.Path.{◌≡◌, sym, ap, ◌∙◌, subst}
 use mathlib.Core.Bool.{true}
@@ -56,14 +57,14 @@ in_page-requires c = page-good _ _ _ _ c.leaf_for-leaf.ensures (marked (goal.at.
 
 pub returns-then-judged-own-ne0 : goal.returns-then-judged-own-ne0
 returns-then-judged-own-ne0 c =
-    let a = c.args in record { value = c.in_page.ensures ∙ sound-presence a.image.now a.root a.key (marked (goal.at.returns-then-judged-own-ne0 c).Then-judged-own-ne0) _ (c.page_of.ensures ∙ ap (λ (p : Place). page_of a.image.now p.page) c.leaf_for-leaf.ensures); marks = c.requires.1 }
+    let a = c.args in record { value = ap Ok c.in_page.ensures ∙ sound-presence a.image.now a.root a.key (marked (goal.at.returns-then-judged-own-ne0 c).Then-judged-own-ne0) _ (c.page_of.ensures ∙ ap (λ (p : Place). page_of a.image.now p.page) c.leaf_for-leaf.ensures); marks = c.requires.1 }
 
 pub leaf_sound-requires : goal.leaf_sound-requires
 leaf_sound-requires c = (c.requires.0, fits (goal.at.leaf_sound-requires c).After-leaf_for-leaf)
 
 pub returns-then-not-leaf_sound : goal.returns-then-not-leaf_sound
 returns-then-not-leaf_sound c =
-    let a = c.args in record { value = unsound-presence a.image.now a.root a.key (ap (leaf_sound a.image.now a.root) (sym c.leaf_for-leaf.ensures) ∙ sym c.leaf_sound.ensures ∙ not-true _ c.if-not-leaf_sound.true-raw); marks = c.requires.1 }
+    let a = c.args in record { value = ap Err c.of.ensures ∙ unsound-presence a.image.now a.root a.key (ap (leaf_sound a.image.now a.root) (sym c.leaf_for-leaf.ensures) ∙ sym c.leaf_sound.ensures ∙ not-true _ c.if-not-leaf_sound.true-raw); marks = c.requires.1 }
 
 pub bounds-judged-own-2 : goal.bounds-judged-own-2
 bounds-judged-own-2 c = few (goal.at.bounds-judged-own-2 c).After-leaf_for-leaf
@@ -85,7 +86,7 @@ pub returns : goal.returns
 returns c =
     let a = c.args in
     record {
-      value = c.in_page-2.ensures ∙ sound-presence a.image.now a.root a.key (judged (goal.at.returns c).Else-not-leaf_sound) _ (c.page_of-2.ensures ∙ ap (λ (p : Place). page_of a.image.now p.page) c.leaf_for-leaf.ensures);
+      value = ap Ok c.in_page-2.ensures ∙ sound-presence a.image.now a.root a.key (judged (goal.at.returns c).Else-not-leaf_sound) _ (c.page_of-2.ensures ∙ ap (λ (p : Place). page_of a.image.now p.page) c.leaf_for-leaf.ensures);
       marks = subst (λ (p : Place). Marks a.image.now a.root (set a.judged.now p.page 1)) (sym c.leaf_for-leaf.ensures)
           (marks-set a.image.now a.root (call-opened _ _ c.requires.0).index a.judged.now c.requires.1 a.key (judged (goal.at.returns c).Else-not-leaf_sound));
     }

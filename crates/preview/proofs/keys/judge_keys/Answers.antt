@@ -1,16 +1,19 @@
 -- `judge_keys`: what is noted says which keys are there, and what the edits that are left come to is what all come to.
 -- Assumes nothing.
+use Rattle.std.specs.Prelude.{Bool, Result}
+use Rattle.std.proofs.lemmas.Result.{err_from_is_err_and}
 use Prim.Native.Nat.{◌<◌}
 use mathlib.Core.Path.{◌≡◌, refl, sym, ap, ◌∙◌}
 use native.Mathlib.Omega.{arith}
 use lib.ListN.{get_or, length-set}
 use lib.Dec.{eqb}
+use Rattle.device.specs.declared.Refusal.{Refusal}
 use Rattle.image.specs.Descent.{records_for}
 use Rattle.edit.proofs.Heads.{head-fits}
 use Rattle.preview.specs.Noted.{kind_noted, presence, there_by, fault_by}
 use Rattle.preview.proofs.Judging.{marks-none, upto-start, upto-end, one_more, upto-stop, upto_next}
 use Rattle.preview.proofs.keys.judge_keys.Goals as goal
-use Rattle.preview.proofs.keys.judge_keys.Goals.{After-key_fault-fault}
+use Rattle.preview.proofs.keys.judge_keys.Goals.{After-is_there}
 
 pub loop-at-init : goal.loop-at-init
 loop-at-init c =
@@ -28,21 +31,29 @@ long_at-key-requires c = omega (arith, head-fits c.loop-at.invariant.3.ahead c.l
 pub slice_bounds-is_there-end : goal.slice_bounds-is_there-end
 slice_bounds-is_there-end c = sym c.loop-at.invariant.4.enough
 
-pub is_there-there-requires : goal.is_there-there-requires
-is_there-there-requires c = (c.requires.0, c.loop-at.invariant.4, omega (arith, one_more c.loop-at.invariant.3 c.loop-at-test.true))
+pub is_there-requires : goal.is_there-requires
+is_there-requires c = (c.requires.0, c.loop-at.invariant.4, omega (arith, one_more c.loop-at.invariant.3 c.loop-at-test.true))
 
 pub overflow_cast-n : goal.overflow_cast-n
 overflow_cast-n c = omega (arith, one_more c.loop-at.invariant.3 c.loop-at-test.true)
 
--- what the code says of the edit, by what is noted
-says : (c : After-key_fault-fault) →
+-- what is to be said of the edit, by what is noted
+says : (c : After-is_there) (there : Result Bool Refusal) → c.is_there.result ≡ there →
     let l = c.loop-at in
     let a = c.args in
-    c.key_fault-fault.result ≡ fault_by l.n (eqb (get_or a.list.now l.at 0) 1) (there_by (kind_noted l.keys l.kinds c.long_at-key.result l.n) (presence c.long_at-key.result (records_for a.image.now a.root c.long_at-key.result)))
-says c = c.key_fault-fault.ensures ∙ ap (fault_by c.loop-at.n (eqb (get_or c.args.list.now c.loop-at.at 0) 1)) c.is_there-there.ensures.value
+    fault_by l.n (eqb (get_or a.list.now l.at 0) 1) there ≡ fault_by l.n (eqb (get_or a.list.now l.at 0) 1) (there_by (kind_noted l.keys l.kinds c.long_at-key.result l.n) (presence c.long_at-key.result (records_for a.image.now a.root c.long_at-key.result)))
+says c there is = ap (fault_by c.loop-at.n (eqb (get_or c.args.list.now c.loop-at.at 0) 1)) (sym is ∙ c.is_there.ensures.value)
 
-pub returns-in_default : goal.returns-in_default
-returns-in_default c = upto-stop c.loop-at.invariant.3 c.loop-at-test.true _ refl _ c.long_at-key.ensures _ refl _ (says (goal.at.returns-in_default c).After-key_fault-fault) _ c.in_default.is
+pub returns-in_err-there : goal.returns-in_err-there
+unfolding fault_by
+returns-in_err-there c =
+    let p = err_from_is_err_and c.from_residual.result c.from_residual.ensures.1 in
+    rw (p.1, p.2) (upto-stop c.loop-at.invariant.3 c.loop-at-test.true _ refl _ c.long_at-key.ensures _ refl _ (says (goal.at.returns-in_err-there c).After-is_there _ c.in_err-there.was) _ refl)
+
+pub returns-in_err-key_fault : goal.returns-in_err-key_fault
+returns-in_err-key_fault c =
+    let p = err_from_is_err_and c.from_residual-in_err-key_fault.result c.from_residual-in_err-key_fault.ensures.1 in
+    rw (p.1, p.2) (upto-stop c.loop-at.invariant.3 c.loop-at-test.true _ refl _ c.long_at-key.ensures _ refl _ (sym c.in_err-key_fault.was ∙ c.key_fault.ensures ∙ says (goal.at.returns-in_err-key_fault c).After-is_there _ c.in_ok-there.was) _ refl)
 
 pub offset_bounds-keys-n : goal.offset_bounds-keys-n
 offset_bounds-keys-n c = omega (arith, one_more c.loop-at.invariant.3 c.loop-at-test.true)
@@ -76,7 +87,7 @@ loop-at-preserved c =
     let l = c.loop-at in
     let more = c.loop-at-test.true in
     let room : l.n < 16 = omega (arith, one_more l.invariant.3 more) in
-    (head-fits l.invariant.3.ahead more _ c.wide.ensures.0, length-set l.keys l.n _ ∙ l.invariant.1, length-set l.kinds l.n _ ∙ l.invariant.2, upto_next l.invariant.3 more _ c.wide.ensures.0 _ c.long_at-key.ensures _ refl _ (says (goal.at.loop-at-preserved c).After-key_fault-fault) c.in-Good.is (omega (arith, l.invariant.1)) (omega (arith, l.invariant.2)), c.is_there-there.ensures.marks)
+    (head-fits l.invariant.3.ahead more _ c.wide.ensures.0, length-set l.keys l.n _ ∙ l.invariant.1, length-set l.kinds l.n _ ∙ l.invariant.2, upto_next l.invariant.3 more _ c.wide.ensures.0 _ c.long_at-key.ensures _ refl _ (sym c.in_ok-key_fault.was ∙ c.key_fault.ensures ∙ says (goal.at.loop-at-preserved c).After-is_there _ c.in_ok-there.was) refl (omega (arith, l.invariant.1)) (omega (arith, l.invariant.2)), c.is_there.ensures.marks)
 
 pub returns : goal.returns
 returns c = upto-end c.loop-at.invariant.3 c.loop-at-test.false

@@ -1,20 +1,21 @@
 -- `see`: what the edits that are left make of what is seen so far, or of the image's answer, is what all of them make of the image's answer.
 -- Assumes nothing.
-use Rattle.std.specs.Prelude.{Option, Result}
+use Rattle.std.proofs.lemmas.Result.{err_from_is_err_and}
+use Rattle.std.specs.Prelude.{Ok, Some, None, MatchOption, IsSomeAnd, Option, Result}
 use Prim.Native.Nat.{◌+◌, ◌≤◌}
-use mathlib.Core.Path.{◌≡◌, refl, sym, ap, ap₂, ◌∙◌}
-use mathlib.Core.Bool.{Bool, true, false}
+use mathlib.Core.Path.{◌≡◌, refl, sym, ap, ◌∙◌}
 use native.Mathlib.Omega.{arith}
 use lib.ListN.{length}
-use Rattle.preview.specs.declared.Shown.{Shown}
+use Rattle.preview.specs.declared.Preview.{Preview}
+use Rattle.preview.specs.declared.Preview.TheVariants.{InImage}
+use Rattle.image.specs.declared.Part.{Part}
 use Rattle.device.specs.declared.Refusal.{Refusal}
-use Rattle.codec.specs.Lists.{pick}
 use Rattle.image.specs.Calls.{leaf_lookup}
 use Rattle.edit.specs.EditList.{edits_of, edit_list}
 use Rattle.edit.proofs.Parsing.{list-whole}
 use Rattle.edit.proofs.Heads.{head-none, head-fits, head-rest}
 use Rattle.preview.specs.Calls.{in_image, seen_from, seen}
-use Rattle.preview.proofs.Walk.{seen-own, seen_other}
+use Rattle.preview.proofs.Walk.{seen_by, seen-own, seen_other}
 use Rattle.preview.proofs.seen.see.Goals as goal
 use Rattle.preview.proofs.seen.see.Goals.{After-loop-at, Joined-long_at-key, then-long_at-key, else-long_at-key}
 
@@ -56,33 +57,47 @@ loop-at-preserved c =
     let rest = head-rest l.invariant.1 more _ c.wide-n.ensures.0 in
     let a = c.args in
     let stored = in_image (leaf_lookup a.image.now a.root a.key) in
-    let to : (own : Bool) (answer : Result (Option Shown) Refusal) → c.if-long_at-key.own ≡ own → c.if-long_at-key.answer ≡ answer → _ =
-    λ own answer p q. ap₂ (λ (o : Bool) (x : Result (Option Shown) Refusal). seen_from a.key (l.at + 10 + c.wide-n.result) (pick o x stored) rest.edits) p q in (
+    let to : (last : Option (Option Preview)) → c.if-long_at-key.last ≡ last → _ =
+    λ last p. ap (λ (x : Option (Option Preview)). seen_from a.key (l.at + 10 + c.wide-n.result) (seen_by x stored) rest.edits) p in (
       fits (goal.at.loop-at-preserved c).Joined-long_at-key,
       rest,
       elim c.if-long_at-key.branch [
         | then-long_at-key w ↦
-            to true _ w.own-is (w.answer-is ∙ w.brought-answer.ensures) ∙ sym (seen-own l.invariant.1 more _ c.wide-n.ensures.0 _ c.long_at.ensures _ (pick l.own l.answer stored) w.if-long_at-key.true) ∙ l.invariant.2
+            to _ (w.last-is ∙ ap Some w.brought.ensures) ∙ sym (seen-own l.invariant.1 more _ c.wide-n.ensures.0 _ c.long_at.ensures _ (seen_by l.last stored) w.if-long_at-key.true) ∙ l.invariant.2
         | else-long_at-key w ↦
-            to l.own l.answer w.own-is w.answer-is ∙ sym (seen_other l.invariant.1 more _ c.wide-n.ensures.0 _ c.long_at.ensures _ (pick l.own l.answer stored) w.if-long_at-key.false) ∙ l.invariant.2
+            to l.last w.last-is ∙ sym (seen_other l.invariant.1 more _ c.wide-n.ensures.0 _ c.long_at.ensures _ (seen_by l.last stored) w.if-long_at-key.false) ∙ l.invariant.2
       ],
     )
 
 -- no edit is left
-ended : (c : After-loop-at) (own : Bool) → c.loop-at.own ≡ own →
-    pick own c.loop-at.answer (in_image (leaf_lookup c.args.image.now c.args.root c.args.key)) ≡ seen (leaf_lookup c.args.image.now c.args.root c.args.key) c.args.key (edits_of (edit_list c.args.list.now))
+ended : (c : After-loop-at) (last : Option (Option Preview)) → c.loop-at.last ≡ last →
+    seen_by last (in_image (leaf_lookup c.args.image.now c.args.root c.args.key)) ≡ seen (leaf_lookup c.args.image.now c.args.root c.args.key) c.args.key (edits_of (edit_list c.args.list.now))
 unfolding seen_from
-ended c own e =
+ended c last e =
     let l = c.loop-at in
     let a = c.args in
     let stored = in_image (leaf_lookup a.image.now a.root a.key) in
-    ap (λ (o : Bool). pick o l.answer stored) (sym e) ∙ sym (ap (seen_from a.key l.at (pick l.own l.answer stored)) (head-none l.invariant.1 c.loop-at-test.false)) ∙ l.invariant.2
+    ap (λ (o : Option (Option Preview)). seen_by o stored) (sym e) ∙ sym (ap (seen_from a.key l.at (seen_by l.last stored)) (head-none l.invariant.1 c.loop-at-test.false)) ∙ l.invariant.2
 
-pub returns-then-own : goal.returns-then-own
-returns-then-own c = ended (goal.at.returns-then-own c).After-loop-at true c.if-own.true
+pub returns-in-Some : goal.returns-in-Some
+returns-in-Some c = ended (goal.at.returns-in-Some c).After-loop-at _ c.in-Some.is
 
 pub find_key-requires : goal.find_key-requires
 find_key-requires c = c.requires.0
 
-pub returns : goal.returns
-returns c = c.in_image.ensures ∙ ap in_image c.find_key.ensures ∙ ended (goal.at.returns c).After-loop-at false c.if-own.false
+pub returns-in_err-find_key-in-None : goal.returns-in_err-find_key-in-None
+unfolding in_image
+returns-in_err-find_key-in-None c =
+    let p = err_from_is_err_and c.from_residual.result c.from_residual.ensures.1 in
+    rw (p.1, p.2) (ap in_image (sym (sym c.find_key.ensures ∙ c.in_err-find_key-in-None.was)) ∙ ended (goal.at.returns-in_err-find_key-in-None c).After-loop-at None c.in-None.is)
+
+-- each part that is found is shown
+shows : (o : Option Part) (r : Option Preview) → MatchOption o (r ≡ None) (λ x. IsSomeAnd r (λ y. y ≡ InImage x)) → Ok r ≡ in_image (Ok o)
+unfolding in_image
+shows None r h = ap Ok h
+shows (Some x) (Some y) h = ap (λ (z : Preview). Ok (Some z)) h
+shows (Some x) None h = absurd h
+
+pub returns-in_ok-find_key-in-None : goal.returns-in_ok-find_key-in-None
+returns-in_ok-find_key-in-None c =
+    shows _ _ c.map.ensures.cases ∙ ap in_image (sym (sym c.find_key.ensures ∙ c.in_ok-find_key-in-None.was)) ∙ ended (goal.at.returns-in_ok-find_key-in-None c).After-loop-at None c.in-None.is

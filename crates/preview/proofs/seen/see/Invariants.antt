@@ -3,15 +3,15 @@
 use Prim.Native.Nat.{◌-◌, ◌≤◌}
 use mathlib.Core.Path.{◌≡◌}
 use lib.ListN.{length}
-use Rattle.codec.specs.Lists.{pick}
 use Rattle.image.specs.Calls.{leaf_lookup}
 use Rattle.edit.specs.EditList.{edits_of, edit_list}
 use Rattle.edit.proofs.Heads.{Ahead}
 use Rattle.preview.specs.Calls.{in_image, seen_from, seen}
+use Rattle.preview.proofs.Walk.{seen_by}
 use Rattle.preview.proofs.seen.see.Given as goal
 
 abbrev pub invariant-loop-at : goal.invariant-loop-at
-invariant-loop-at l = (l.at ≤ length l.list) × (A : Ahead l.list l.at) × (seen_from l.key l.at (pick l.own l.answer (in_image (leaf_lookup l.image l.root l.key))) A.edits ≡ seen (leaf_lookup l.image l.root l.key) l.key (edits_of (edit_list l.list)))
+invariant-loop-at l = (l.at ≤ length l.list) × (A : Ahead l.list l.at) × (seen_from l.key l.at (seen_by l.last (in_image (leaf_lookup l.image l.root l.key))) A.edits ≡ seen (leaf_lookup l.image l.root l.key) l.key (edits_of (edit_list l.list)))
 
 abbrev pub decreases-loop-at : goal.decreases-loop-at
 decreases-loop-at l = length l.list - l.at

@@ -1,6 +1,6 @@
 -- How many leaves the records of two books fill: one leaf at a time, by what is left of both.
 -- Assumes nothing.
-use Rattle.std.specs.Prelude.{Err, Ok}
+use Rattle.std.specs.Prelude.{Result, Err, Ok}
 use Prim.Native.Nat.{ℕ, suc, ◌+◌, ◌-◌, ◌*◌, ◌≤◌, ◌<◌}
 use mathlib.Core.Path.{◌≡◌, refl, sym, ap, ◌∙◌}
 use mathlib.Core.Bool.{Bool, true, false}
@@ -8,6 +8,7 @@ use mathlib.Core.List.{List, [], ◌∷◌, ◌++◌}
 use native.Mathlib.Omega.{arith}
 use lib.ListN.{length, length-append}
 use lib.Dec.{ltb}
+use Rattle.device.specs.declared.Refusal.{Refusal}
 use Rattle.device.specs.Calls.{key_in_both, refusal}
 use Rattle.codec.specs.Lists.{pick}
 use Rattle.page.specs.Layout.{page_size, line_size, slot_count, leaf_kind, top_key, Rec, rec_of, size}
@@ -160,10 +161,10 @@ module _ {a b : List ℕ} {at : Cursors} {leaves n s : ℕ} (k : Counting a b at
 
 -- ---- what was counted, by its answer
 
-pub counted-both : (t : Bool) (n : ℕ) → pick t (Ok n) (Err (refusal key_in_both)) ≡ (Err (refusal key_in_both)) → t ≡ false
-counted-both true n e = let z : ◌≡◌ {A = ℕ} 0 1 = cc in absurd (omega arith)
-counted-both false n e = refl
+pub counted-both : (t : Bool) (n : ℕ) (r : Refusal) → ◌≡◌ {A = Result ℕ Refusal} (pick t (Ok n) (Err (refusal key_in_both))) (Err r) → (t ≡ false) × (refusal key_in_both ≡ r)
+counted-both true n r e = let z : ◌≡◌ {A = ℕ} 0 1 = cc in absurd (omega arith)
+counted-both false n r e = (refl, cc)
 
-pub counted-leaves : (t : Bool) (n m : ℕ) → pick t (Ok n) (Err (refusal key_in_both)) ≡ Ok m → (t ≡ true) × (m ≡ n)
+pub counted-leaves : (t : Bool) (n m : ℕ) → ◌≡◌ {A = Result ℕ Refusal} (pick t (Ok n) (Err (refusal key_in_both))) (Ok m) → (t ≡ true) × (m ≡ n)
 counted-leaves true n m e = (refl, cc)
 counted-leaves false n m e = let z : ◌≡◌ {A = ℕ} 0 1 = cc in absurd (omega arith)

@@ -1,6 +1,7 @@
 // Leaves of the records of two books: how many there are, and their pages.
-ghost use Rattle.std.specs.Prelude.{◌≡◌, true, [], ◌∷◌, ◌+◌, ◌*◌, ◌≤◌, ◌<◌, length, take};
+ghost use Rattle.std.specs.Prelude.{◌≡◌, true, Ok, Err, [], ◌∷◌, ◌+◌, ◌*◌, ◌≤◌, ◌<◌, length, take};
 ghost use Rattle.codec.specs.Lists.{pick, All};
+ghost use Rattle.device.specs.Calls.{refusal, key_in_both};
 ghost use Rattle.page.specs.Layout.{page_size, index_kind, top_key};
 ghost use Rattle.page.specs.Operations.{fill};
 ghost use Rattle.page_edit.specs.Filling.{Room, Filled};
@@ -12,7 +13,8 @@ ghost use Rattle.merge.specs.Leaves.{leaves_of};
 ghost use Rattle.merge.specs.Cursors.{takes, Ready, apart_at, LeafFilled};
 
 use crate::books::{append_next, begin, next_size, smaller_key, step, takes_next};
-use crate::{Counted, Cursors};
+use crate::Cursors;
+use device::{Cause, Refusal};
 use image::pages;
 use page::header::Header;
 use page_edit::append_new;
@@ -28,10 +30,10 @@ pub(crate) fn takes(n: usize, s: usize, z: usize) -> bool
     s + z <= 960
 }
 
-// How many leaves the records of both fill: the last has n records of s bytes so far.
-pub(crate) fn count_leaves(first: &[u8], second: &[u8]) -> Counted
+// How many leaves the records of both fill, unless a key is in both: the last has n records of s bytes so far.
+pub(crate) fn count_leaves(first: &[u8], second: &[u8]) -> Result<usize, Refusal>
     requires { (sound first.now ≡ true) × (sound second.now ≡ true) }
-    ensures { result ≡ pick (apart (table first.now) (table second.now)) (Counted.Leaves (length (leaves_of (merged (table first.now) (table second.now))))) Counted.InBoth }
+    ensures { result ≡ pick (apart (table first.now) (table second.now)) (Ok (length (leaves_of (merged (table first.now) (table second.now))))) (Err (refusal key_in_both)) }
 {
     let mut at = begin(first, second);
     let mut leaves = 1;
@@ -50,9 +52,9 @@ pub(crate) fn count_leaves(first: &[u8], second: &[u8]) -> Counted
         }
     }
     if at.first.key < pages::KEYS_END {
-        return Counted::InBoth;
+        return Err(Refusal::of(Cause::KeyInBoth));
     }
-    Counted::Leaves(leaves)
+    Ok(leaves)
 }
 
 // Fills a leaf with the records that come next, as many as it takes, and gives the place after them.

@@ -10,7 +10,7 @@ ghost use Rattle.merge.specs.Leaves.{leaves_of};
 ghost use Rattle.merge.specs.Calls.{store_leaves, merge_tables, merge_call};
 
 use crate::leaves::{count_leaves, fill_index, fill_leaves};
-use device::{Answer, Refusal, is_image_size};
+use device::{Cause, Refusal, is_image_size};
 use image::calls::check;
 use image::format::put_blank;
 
@@ -34,57 +34,44 @@ pub struct Cursors {
     pub second: Cursor,
 }
 
-// How many leaves the records of two books fill, unless a key is in both.
-#[derive(Clone, Copy)]
-pub enum Counted {
-    InBoth,
-    Leaves(usize),
-}
-
 // Writes the leaves and the index over them, if there is room for so many.
-fn store_leaves(first: &[u8], second: &[u8], out: &mut [u8], leaves: usize) -> Answer
+fn store_leaves(first: &[u8], second: &[u8], out: &mut [u8], leaves: usize) -> Result<(), Refusal>
     requires first_value { (sound first.now ≡ true) × (sound second.now ≡ true) × (is_image_size (length out.old) ≡ true) }
     requires second_value { (apart (table first.now) (table second.now) ≡ true) × (leaves ≡ length (leaves_of (merged (table first.now) (table second.now)))) }
     ensures value { result ≡ (store_leaves (leaves_of (merged (table first.now) (table second.now))) out.old).answer }
     ensures out_after { out.new ≡ (store_leaves (leaves_of (merged (table first.now) (table second.now))) out.old).work }
 {
     if 28 < leaves {
-        return Answer::Refused(Refusal::of(Refusal::INDEX_FULL));
+        return Err(Refusal::of(Cause::IndexFull));
     }
     if out.len() / 1024 < leaves + 2 {
-        return Answer::Refused(Refusal::of(Refusal::PAGES_OUT));
+        return Err(Refusal::of(Cause::PagesOut));
     }
     put_blank(out);
     let seps = fill_leaves(out, first, second, leaves);
     fill_index(&mut out[1024..2048], seps, leaves);
-    Answer::Accepted
+    Ok(())
 }
 
 // Merges two sound books.
-fn merge_sound(first: &[u8], second: &[u8], out: &mut [u8]) -> Answer
+fn merge_sound(first: &[u8], second: &[u8], out: &mut [u8]) -> Result<(), Refusal>
     requires { (sound first.now ≡ true) × (sound second.now ≡ true) × (is_image_size (length out.old) ≡ true) }
     ensures value { result ≡ (merge_tables (table first.now) (table second.now) out.old).answer }
     ensures out_after { out.new ≡ (merge_tables (table first.now) (table second.now) out.old).work }
 {
-    match count_leaves(first, second) {
-        Counted::InBoth => Answer::Refused(Refusal::of(Refusal::KEY_IN_BOTH)),
-        Counted::Leaves(n) => store_leaves(first, second, out, n),
-    }
+    let leaves = count_leaves(first, second)?;
+    store_leaves(first, second, out, leaves)
 }
 
 // Writes the records of two images as one store into a third buffer, whatever it held.
-pub fn merge(first: &[u8], second: &[u8], out: &mut [u8]) -> Answer
+pub fn merge(first: &[u8], second: &[u8], out: &mut [u8]) -> Result<(), Refusal>
     ensures value { result ≡ (merge_call first.now second.now out.old).answer }
     ensures out_after { out.new ≡ (merge_call first.now second.now out.old).work }
 {
     if !is_image_size(out.len()) {
-        return Answer::Refused(Refusal::of(Refusal::IMAGE_SIZE));
+        return Err(Refusal::of(Cause::ImageSize));
     }
-    match check(first) {
-        Answer::Refused(refusal) => Answer::Refused(refusal),
-        Answer::Accepted => match check(second) {
-            Answer::Refused(refusal) => Answer::Refused(refusal),
-            Answer::Accepted => merge_sound(first, second, out),
-        },
-    }
+    check(first)?;
+    check(second)?;
+    merge_sound(first, second, out)
 }

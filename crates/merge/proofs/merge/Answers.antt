@@ -1,5 +1,6 @@
 -- `merge` answers and leaves what `merge_call` says: the third buffer's size, the two checks, and then the tables.
 -- Assumes nothing.
+use Rattle.std.proofs.lemmas.Result.{err_from_is_err_and}
 use Rattle.std.specs.Prelude.{Err, Ok}
 use mathlib.Core.Path.{◌≡◌, sym, ap, ◌∙◌}
 use mathlib.Core.Bool.{true}
@@ -14,7 +15,7 @@ use Rattle.merge.specs.Calls.{merge_tables, merge_call}
 use Rattle.merge.specs.Says.{Begun, bad-buffer, bad-first, bad-second}
 use Rattle.merge.proofs.Grounds.{begun-call, says-merge}
 use Rattle.merge.proofs.merge.Goals as goal
-use Rattle.merge.proofs.merge.Goals.{Else-not-is_image_size, In-Accepted, In-Accepted-check}
+use Rattle.merge.proofs.merge.Goals.{Else-not-is_image_size, In_ok-check, In_ok-check-2}
 
 pub returns-then-not-is_image_size : goal.returns-then-not-is_image_size
 returns-then-not-is_image_size c =
@@ -28,29 +29,31 @@ sized : (c : Else-not-is_image_size) → is_image_size (length c.args.out.now) �
 sized c = sym c.is_image_size.ensures ∙ not-false _ c.if-not-is_image_size.false-raw
 
 -- the first image is sound, and so is the second
-first-checked : (c : In-Accepted) → check_call c.args.first.now ≡ Ok tt
-first-checked c = sym c.check.ensures ∙ c.in-Accepted.is
+first-checked : (c : In_ok-check) → check_call c.args.first.now ≡ Ok tt
+first-checked c = sym c.check.ensures ∙ c.in_ok-check.was
 
-begun : (c : In-Accepted-check) → (is_image_size (length c.args.out.now) ≡ true) → (check_call c.args.first.now ≡ Ok tt) → let a = c.args in Begun a.first.now a.second.now a.out.now
-begun c sized first-checked = record { size = sized; first = first-checked; second = sym c.check-in-Accepted.ensures ∙ c.in-Accepted-check.is }
+begun : (c : In_ok-check-2) → (is_image_size (length c.args.out.now) ≡ true) → (check_call c.args.first.now ≡ Ok tt) → let a = c.args in Begun a.first.now a.second.now a.out.now
+begun c sized first-checked = record { size = sized; first = first-checked; second = sym c.check-2.ensures ∙ c.in_ok-check-2.was }
 
 pub merge_sound-requires : goal.merge_sound-requires
-merge_sound-requires c = let b = begun (goal.at.merge_sound-requires c).In-Accepted-check (sized (goal.at.merge_sound-requires c).Else-not-is_image_size) (first-checked (goal.at.merge_sound-requires c).In-Accepted) in (check_sound _ b.first, check_sound _ b.second, b.size)
+merge_sound-requires c = let b = begun (goal.at.merge_sound-requires c).In_ok-check-2 (sized (goal.at.merge_sound-requires c).Else-not-is_image_size) (first-checked (goal.at.merge_sound-requires c).In_ok-check) in (check_sound _ b.first, check_sound _ b.second, b.size)
 
-pub returns-in-Refused : goal.returns-in-Refused
-returns-in-Refused c = let whole =
+pub returns-in_err-check : goal.returns-in_err-check
+returns-in_err-check c =
     let a = c.args in
-    let bad = bad-first (sized (goal.at.returns-in-Refused c).Else-not-is_image_size) c.in-Refused.refusal (sym c.check.ensures ∙ c.in-Refused.is) in
-    said (merge_call a.first.now a.second.now a.out.now) _ (says-merge _ _ _ _ bad) in record { value = whole.0; out_after = whole.1 }
+    let p = err_from_is_err_and c.from_residual.result c.from_residual.ensures.1 in
+    let bad = bad-first (sized (goal.at.returns-in_err-check c).Else-not-is_image_size) c.in_err-check.field-0.0 (sym c.check.ensures ∙ c.in_err-check.was) in
+    let done = said (merge_call a.first.now a.second.now a.out.now) _ (says-merge _ _ _ _ bad) in record { value = rw (p.1, p.2) done.0; out_after = done.1 }
 
-pub returns-in-Refused-check : goal.returns-in-Refused-check
-returns-in-Refused-check c = let whole =
+pub returns-in_err-check-2 : goal.returns-in_err-check-2
+returns-in_err-check-2 c =
     let a = c.args in
-    let bad = bad-second (sized (goal.at.returns-in-Refused-check c).Else-not-is_image_size) (first-checked (goal.at.returns-in-Refused-check c).In-Accepted) c.in-Refused-check.refusal (sym c.check-in-Accepted.ensures ∙ c.in-Refused-check.is) in
-    said (merge_call a.first.now a.second.now a.out.now) _ (says-merge _ _ _ _ bad) in record { value = whole.0; out_after = whole.1 }
+    let p = err_from_is_err_and c.from_residual-in_err-check-2.result c.from_residual-in_err-check-2.ensures.1 in
+    let bad = bad-second (sized (goal.at.returns-in_err-check-2 c).Else-not-is_image_size) (first-checked (goal.at.returns-in_err-check-2 c).In_ok-check) c.in_err-check-2.field-0.0 (sym c.check-2.ensures ∙ c.in_err-check-2.was) in
+    let done = said (merge_call a.first.now a.second.now a.out.now) _ (says-merge _ _ _ _ bad) in record { value = rw (p.1, p.2) done.0; out_after = done.1 }
 
-pub returns-in-Accepted-check : goal.returns-in-Accepted-check
-returns-in-Accepted-check c =
+pub returns : goal.returns
+returns c =
     let a = c.args in
-    let done = said (merge_call a.first.now a.second.now a.out.now) (merge_tables (table a.first.now) (table a.second.now) a.out.now) (begun-call _ _ _ (begun (goal.at.returns-in-Accepted-check c).In-Accepted-check (sized (goal.at.returns-in-Accepted-check c).Else-not-is_image_size) (first-checked (goal.at.returns-in-Accepted-check c).In-Accepted))) in
+    let done = said (merge_call a.first.now a.second.now a.out.now) (merge_tables (table a.first.now) (table a.second.now) a.out.now) (begun-call _ _ _ (begun (goal.at.returns c).In_ok-check-2 (sized (goal.at.returns c).Else-not-is_image_size) (first-checked (goal.at.returns c).In_ok-check))) in
     record { value = c.merge_sound.ensures.value ∙ done.0; out_after = c.merge_sound.ensures.out_after ∙ done.1 }

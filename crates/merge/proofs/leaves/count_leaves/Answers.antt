@@ -1,6 +1,7 @@
 -- `count_leaves`: the last leaf so far and what is left of both make as many leaves as there are.
 -- Assumes nothing.
-use mathlib.Core.Path.{sym, ◌∙◌}
+use Rattle.std.specs.Prelude.{Err}
+use mathlib.Core.Path.{sym, ap, ◌∙◌}
 use native.Mathlib.Omega.{arith}
 use Rattle.merge.proofs.Coming.{passed-less}
 use Rattle.merge.proofs.Counting.{count-starts, small, next_small, count-takes, count-closes, count-twice, count-ends}
@@ -51,7 +52,7 @@ loop-at-preserved c =
     (sym c.takes.ensures ∙ c.if-takes.false)
 
 pub returns-then-at-lt-KEYS_END : goal.returns-then-at-lt-KEYS_END
-returns-then-at-lt-KEYS_END c = count-twice c.loop-at.invariant c.loop-at-test.false (omega (arith, c.if-at-lt-KEYS_END.true))
+returns-then-at-lt-KEYS_END c = ap Err c.of.ensures ∙ count-twice c.loop-at.invariant c.loop-at-test.false (omega (arith, c.if-at-lt-KEYS_END.true))
 
 pub returns : goal.returns
 returns c = count-ends c.loop-at.invariant c.loop-at-test.false (omega (arith, c.if-at-lt-KEYS_END.false))

@@ -52,7 +52,7 @@ use Rattle.transaction.proofs.Joining.{images}
 use Rattle.transaction.proofs.Demand2.{acceptance, was-sound, target, target-edited, answer-is}
 use Rattle.recovery.specs.Calls.{recover_call}
 use Rattle.recovery.specs.Calls as recoveries
-use Rattle.recovery.specs.declared.Redone.{Redone}
+use Rattle.journal.specs.declared.Redone.{Redone}
 use Rattle.costs.specs.Tapes.{tape_most, TapeUsed, TapeSuffices, redo_most, RedoUsed, RedoSuffices}
 use Rattle.costs.proofs.Lines.{stage-most}
 

@@ -9,7 +9,7 @@ use Rattle.journal.specs.declared.Way.TheVariants.{ByLine, ByWords}
 use Rattle.journal.specs.declared.Commit.{Commit}
 use Rattle.transaction.specs.Calls.{transaction_call}
 use Rattle.recovery.specs.Calls.{recover_call}
-use Rattle.recovery.specs.declared.Redone.{Redone}
+use Rattle.journal.specs.declared.Redone.{Redone}
 
 -- a transaction, on either device, on the image a: 1,600 bytes for each of its pages
 abbrev pub tape_most : List ℕ → ℕ

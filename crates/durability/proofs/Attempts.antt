@@ -21,7 +21,7 @@ use Rattle.journal.proofs.Fitting.{recovery-decode}
 use Rattle.journal.proofs.Stated.{front-back}
 use Rattle.transaction.specs.Calls.{commands_on}
 use Rattle.recovery.specs.Calls.{Called, accepted_with, recover_call}
-use Rattle.recovery.specs.declared.Redone.{Redone}
+use Rattle.journal.specs.declared.Redone.{Redone}
 use Rattle.durability.specs.Demand.{Attempt, cut_by, attempted, attempted_all, Allowed, AllAllowed}
 use Rattle.durability.proofs.Recovered.{only-room, accepted-tape, accepts}
 

@@ -21,7 +21,7 @@ use Rattle.journal.proofs.Fitting.{recovery-fits}
 use Rattle.transaction.specs.Calls.{commands_on}
 use Rattle.transaction.proofs.Demand2.{acceptance, formed, demand-2}
 use Rattle.recovery.specs.Calls.{recover_call}
-use Rattle.recovery.specs.declared.Redone.{Redone}
+use Rattle.journal.specs.declared.Redone.{Redone}
 use Rattle.durability.specs.Demand.{Call, on_image, image_after, played, Attempt, cut_by, attempted, Allowed, failed}
 use Rattle.durability.proofs.Transactions.{leaves-work}
 use Rattle.durability.proofs.Attempts.{commands-are}

@@ -45,7 +45,7 @@ use Rattle.transaction.specs.Answers.{Begun, Done, Answers, bad-size, bad-work, 
 use Rattle.transaction.proofs.Answers.{call-answers, answers-call}
 use Rattle.transaction.proofs.Demand2.{was-sound, target, target-edited, answer-is, commands-are, demand-2}
 use Rattle.recovery.specs.Calls.{Called, refused_with, accepted_with, recover_call}
-use Rattle.recovery.specs.declared.Redone.{Redone}
+use Rattle.journal.specs.declared.Redone.{Redone}
 use Rattle.durability.specs.Devices.{TransactionGroups, RecoveryGroups, WordTape, TransactionWords, RecoveryWords, transaction_says, recovery_says, AtTape, Alike, refused, at-tape, BothCalls, BothRecoveries}
 use Rattle.durability.proofs.Recovered.{refused-not}
 use Rattle.durability.proofs.Attempts as attempts

@@ -18,7 +18,7 @@ use Rattle.image.specs.Image.{sound}
 use Rattle.journal.specs.Recovery.{replay_from, recovery_tape, replayable}
 use Rattle.journal.specs.declared.Way.{Way}
 use Rattle.recovery.specs.Calls.{Called, refused_with, accepted_with, recover_call}
-use Rattle.recovery.specs.declared.Redone.{Redone}
+use Rattle.journal.specs.declared.Redone.{Redone}
 use Rattle.durability.specs.Demand.{Allowed}
 
 pub refused-not : (k : ℕ) (work tape : List ℕ) (e : Redone) → (refused_with k work tape).answer ≡ Ok e → ⊥

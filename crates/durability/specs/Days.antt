@@ -13,7 +13,7 @@ use Rattle.journal.specs.declared.Way.{Way}
 use Rattle.journal.specs.declared.Commit.{Commit}
 use Rattle.transaction.specs.Calls.{commands_on}
 use Rattle.recovery.specs.Calls as recovery
-use Rattle.recovery.specs.declared.Redone.{Redone}
+use Rattle.journal.specs.declared.Redone.{Redone}
 use Rattle.durability.specs.Demand.{Call, on_image, played, accepted_in, feeds, Attempt, AllAllowed, Issued, PastBarrier, commands, failed, last}
 
 -- ---- a day

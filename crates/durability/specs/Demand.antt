@@ -22,7 +22,7 @@ use Rattle.journal.specs.declared.Commit.{Commit}
 use Rattle.transaction.specs.Calls as transaction
 use Rattle.transaction.specs.Calls.{commands_on}
 use Rattle.recovery.specs.Calls as recovery
-use Rattle.recovery.specs.declared.Redone.{Redone}
+use Rattle.journal.specs.declared.Redone.{Redone}
 
 -- ---- transactions, each on the image that the last left
 

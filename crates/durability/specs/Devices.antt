@@ -15,7 +15,7 @@ use Rattle.journal.specs.declared.Commit.{Commit}
 use Rattle.journal.specs.declared.CommitPlace.TheVariants.{Root, Log}
 use Rattle.transaction.specs.Calls.{commands_on, transaction_call}
 use Rattle.recovery.specs.Calls.{recover_call}
-use Rattle.recovery.specs.declared.Redone.{Redone}
+use Rattle.journal.specs.declared.Redone.{Redone}
 
 -- ---- on both devices
 

@@ -24,3 +24,10 @@ pub struct Commit {
     pub bytes: usize,
     pub flushes: usize,
 }
+
+// An accepted recovery: the tape bytes used, and the number of flush commands on the tape.
+#[derive(Clone, Copy)]
+pub struct Redone {
+    pub bytes: usize,
+    pub flushes: usize,
+}

@@ -23,7 +23,7 @@ use Rattle.image.specs.Image.{first_key, IsEntry, Entries}
 use Rattle.image.proofs.General.{All-append, All-left}
 use Rattle.image.proofs.IndexRecords.{index-entry, sizes-entries}
 use Rattle.edit.proofs.General.{all_right}
-use Rattle.tree.specs.State.{State, with_page}
+use Rattle.tree.specs.State.{refused, State, with_page}
 use Rattle.tree.specs.Edits.{Change, PageStep, now, stops, kept, gone, one, two, no_keep, is_full, copied, split, moved, put, dropped, absorbed, onto, rooted}
 use Rattle.tree.specs.Good.{count}
 use Rattle.tree.proofs.Counts.{hit-self, inside-most}
@@ -268,4 +268,15 @@ pub upward-is : (before w : List ℕ) (root : ℕ) (c : Child) (below : Turned) 
     turn_of before w2 root above ≡ onto (turn_of before w root below) (λ x u. absorbed format1 no_keep index_kind c.slot c.low root x u) →
     rooted format1 1 (turn_of before w2 root above) ≡ upward root c s
 upward-is before w root c below s e w2 above f =
+    ap (rooted format1 1) (f ∙ ap (λ (y : PageStep). onto y (λ x u. absorbed format1 no_keep index_kind c.slot c.low root x u)) e)
+
+-- where the step below, or what the root takes of it, is refused
+pub upward-stops : (root : ℕ) (c : Child) (s : PageStep) (k : ℕ) → stops k ≡ s → refused k ≡ upward root c s
+unfolding rooted onto
+upward-stops root c s k e = ap (upward root c) e
+
+pub upward-stopped : (before w : List ℕ) (root : ℕ) (c : Child) (below : Turned) (s : PageStep) → turn_of before w root below ≡ s → (k : ℕ) →
+    stops k ≡ onto (turn_of before w root below) (λ x u. absorbed format1 no_keep index_kind c.slot c.low root x u) → refused k ≡ upward root c s
+unfolding rooted
+upward-stopped before w root c below s e k f =
     ap (rooted format1 1) (f ∙ ap (λ (y : PageStep). onto y (λ x u. absorbed format1 no_keep index_kind c.slot c.low root x u)) e)

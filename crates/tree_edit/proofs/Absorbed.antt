@@ -21,7 +21,7 @@ use Rattle.image.specs.PageZero.{page_count}
 use Rattle.image.specs.Image.{index_rec}
 use Rattle.image.proofs.IndexRecords.{index_ok}
 use Rattle.tree.specs.State.{State}
-use Rattle.tree.specs.Edits.{PageStep, now, one, no_keep, put, dropped, copy_then, then_into, absorbed, onto}
+use Rattle.tree.specs.Edits.{PageStep, now, stops, kept, one, no_keep, put, dropped, copy_then, then_into, absorbed, onto}
 use Rattle.tree.specs.Good.{hit, count}
 use Rattle.tree.proofs.Counts.{hit-self, inside-range}
 use Rattle.tree.proofs.Change.{Out, Holds, out-ends}
@@ -55,17 +55,21 @@ module _ (before work : List ℕ) (root page : ℕ) (f : ℕ → State → PageS
   unfolding then_into
   then-kept top e = ap (λ (r : Turned). then_into (turn_of before work root r) page f) (sym e)
 
-  -- where it is a copy x
-  module _ (x top : ℕ) (e : first ≡ One x top) (w : List ℕ) (second : Turned) (same : turn_of before w root second ≡ f x (state_of before work (record { root = root; top = top }))) where
-    into-is : copy_then x (turn_of before w root second) ≡ then_into (turn_of before work root first) page f
+  -- where it is a copy x, into which the second is put by the step y
+  module _ (x top : ℕ) (e : first ≡ One x top) (y : PageStep) (same : y ≡ f x (state_of before work (record { root = root; top = top }))) where
+    into-is : copy_then x y ≡ then_into (turn_of before work root first) page f
     unfolding then_into
     into-is = ap (copy_then x) same ∙ ap (λ (r : Turned). then_into (turn_of before work root r) page f) (sym e)
 
-    pub then-copied : (u : ℕ) → second ≡ Kept u → now (one x) (state_of before w (record { root = root; top = u })) ≡ then_into (turn_of before work root first) page f
+    pub then-stopped : (k : ℕ) → stops k ≡ y → stops k ≡ then_into (turn_of before work root first) page f
     unfolding copy_then
-    then-copied u z = ap (λ (r : Turned). copy_then x (turn_of before w root r)) (sym z) ∙ into-is
+    then-stopped k z = ap (copy_then x) z ∙ into-is
 
-    pub then-moved : copy_then x (turn_of before w root second) ≡ turn_of before w root second → turn_of before w root second ≡ then_into (turn_of before work root first) page f
+    pub then-copied : (s : State) → now kept s ≡ y → now (one x) s ≡ then_into (turn_of before work root first) page f
+    unfolding copy_then
+    then-copied s z = ap (copy_then x) z ∙ into-is
+
+    pub then-moved : copy_then x y ≡ y → y ≡ then_into (turn_of before work root first) page f
     then-moved z = sym z ∙ into-is
 
 -- ---- what is taken, by what stands for the page under it

@@ -1,7 +1,10 @@
 -- The code's tree, page under the root, record to be put and answers, and what of the definitions they stand for.
 -- Assumes nothing.
-use Rattle.std.specs.Prelude.{ℕ, zero, suc, ◌-◌, ◌≤◌, ◌≡◌, Bool, not, List, [], ◌∷◌, get_or, eqb}
+use Rattle.std.specs.Prelude.{ℕ, zero, suc, ◌-◌, ◌≤◌, ◌≡◌, Bool, not, List, [], ◌∷◌, get_or, eqb, Result, Ok, Err}
 use Rattle.codec.specs.Lists.{pick}
+use Rattle.device.specs.Calls.{cause_number, number_in}
+use Rattle.device.specs.declared.Cause.{Cause}
+use Rattle.device.specs.declared.Refusal.{Refusal}
 use Rattle.page.specs.Layout.{index_kind, Rec, rec_of}
 use Rattle.page.specs.Page.{records}
 use Rattle.page.specs.Operations.{made, page_of}
@@ -13,12 +16,8 @@ use Rattle.tree.specs.Whole as whole
 use Rattle.tree_edit.specs.declared.Tree.{Tree}
 use Rattle.tree_edit.specs.declared.Child.{Child}
 use Rattle.tree_edit.specs.declared.Put.{Put}
-use Rattle.tree_edit.specs.declared.Stepped.{Stepped}
-use Rattle.tree_edit.specs.declared.Stepped.TheVariants.{Done, Refused}
 use Rattle.tree_edit.specs.declared.Turned.{Turned}
 use Rattle.tree_edit.specs.declared.Turned.TheVariants as turned
-use Rattle.tree_edit.specs.declared.Outcome.{Outcome}
-use Rattle.tree_edit.specs.declared.Outcome.TheVariants.{Finished, Stopped}
 
 -- ---- marks, one a page
 
@@ -40,21 +39,21 @@ unmarked marks (suc n) = let rest = unmarked marks n in pick (is_marked marks (s
 abbrev pub state_of : List ℕ → List ℕ → Tree → State
 state_of before work t = record { image = work; root = t.root; free = unmarked before (t.top - 1) }
 
-abbrev pub step_of : List ℕ → List ℕ → Stepped → Step
-step_of before work (Done t) = done (state_of before work t)
-step_of before work (Refused k) = refused k
+abbrev pub step_of : List ℕ → List ℕ → Result Tree Cause → Step
+step_of before work (Ok t) = done (state_of before work t)
+step_of before work (Err cause) = refused (cause_number cause)
 
-abbrev pub outcome_of : List ℕ → List ℕ → Outcome → whole.Outcome
-outcome_of before work (Finished t) = whole.finished (state_of before work t)
-outcome_of before work (Stopped k i) = whole.stopped k i
+abbrev pub outcome_of : List ℕ → List ℕ → Result Tree Refusal → whole.Outcome
+outcome_of before work (Ok t) = whole.finished (state_of before work t)
+outcome_of before work (Err r) = whole.stopped (number_in r) r.edit
 
 -- where new pages are looked for after an edit
-abbrev pub top_of : Stepped → ℕ
-top_of (Done t) = t.top
-top_of (Refused k) = 0
+abbrev pub top_of : Result Tree Cause → ℕ
+top_of (Ok t) = t.top
+top_of (Err cause) = 0
 
 -- the answer r, with work as it is left, is what the step s comes to; all marks are of pages below 64
-pub record Says (before work : List ℕ) (r : Stepped) (s : Step) : Type 0 where
+pub record Says (before work : List ℕ) (r : Result Tree Cause) (s : Step) : Type 0 where
   pub same : step_of before work r ≡ s
   pub low : top_of r ≤ 64
 
@@ -65,19 +64,26 @@ turn_of before work root (turned.Kept top) = now kept (state_of before work (rec
 turn_of before work root (turned.Gone top) = now gone (state_of before work (record { root = root; top = top }))
 turn_of before work root (turned.One p top) = now (one p) (state_of before work (record { root = root; top = top }))
 turn_of before work root (turned.Two p k q top) = now (two p k q) (state_of before work (record { root = root; top = top }))
-turn_of before work root (turned.Stopped k) = stops k
 
 abbrev pub top_after : Turned → ℕ
 top_after (turned.Kept top) = top
 top_after (turned.Gone top) = top
 top_after (turned.One p top) = top
 top_after (turned.Two p k q top) = top
-top_after (turned.Stopped k) = 0
+
+-- the same where it may be refused
+abbrev pub turned_of : List ℕ → List ℕ → ℕ → Result Turned Cause → PageStep
+turned_of before work root (Ok r) = turn_of before work root r
+turned_of before work root (Err cause) = stops (cause_number cause)
+
+abbrev pub top_in : Result Turned Cause → ℕ
+top_in (Ok r) = top_after r
+top_in (Err cause) = 0
 
 -- the answer r, with work as it is left, is what the step s comes to
-pub record Turns (before work : List ℕ) (root : ℕ) (r : Turned) (s : PageStep) : Type 0 where
-  pub same : turn_of before work root r ≡ s
-  pub low : top_after r ≤ 64
+pub record Turns (before work : List ℕ) (root : ℕ) (r : Result Turned Cause) (s : PageStep) : Type 0 where
+  pub same : turned_of before work root r ≡ s
+  pub low : top_in r ≤ 64
 
 -- not two pages
 abbrev pub NotTwo : Turned → Type 0

@@ -15,11 +15,11 @@ ghost use Rattle.tree_edit.specs.Steps.{state_of, outcome_of, Says, child_at, re
 ghost use Rattle.tree_edit.specs.Asked.{AtChild, CanPut};
 
 use crate::turns::{absorb, drop_record, put_record, root_step};
-use crate::{Child, Outcome, Put, Stepped, Tree};
-use device::Refusal;
+use crate::{Child, Put, Tree};
+use device::{Cause, Refusal};
 use image::descent::route;
 use image::pages::{child_at, count, key_at, page_of};
-use page::{Search, find};
+use page::find;
 
 // The page under the root that a key belongs to: "keeps its separator, or takes 0 if first".
 pub(crate) fn child_of(work: &[u8], root: usize, key: u64) -> Child
@@ -47,13 +47,13 @@ pub(crate) fn put_under(
     under: Child,
     new: Put,
     value: &[u8],
-) -> Stepped
+) -> Result<Tree, Cause>
     requires { AtChild (page_count work.old) (state_of before.now work.old t) under × CanPut (page_of work.old under.page) new value.now × (t.top ≤ 64) }
     ensures { Says before.now work.new result (upward t.root under (put format1 no_keep leaf_kind (leb slot_count (length (records (page_of work.old t.root)))) new.ins new.at (rec_by new value.now) under.page (state_of before.now work.old t))) }
 {
     let full = 28 <= count(page_of(work, t.root));
-    let below = put_record(work, before, t, 1, full, under.page, new, value);
-    let above = absorb(work, before, t.root, 2, t.root, under, below);
+    let below = put_record(work, before, t, 1, full, under.page, new, value)?;
+    let above = absorb(work, before, t.root, 2, t.root, under, below)?;
     root_step(t.root, above)
 }
 
@@ -64,13 +64,13 @@ pub(crate) fn drop_under(
     t: Tree,
     under: Child,
     j: usize,
-) -> Stepped
+) -> Result<Tree, Cause>
     requires { AtChild (page_count work.old) (state_of before.now work.old t) under × (j < length (records (page_of work.old under.page))) × (t.top ≤ 64) }
     ensures { Says before.now work.new result (upward t.root under (dropped format1 (eqb (length (records (page_of work.old t.root))) 1) j under.page (state_of before.now work.old t))) }
 {
     let only = count(page_of(work, t.root)) == 1;
     let below = drop_record(work, t, under.page, only, j);
-    let above = absorb(work, before, t.root, 2, t.root, under, below);
+    let above = absorb(work, before, t.root, 2, t.root, under, below)?;
     root_step(t.root, above)
 }
 
@@ -81,14 +81,14 @@ pub(crate) fn insert_edit(
     t: Tree,
     key: u64,
     value: &[u8],
-) -> Stepped
+) -> Result<Tree, Cause>
     requires { Good (page_count work.old) (state_of before.now work.old t) × (t.top ≤ 64) × Proper (insert key value.now) }
     ensures { Says before.now work.new result (edited (insert key value.now) (state_of before.now work.old t)) }
 {
     let under = child_of(work, t.root, key);
     match find(page_of(work, under.page), key) {
-        Search::At(_) => Stepped::Refused(Refusal::KEY_PRESENT),
-        Search::Missing(at) => put_under(work, before, t, under, Put { ins: true, at, key }, value),
+        Ok(_) => Err(Cause::KeyPresent),
+        Err(at) => put_under(work, before, t, under, Put { ins: true, at, key }, value),
     }
 }
 
@@ -99,13 +99,13 @@ pub(crate) fn update_edit(
     t: Tree,
     key: u64,
     value: &[u8],
-) -> Stepped
+) -> Result<Tree, Cause>
     requires { Good (page_count work.old) (state_of before.now work.old t) × (t.top ≤ 64) × Proper (update key value.now) }
     ensures { Says before.now work.new result (edited (update key value.now) (state_of before.now work.old t)) }
 {
     let under = child_of(work, t.root, key);
-    let Search::At(at) = find(page_of(work, under.page), key) else {
-        return Stepped::Refused(Refusal::KEY_MISSING);
+    let Ok(at) = find(page_of(work, under.page), key) else {
+        return Err(Cause::KeyMissing);
     };
     put_under(
         work,
@@ -122,13 +122,13 @@ pub(crate) fn update_edit(
 }
 
 // Drops a key that is there.
-pub(crate) fn delete_edit(work: &mut [u8], before: &[u8; 64], t: Tree, key: u64) -> Stepped
+pub(crate) fn delete_edit(work: &mut [u8], before: &[u8; 64], t: Tree, key: u64) -> Result<Tree, Cause>
     requires { Good (page_count work.old) (state_of before.now work.old t) × (t.top ≤ 64) }
     ensures { Says before.now work.new result (edited (delete key) (state_of before.now work.old t)) }
 {
     let under = child_of(work, t.root, key);
-    let Search::At(at) = find(page_of(work, under.page), key) else {
-        return Stepped::Refused(Refusal::KEY_MISSING);
+    let Ok(at) = find(page_of(work, under.page), key) else {
+        return Err(Cause::KeyMissing);
     };
     drop_under(work, before, t, under, at)
 }
@@ -141,7 +141,7 @@ pub fn edit(
     kind: u8,
     key: u64,
     value: &[u8],
-) -> Stepped
+) -> Result<Tree, Cause>
     requires { Good (page_count work.old) (state_of before.now work.old t) × (t.top ≤ 64) × Proper (edit_of kind key value.now) }
     ensures { Says before.now work.new result (edited (edit_of kind key value.now) (state_of before.now work.old t)) }
 {
@@ -153,7 +153,7 @@ pub fn edit(
 }
 
 // Makes the edits of a well-formed list: "Each edit sees those before it". A value is lent as a part of the list.
-pub fn edit_list(work: &mut [u8], before: &[u8; 64], t: Tree, list: &[u8]) -> Outcome
+pub fn edit_list(work: &mut [u8], before: &[u8; 64], t: Tree, list: &[u8]) -> Result<Tree, Refusal>
     requires { Good (page_count work.old) (state_of before.now work.old t) × (t.top ≤ 64) × (edit_list list.now ≡ listed (edits_of (edit_list list.now))) }
     ensures { outcome_of before.now work.new result ≡ edits_from 0 (edits_of (edit_list list.now)) (state_of before.now work.old t) }
 {
@@ -165,18 +165,18 @@ pub fn edit_list(work: &mut [u8], before: &[u8; 64], t: Tree, list: &[u8]) -> Ou
         let e = b + codec::wide(list[at + 1]);
         let key = codec::long_at(list, at + 2);
         match edit(work, before, tree, list[at], key, &list[b..e]) {
-            Stepped::Refused(k) => {
-                return Outcome::Stopped {
-                    number: k,
+            Err(cause) => {
+                return Err(Refusal {
+                    cause,
                     edit: number,
-                };
+                });
             }
-            Stepped::Done(u) => {
-                tree = u;
+            Ok(edited) => {
+                tree = edited;
                 at = e;
                 number += 1;
             }
         }
     }
-    Outcome::Finished(tree)
+    Ok(tree)
 }

@@ -14,20 +14,6 @@ pub struct Tree {
     pub top: usize,
 }
 
-// What an edit comes to: the tree after it, or the number of its refusal, with work left as it then is.
-#[derive(Clone, Copy)]
-pub enum Stepped {
-    Done(Tree),
-    Refused(u8),
-}
-
-// What a list of edits comes to: the tree after all, or a refusal's number with the number of the edit.
-#[derive(Clone, Copy)]
-pub enum Outcome {
-    Finished(Tree),
-    Stopped { number: u8, edit: u8 },
-}
-
 // A page on the way down: its slot in the page above, where its range of keys starts, and its number.
 #[derive(Clone, Copy)]
 pub struct Child {
@@ -45,7 +31,7 @@ pub struct Put {
 }
 
 // What stands for a page once an edit under it is made: the page itself, nothing, one new page, or two, the right one from sep on; each with
-// the number below which new pages are then looked for. Or the number of a refusal.
+// the number below which new pages are then looked for.
 #[derive(Clone, Copy)]
 pub enum Turned {
     Kept {
@@ -64,5 +50,4 @@ pub enum Turned {
         right: usize,
         top: usize,
     },
-    Stopped(u8),
 }

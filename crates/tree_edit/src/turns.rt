@@ -1,5 +1,5 @@
 // A record put into a page of any kind: in place, by a copy or by a split; what the page above takes of it; and what the root does.
-ghost use Rattle.std.specs.Prelude.{◌≡◌, true, false, List, ℕ, ◌+◌, ◌-◌, ◌*◌, ◌≤◌, ◌<◌, length};
+ghost use Rattle.std.specs.Prelude.{◌≡◌, true, false, Ok, List, ℕ, ◌+◌, ◌-◌, ◌*◌, ◌≤◌, ◌<◌, length};
 ghost use Rattle.codec.specs.Numbers.{bytes_of};
 ghost use Rattle.page.specs.Layout.{page_size};
 ghost use Rattle.page.specs.Page.{records, laid_out};
@@ -14,8 +14,8 @@ ghost use Rattle.tree_edit.specs.Asked.{CanTake, CanSplit, CanThen, CanAbsorb};
 
 use crate::pages::{copy_made, delete_at, free_below, is_full, made_count, put_in_place};
 use crate::split::{fits_one, split_point};
-use crate::{Child, Put, Stepped, Tree, Turned};
-use device::Refusal;
+use crate::{Child, Put, Tree, Turned};
+use device::Cause;
 use image::pages::{count, key_at, page_of, size_of};
 
 // Copies a page's records, with the new one put in, to one new page.
@@ -27,18 +27,18 @@ pub(crate) fn copy_page(
     page: usize,
     new: Put,
     value: &[u8],
-) -> Turned
+) -> Result<Turned, Cause>
     requires can_take { CanTake (page_count work.old) (state_of before.now work.old t) page new value.now × (t.top ≤ 64) }
     requires fits { Fits (made_by new value.now (page_of work.old page)) }
     ensures { Turns before.now work.new t.root result (copied format1 kind (made_by new value.now (page_of work.old page)) (state_of before.now work.old t)) }
 {
     let p = free_below(before, t.top);
     if p == 0 {
-        return Turned::Stopped(Refusal::PAGES_OUT);
+        return Err(Cause::PagesOut);
     }
     let n = made_count(page_of(work, page), new.ins);
     copy_made(work, page, p, kind, new, value, 0, n);
-    Turned::One { page: p, top: p }
+    Ok(Turned::One { page: p, top: p })
 }
 
 // Splits a full page's records, with the new one put in, over two new pages, the left one taken first.
@@ -50,18 +50,18 @@ pub(crate) fn split_page(
     page: usize,
     new: Put,
     value: &[u8],
-) -> Turned
+) -> Result<Turned, Cause>
     requires can_take { CanTake (page_count work.old) (state_of before.now work.old t) page new value.now × (t.top ≤ 64) }
     requires can_split { CanSplit (made_by new value.now (page_of work.old page)) }
     ensures { Turns before.now work.new t.root result (split format1 kind (made_by new value.now (page_of work.old page)) (state_of before.now work.old t)) }
 {
     let p = free_below(before, t.top);
     if p == 0 {
-        return Turned::Stopped(Refusal::PAGES_OUT);
+        return Err(Cause::PagesOut);
     }
     let q = free_below(before, p);
     if q == 0 {
-        return Turned::Stopped(Refusal::PAGES_OUT);
+        return Err(Cause::PagesOut);
     }
     let old = page_of(work, page);
     let m = split_point(old, new, value);
@@ -69,12 +69,12 @@ pub(crate) fn split_page(
     copy_made(work, page, p, kind, new, value, 0, m);
     copy_made(work, page, q, kind, new, value, m, n);
     let sep = key_at(page_of(work, q), 0);
-    Turned::Two {
+    Ok(Turned::Two {
         left: p,
         sep,
         right: q,
         top: q,
-    }
+    })
 }
 
 // Moves a full page's records, with the new one put in: "If they are at most 28 and at most 960 bytes, they are copied to one new page; else
@@ -88,7 +88,7 @@ pub(crate) fn move_records(
     page: usize,
     new: Put,
     value: &[u8],
-) -> Turned
+) -> Result<Turned, Cause>
     requires { CanTake (page_count work.old) (state_of before.now work.old t) page new value.now × (t.top ≤ 64) }
     ensures { Turns before.now work.new t.root result (moved format1 kind full (made_by new value.now (page_of work.old page)) (state_of before.now work.old t)) }
 {
@@ -96,7 +96,7 @@ pub(crate) fn move_records(
         return copy_page(work, before, t, kind, page, new, value);
     }
     if full {
-        return Turned::Stopped(Refusal::INDEX_FULL);
+        return Err(Cause::IndexFull);
     }
     split_page(work, before, t, kind, page, new, value)
 }
@@ -111,7 +111,7 @@ pub(crate) fn put_record(
     page: usize,
     new: Put,
     value: &[u8],
-) -> Turned
+) -> Result<Turned, Cause>
     requires { CanTake (page_count work.old) (state_of before.now work.old t) page new value.now × (t.top ≤ 64) }
     ensures { Turns before.now work.new t.root result (put format1 no_keep kind full new.ins new.at (rec_by new value.now) page (state_of before.now work.old t)) }
 {
@@ -119,7 +119,7 @@ pub(crate) fn put_record(
         return move_records(work, before, t, kind, full, page, new, value);
     }
     put_in_place(work, page, new, value);
-    Turned::Kept { top: t.top }
+    Ok(Turned::Kept { top: t.top })
 }
 
 // Puts the index record of the page `named` into an index page.
@@ -131,7 +131,7 @@ pub(crate) fn put_entry(
     page: usize,
     new: Put,
     named: usize,
-) -> Turned
+) -> Result<Turned, Cause>
     requires { CanTake (page_count work.old) (state_of before.now work.old t) page new (bytes_of 2 named) × (t.top ≤ 64) }
     ensures { Turns before.now work.new t.root result (put format1 no_keep kind false new.ins new.at (index_rec new.key named) page (state_of before.now work.old t)) }
 {
@@ -150,7 +150,7 @@ pub(crate) fn then_entry(
     first: Turned,
     new: Put,
     named: usize,
-) -> Turned
+) -> Result<Turned, Cause>
     requires { CanThen (page_count work.old) before.now work.old root page new named first × (top_after first ≤ 64) }
     ensures { Turns before.now work.new root result (then_into (turn_of before.now work.old root first) page (λ x s. put format1 no_keep kind false new.ins new.at (index_rec new.key named) x s)) }
 {
@@ -159,20 +159,19 @@ pub(crate) fn then_entry(
             put_entry(work, before, Tree { root, top }, kind, page, new, named)
         }
         Turned::One { page: x, top } => {
-            let second = put_entry(work, before, Tree { root, top }, kind, x, new, named);
-            let Turned::Kept { top: u } = second else {
-                return second;
-            };
-            Turned::One { page: x, top: u }
+            match put_entry(work, before, Tree { root, top }, kind, x, new, named)? {
+                Turned::Kept { top: u } => Ok(Turned::One { page: x, top: u }),
+                second => Ok(second),
+            }
         }
-        _ => first,
+        _ => Ok(first),
     }
 }
 
 // Drops the j-th record of a page: "A leaf left empty, unless it is the only one, loses its index record."
 pub(crate) fn drop_record(work: &mut [u8], t: Tree, page: usize, only: bool, j: usize) -> Turned
     requires { (page_size * page + page_size ≤ length work.old) × (laid_out (page_of work.old page) ≡ true) × (j < length (records (page_of work.old page))) × (t.top ≤ 64) }
-    ensures { (before : List ℕ) → Turns before work.new t.root result (dropped format1 only j page (state_of before work.old t)) }
+    ensures { (before : List ℕ) → Turns before work.new t.root (Ok result) (dropped format1 only j page (state_of before work.old t)) }
 {
     delete_at(work, page, j);
     if only {
@@ -194,7 +193,7 @@ pub(crate) fn absorb(
     page: usize,
     under: Child,
     below: Turned,
-) -> Turned
+) -> Result<Turned, Cause>
     requires { CanAbsorb (page_count work.old) before.now work.old root kind page under below × (top_after below ≤ 64) }
     ensures { Turns before.now work.new root result (onto (turn_of before.now work.old root below) (λ x s. absorbed format1 no_keep kind under.slot under.low page x s)) }
 {
@@ -204,7 +203,9 @@ pub(crate) fn absorb(
         key: under.low,
     };
     match below {
-        Turned::Gone { top } => drop_record(work, Tree { root, top }, page, false, under.slot),
+        Turned::Gone { top } => {
+            Ok(drop_record(work, Tree { root, top }, page, false, under.slot))
+        }
         Turned::One { page: p, top } => {
             put_entry(work, before, Tree { root, top }, kind, page, new, p)
         }
@@ -214,25 +215,24 @@ pub(crate) fn absorb(
             right,
             top,
         } => {
-            let first = put_entry(work, before, Tree { root, top }, kind, page, new, left);
+            let first = put_entry(work, before, Tree { root, top }, kind, page, new, left)?;
             let at = under.slot + 1;
             let next = Put { ins: true, at, key };
             then_entry(work, before, root, kind, page, first, next, right)
         }
-        _ => below,
+        _ => Ok(below),
     }
 }
 
 // The tree after what the root has become: "which changes the root number". A root is not split.
-pub(crate) fn root_step(root: usize, above: Turned) -> Stepped
+pub(crate) fn root_step(root: usize, above: Turned) -> Result<Tree, Cause>
     requires { NotTwo above × (top_after above ≤ 64) }
     ensures { (before work : List ℕ) → Says before work result (rooted format1 1 (turn_of before work root above)) }
 {
     match above {
-        Turned::Kept { top } => Stepped::Done(Tree { root, top }),
-        Turned::Gone { top } => Stepped::Done(Tree { root, top }),
-        Turned::One { page, top } => Stepped::Done(Tree { root: page, top }),
-        Turned::Two { .. } => Stepped::Refused(Refusal::INDEX_FULL),
-        Turned::Stopped(k) => Stepped::Refused(k),
+        Turned::Kept { top } => Ok(Tree { root, top }),
+        Turned::Gone { top } => Ok(Tree { root, top }),
+        Turned::One { page, top } => Ok(Tree { root: page, top }),
+        Turned::Two { .. } => Err(Cause::IndexFull),
     }
 }

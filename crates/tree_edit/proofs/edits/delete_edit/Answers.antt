@@ -19,7 +19,7 @@ returns-in_default c = says-refused _ (delete-missing _ _ _ c.child_of-under.ens
 
 pub drop_under-requires : goal.drop_under-requires
 drop_under-requires c =
-    (routed-child c.requires.0 _ _ c.child_of-under.ensures, found-less _ _ _ c.child_of-under.ensures _ c.page_of.ensures _ c.find.ensures c.requires.0 _ c.in-At.is, c.requires.1)
+    (routed-child c.requires.0 _ _ c.child_of-under.ensures, found-less _ _ _ c.child_of-under.ensures _ c.page_of.ensures _ c.find.ensures c.requires.0 _ c.in-Ok.is, c.requires.1)
 
 pub returns : goal.returns
-returns c = says_same c.drop_under.ensures _ (delete-there _ _ _ c.child_of-under.ensures _ c.page_of.ensures _ c.find.ensures _ c.in-At.is)
+returns c = says_same c.drop_under.ensures _ (delete-there _ _ _ c.child_of-under.ensures _ c.page_of.ensures _ c.find.ensures _ c.in-Ok.is)

@@ -50,11 +50,11 @@ edit-requires c =
     let l = c.loop-at in
     (subst (λ (m : ℕ). Good (m / page_size) (state_of c.args.before.now l.work l.tree)) (sym l.invariant.0) l.invariant.2.good, l.invariant.2.low, left-proper l.invariant.2 c.loop-at-test.true _ c.wide.ensures.0 _ c.long_at-key.ensures)
 
-pub shape_of-work-in-Refused : goal.shape_of-work-in-Refused
-shape_of-work-in-Refused c = c.edit.auto.work ∙ c.loop-at.invariant.0
+pub shape_of-work-in-Err : goal.shape_of-work-in-Err
+shape_of-work-in-Err c = c.edit.auto.work ∙ c.loop-at.invariant.0
 
-pub returns-in-Refused : goal.returns-in-Refused
-returns-in-Refused c = left-stop c.loop-at.invariant.2 c.loop-at-test.true _ c.wide.ensures.0 _ c.long_at-key.ensures _ (said-refused c.edit.ensures _ c.in-Refused.is)
+pub returns-in-Err : goal.returns-in-Err
+returns-in-Err c = left-stop c.loop-at.invariant.2 c.loop-at-test.true _ c.wide.ensures.0 _ c.long_at-key.ensures _ (said-refused c.edit.ensures _ c.in-Err.is)
 
 pub overflow_add-number : goal.overflow_add-number
 overflow_add-number c = omega (arith, one_more c.loop-at.invariant.2 c.loop-at-test.true)
@@ -66,7 +66,7 @@ pub loop-at-preserved : goal.loop-at-preserved
 loop-at-preserved c =
     let loop-test = c.loop-at-test in
     let l = c.loop-at in
-    (c.edit.auto.work ∙ l.invariant.0, head-fits l.invariant.2.ahead loop-test.true _ c.wide.ensures.0, left-next l.invariant.2 loop-test.true _ c.wide.ensures.0 _ c.long_at-key.ensures _ _ (said-done c.edit.ensures _ c.in-Done.is) (said-low c.edit.ensures _ c.in-Done.is))
+    (c.edit.auto.work ∙ l.invariant.0, head-fits l.invariant.2.ahead loop-test.true _ c.wide.ensures.0, left-next l.invariant.2 loop-test.true _ c.wide.ensures.0 _ c.long_at-key.ensures _ _ (said-done c.edit.ensures _ c.in-Ok.is) (said-low c.edit.ensures _ c.in-Ok.is))
 
 pub shape_of-work : goal.shape_of-work
 shape_of-work c = c.loop-at.invariant.0

@@ -16,10 +16,10 @@ find-requires c = child-laid (routed-child c.requires.0 _ _ c.child_of-under.ens
 
 pub put_under-requires : goal.put_under-requires
 put_under-requires c =
-    (routed-child c.requires.0 _ _ c.child_of-under.ensures, can-insert _ _ _ c.child_of-under.ensures _ c.page_of.ensures _ c.find.ensures c.requires.0 _ c.requires.2.high c.requires.2.short _ c.in-Missing.is, c.requires.1)
+    (routed-child c.requires.0 _ _ c.child_of-under.ensures, can-insert _ _ _ c.child_of-under.ensures _ c.page_of.ensures _ c.find.ensures c.requires.0 _ c.requires.2.high c.requires.2.short _ c.in-Err.is, c.requires.1)
 
-pub returns-in-At : goal.returns-in-At
-returns-in-At c = says-refused _ (insert-present _ _ _ c.child_of-under.ensures _ c.page_of.ensures _ c.find.ensures _ c.in-At.is c.args.value.now)
+pub returns-in-Ok : goal.returns-in-Ok
+returns-in-Ok c = says-refused _ (insert-present _ _ _ c.child_of-under.ensures _ c.page_of.ensures _ c.find.ensures _ c.in-Ok.is c.args.value.now)
 
-pub returns-in-Missing : goal.returns-in-Missing
-returns-in-Missing c = says_same c.put_under.ensures _ (insert-missing _ _ _ c.child_of-under.ensures _ c.page_of.ensures _ c.find.ensures _ c.in-Missing.is c.args.value.now)
+pub returns-in-Err : goal.returns-in-Err
+returns-in-Err c = says_same c.put_under.ensures _ (insert-missing _ _ _ c.child_of-under.ensures _ c.page_of.ensures _ c.find.ensures _ c.in-Err.is c.args.value.now)

@@ -19,7 +19,7 @@ returns-in_default c = says-refused _ (update-missing _ _ _ c.child_of-under.ens
 
 pub put_under-requires : goal.put_under-requires
 put_under-requires c =
-    (routed-child c.requires.0 _ _ c.child_of-under.ensures, can-update _ _ _ c.child_of-under.ensures _ c.page_of.ensures _ c.find.ensures c.requires.0 _ c.requires.2.high c.requires.2.short _ c.in-At.is, c.requires.1)
+    (routed-child c.requires.0 _ _ c.child_of-under.ensures, can-update _ _ _ c.child_of-under.ensures _ c.page_of.ensures _ c.find.ensures c.requires.0 _ c.requires.2.high c.requires.2.short _ c.in-Ok.is, c.requires.1)
 
 pub returns : goal.returns
-returns c = says_same c.put_under.ensures _ (update-there _ _ _ c.child_of-under.ensures _ c.page_of.ensures _ c.find.ensures _ c.in-At.is c.args.value.now)
+returns c = says_same c.put_under.ensures _ (update-there _ _ _ c.child_of-under.ensures _ c.page_of.ensures _ c.find.ensures _ c.in-Ok.is c.args.value.now)

@@ -26,7 +26,3 @@ returns-in-One c =
 
 pub returns-in-Two : goal.returns-in-Two
 returns-in-Two c = absurd (c.requires.0 _ _ _ _ c.in-Two.is)
-
-pub returns-in-Stopped : goal.returns-in-Stopped
-unfolding rooted
-returns-in-Stopped c = λ before work. says_is _ (ap (λ (x : Turned). rooted format1 1 (turn_of before work c.args.root x)) (sym c.in-Stopped.is)) (omega arith)

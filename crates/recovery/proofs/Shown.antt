@@ -1,6 +1,6 @@
 -- Each way out of the call: what it answers and leaves there is what the definition says.
 -- Assumes nothing.
-use Rattle.std.specs.Prelude.{Err, Ok}
+use Rattle.std.specs.Prelude.{Err, Ok, Result}
 use Prim.Native.Nat.{ℕ}
 use mathlib.Core.Path.{◌≡◌, refl, sym, ap, ◌∙◌}
 use mathlib.Core.Bool.{Bool, true, false, ◌&&◌}
@@ -9,13 +9,12 @@ use lib.ListN.{length}
 use lib.Dec.{leb}
 use borrow.Author.Tests.{eq-eqb, ne_eqb, le-leb}
 use native.Mathlib.Omega.{arith}
-use Rattle.device.specs.declared.Cause.TheVariants.{TapeShort}
 use Rattle.journal.specs.declared.Redone.{Redone}
 use Rattle.device.specs.declared.Cause.{Cause}
 use Rattle.codec.specs.Lists.{pick}
 use Rattle.codec.proofs.Lists.{splice-sets}
 use Rattle.device.specs.Tape.{tape_bytes, how_many}
-use Rattle.device.specs.Calls.{image_size, work_size, unsound, tape_short, refusal, is_image_size}
+use Rattle.device.specs.Calls.{image_size, work_size, unsound, tape_short, refusal, is_image_size, of_cause}
 use Rattle.device.specs.declared.Refusal.{Refusal}
 use Rattle.image.specs.PageZero.{page_count, page_zero}
 use Rattle.image.specs.Image.{tree_ok, sound_from, sound}
@@ -33,8 +32,8 @@ Shows r work tape y = (r ≡ y.answer) × ((work ≡ y.work) × (tape ≡ y.tape
 
 -- what a recovery answers when writing its tape came to r
 abbrev pub answered : Result Redone Cause → Result Redone Refusal
-answered (Ok (record { bytes = bytes; flushes = flushes })) = Ok (record { bytes = bytes; flushes = flushes })
-answered (Err TapeShort) = Err (refusal tape_short)
+answered (Ok done) = Ok done
+answered (Err cause) = Err (of_cause cause)
 
 module _ (way : Way) (a work tape : List ℕ) where
   -- ---- the sizes

@@ -13,27 +13,12 @@ ghost use Rattle.journal.specs.declared.Way.{Way};
 ghost use Rattle.journal.specs.declared.Way.TheVariants.{ByLine, ByWords};
 ghost use Rattle.recovery.specs.Calls.{recover_call};
 
-use device::{Refusal, is_image_size};
+use device::{Cause, Refusal, is_image_size};
 use image::PageZero;
 use image::page_zero::page_zero;
 use image::tree::tree_ok;
-use journal::Way;
-use tape_write::Replayed;
+use journal::{Redone, Way};
 use tape_write::redo::{logged_ok, redo, replay};
-
-// An accepted recovery: the tape bytes used, and the number of flush commands on the tape.
-#[derive(Clone, Copy)]
-pub struct Redone {
-    pub bytes: usize,
-    pub flushes: usize,
-}
-
-// What a recovery answers.
-#[derive(Clone, Copy)]
-pub enum Recovered {
-    Accepted(Redone),
-    Refused(Refusal),
-}
 
 // Whether the replayed image has a sound tree. It is made in a scratch image: a refusal leaves work as it was.
 fn sound_in(scratch: &mut [u8], image: &[u8], headers: usize, root: usize) -> bool
@@ -74,63 +59,60 @@ fn redo_log(
     tape: &mut [u8],
     headers: usize,
     root: usize,
-) -> Recovered
+) -> Result<Redone, Refusal>
     requires { (is_image_size (length image.now) ≡ true) × (length work.old ≡ length image.now) × (page_zero image.now ≡ Waiting headers root) }
     ensures value { result ≡ (recover_call way image.now work.old tape.old).answer }
     ensures work_after { work.new ≡ (recover_call way image.now work.old tape.old).work }
     ensures tape_after { tape.new ≡ (recover_call way image.now work.old tape.old).tape }
 {
     if !logged_ok(image, headers) {
-        return Recovered::Refused(Refusal::of(Refusal::UNSOUND));
+        return Err(Refusal::of(Cause::Unsound));
     }
     if !replay_ok(image, headers, root) {
-        return Recovered::Refused(Refusal::of(Refusal::UNSOUND));
+        return Err(Refusal::of(Cause::Unsound));
     }
-    match redo(way, image, work, tape, headers, root) {
-        Replayed::Done { bytes, flushes } => Recovered::Accepted(Redone { bytes, flushes }),
-        Replayed::TapeShort => Recovered::Refused(Refusal::of(Refusal::TAPE_SHORT)),
-    }
+    redo(way, image, work, tape, headers, root).map_err(Refusal::of)
 }
 
 // Recovers an image whose mark is 0: "Recovery with mark 0 gives no commands."
-fn keep(image: &[u8], work: &mut [u8], root: usize) -> Recovered
+fn keep(image: &[u8], work: &mut [u8], root: usize) -> Result<Redone, Refusal>
     requires { (is_image_size (length image.now) ≡ true) × (length work.old ≡ length image.now) × (page_zero image.now ≡ Ready root) }
     ensures value { (way : Way) (tape : List ℕ) → result ≡ (recover_call way image.now work.old tape).answer }
     ensures work_after { (way : Way) (tape : List ℕ) → work.new ≡ (recover_call way image.now work.old tape).work }
     ensures tape_value { (way : Way) (tape : List ℕ) → tape ≡ (recover_call way image.now work.old tape).tape }
 {
     if !tree_ok(image, root) {
-        return Recovered::Refused(Refusal::of(Refusal::UNSOUND));
+        return Err(Refusal::of(Cause::Unsound));
     }
     codec::copy_all(work, image);
-    Recovered::Accepted(Redone {
+    Ok(Redone {
         bytes: 0,
         flushes: 0,
     })
 }
 
 // Recovers an image: work takes the replayed image, tape the commands that make it so, in the device's way.
-fn recover_by(way: Way, image: &[u8], work: &mut [u8], tape: &mut [u8]) -> Recovered
+fn recover_by(way: Way, image: &[u8], work: &mut [u8], tape: &mut [u8]) -> Result<Redone, Refusal>
     ensures value { result ≡ (recover_call way image.now work.old tape.old).answer }
     ensures work_after { work.new ≡ (recover_call way image.now work.old tape.old).work }
     ensures tape_after { tape.new ≡ (recover_call way image.now work.old tape.old).tape }
 {
     let n = image.len();
     if !is_image_size(n) {
-        return Recovered::Refused(Refusal::of(Refusal::IMAGE_SIZE));
+        return Err(Refusal::of(Cause::ImageSize));
     }
     if work.len() != n {
-        return Recovered::Refused(Refusal::of(Refusal::WORK_SIZE));
+        return Err(Refusal::of(Cause::WorkSize));
     }
     match page_zero(image) {
-        PageZero::Wrong => Recovered::Refused(Refusal::of(Refusal::UNSOUND)),
+        PageZero::Wrong => Err(Refusal::of(Cause::Unsound)),
         PageZero::Ready { root } => keep(image, work, root),
         PageZero::Waiting { headers, root } => redo_log(way, image, work, tape, headers, root),
     }
 }
 
 // Recovery on modules with line stores.
-pub fn recover(image: &[u8], work: &mut [u8], tape: &mut [u8]) -> Recovered
+pub fn recover(image: &[u8], work: &mut [u8], tape: &mut [u8]) -> Result<Redone, Refusal>
     ensures value { result ≡ (recover_call ByLine image.now work.old tape.old).answer }
     ensures work_after { work.new ≡ (recover_call ByLine image.now work.old tape.old).work }
     ensures tape_after { tape.new ≡ (recover_call ByLine image.now work.old tape.old).tape }
@@ -139,7 +121,7 @@ pub fn recover(image: &[u8], work: &mut [u8], tape: &mut [u8]) -> Recovered
 }
 
 // The same on modules "atomic for 8 bytes only": its tape has no line store (document 02 (d)).
-pub fn recover_words(image: &[u8], work: &mut [u8], tape: &mut [u8]) -> Recovered
+pub fn recover_words(image: &[u8], work: &mut [u8], tape: &mut [u8]) -> Result<Redone, Refusal>
     ensures value { result ≡ (recover_call ByWords image.now work.old tape.old).answer }
     ensures work_after { work.new ≡ (recover_call ByWords image.now work.old tape.old).work }
     ensures tape_after { tape.new ≡ (recover_call ByWords image.now work.old tape.old).tape }

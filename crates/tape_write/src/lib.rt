@@ -14,6 +14,7 @@ use crate::ends::emit_end;
 use crate::headers::{changed_headers, emit_closing, same_words};
 use crate::sizes::{end_bytes, end_flushes, group_bytes};
 use crate::words::{changed_words, count_lines, emit_flushes, emit_words};
+use device::Cause;
 use journal::{Commit, Way};
 
 mod ends;
@@ -22,22 +23,6 @@ mod lines;
 pub mod redo;
 mod sizes;
 mod words;
-
-// What writing a transaction's tape came to.
-#[derive(Clone, Copy)]
-pub enum Written {
-    Done(Commit),
-    // More changed headers than the log holds.
-    LogFull,
-    TapeShort,
-}
-
-// What writing a recovery's tape came to.
-#[derive(Clone, Copy)]
-pub enum Replayed {
-    Done { bytes: usize, flushes: usize },
-    TapeShort,
-}
 
 // What differs: words of stage A and the lines that they lie in, changed headers, and whether the root word is as it was.
 #[derive(Clone, Copy)]
@@ -92,7 +77,7 @@ fn commit_with(
     before: &[u8],
     after: &[u8],
     words: &mut [u16],
-) -> Written
+) -> Result<Commit, Cause>
     requires { Lent image.now work.old before.now after.now × (length image.now ≤ 8 * length words.old) }
     ensures value { result ≡ (commit_call way image.now work.old tape.old).answer }
     ensures work_after { work.new ≡ (commit_call way image.now work.old tape.old).work }
@@ -103,16 +88,16 @@ fn commit_with(
     let k = found.headers;
     let same = found.same;
     if 15 < k {
-        return Written::LogFull;
+        return Err(Cause::LogFull);
     }
     let stage = 12 * found.words + group_bytes(found.lines);
     let bytes = stage + end_bytes(way, k, same);
     if tape.len() < bytes {
-        return Written::TapeShort;
+        return Err(Cause::TapeShort);
     }
     emit_stage(tape, work, words, found.words, found.lines);
     let place = emit_end(way, work, tape, stage, &pages, k, same);
-    Written::Done(Commit {
+    Ok(Commit {
         place,
         bytes,
         flushes: found.lines + end_flushes(way, k, same),
@@ -128,7 +113,7 @@ pub fn commit(
     tape: &mut [u8],
     before: &[u8],
     after: &[u8],
-) -> Written
+) -> Result<Commit, Cause>
     requires { Lent image.now work.old before.now after.now }
     ensures value { result ≡ (commit_call way image.now work.old tape.old).answer }
     ensures work_after { work.new ≡ (commit_call way image.now work.old tape.old).work }

@@ -4,10 +4,10 @@ ghost use Rattle.image.specs.PageZero.{page_count};
 ghost use Rattle.journal.specs.Recovery.{logged, logged_ok, with_headers, replayed};
 ghost use Rattle.tape_write.specs.Calls.{LogWaits, redo_call};
 
-use crate::Replayed;
 use crate::ends::emit_replay;
 use crate::sizes::replay_bytes;
-use journal::Way;
+use device::Cause;
+use journal::{Redone, Way};
 
 // Whether the pages of the logged headers are distinct, in 1 to N-1: page 0 is marked, and then each page as it is named.
 pub fn logged_ok(image: &[u8], headers: usize) -> bool
@@ -65,7 +65,7 @@ pub fn redo(
     tape: &mut [u8],
     headers: usize,
     root: usize,
-) -> Replayed
+) -> Result<Redone, Cause>
     requires { LogWaits image.now work.old headers }
     ensures value { result ≡ (redo_call way image.now headers root tape.old).answer }
     ensures work_after { work.new ≡ (redo_call way image.now headers root tape.old).work }
@@ -75,12 +75,12 @@ pub fn redo(
     let bytes = replay_bytes(way, headers, same);
     if tape.len() < bytes {
         codec::copy_all(work, image);
-        return Replayed::TapeShort;
+        return Err(Cause::TapeShort);
     }
     replay(image, work, headers, root);
     emit_replay(way, tape, 0, image, headers, same, root as u64);
-    Replayed::Done {
+    Ok(Redone {
         bytes,
         flushes: headers + 1,
-    }
+    })
 }

@@ -1,5 +1,6 @@
 -- How the parts of the call meet: marks of pages, and the state before the first edit and after the last.
 -- Assumes nothing.
+use Rattle.std.specs.Prelude.{Result, Ok, Err}
 use Prim.Native.Nat.{ℕ, ◌-◌, ◌/◌, ◌≤◌}
 use mathlib.Core.Path.{◌≡◌, refl, sym, ap, ◌∙◌, subst}
 use mathlib.Core.Bool.{Bool, true, false, not}
@@ -9,6 +10,8 @@ use lib.ListN.{length, get_or}
 use lib.Dec.{eqb}
 use borrow.Author.Tests.{eqb-true, eqb-false}
 use Rattle.codec.specs.Lists.{All, pick}
+use Rattle.device.specs.Calls.{number_in}
+use Rattle.device.specs.declared.Refusal.{Refusal}
 use Rattle.page.specs.Layout.{page_size}
 use Rattle.page.specs.Operations.{page_of}
 use Rattle.image.specs.PageZero.{page_count, root_of}
@@ -29,8 +32,6 @@ use Rattle.tree.proofs.Accepted.{edits-accepted}
 use Rattle.tree_edit.specs.Steps as steps
 use Rattle.tree_edit.specs.Asked.{CanMark, Spared}
 use Rattle.tree_edit.specs.declared.Tree.{Tree}
-use Rattle.tree_edit.specs.declared.Outcome.{Outcome}
-use Rattle.tree_edit.specs.declared.Outcome.TheVariants.{Finished, Stopped}
 use Rattle.tree_edit.proofs.Marked.{good-marks}
 use Rattle.tree_edit.proofs.Places.{good_none}
 use Rattle.tree_edit.proofs.Free.{begin-state, unmarked-counts}
@@ -99,20 +100,20 @@ module _ {a work before : List ℕ} {root : ℕ} (B : Begun a work before root) 
   few-pages = omega (arith, (image-size a B.is_sound).high)
 
   -- the edits of the list make w of work
-  module _ (es : List Edit) (P : All Proper es) (w : List ℕ) (o : Outcome) (e : steps.outcome_of before w o ≡ edits_from 0 es first) where
+  module _ (es : List Edit) (P : All Proper es) (w : List ℕ) (o : Result Tree Refusal) (e : steps.outcome_of before w o ≡ edits_from 0 es first) where
     made : steps.outcome_of before w o ≡ edits_on a es
     unfolding edits_on
     made = e ∙ ap (edits_from 0 es) (sym begins)
 
-    pub made-stopped : (k i : ℕ) → o ≡ Stopped k i → edits_on a es ≡ stopped k i
-    made-stopped k i q = sym made ∙ ap (steps.outcome_of before w) q
+    pub made-stopped : (r : Refusal) → o ≡ Err r → edits_on a es ≡ stopped (number_in r) r.edit
+    made-stopped r q = sym made ∙ ap (steps.outcome_of before w) q
 
     -- a page that is still free is as it was
     as-begun : {st : State} → Leads format1 no_keep (begin a).free (begin a) st → (p : ℕ) → 1 ≤ count p st.free → page_of st.image p ≡ page_of a p
     unfolding begin
     as-begun L p free = L.spare p free
 
-    pub made-ended : (t : Tree) → o ≡ Finished t → Ended a before es w t
+    pub made-ended : (t : Tree) → o ≡ Ok t → Ended a before es w t
     made-ended t q =
         let st = steps.state_of before w t in
         let z : edits_on a es ≡ finished st = sym made ∙ ap (steps.outcome_of before w) q in

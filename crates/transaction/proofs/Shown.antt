@@ -1,6 +1,6 @@
 -- Each way out of the call: what it answers and leaves there is what the definition says.
 -- Assumes nothing.
-use Rattle.std.specs.Prelude.{Err, Ok}
+use Rattle.std.specs.Prelude.{Result, Err, Ok}
 use Prim.Native.Nat.{ℕ}
 use mathlib.Core.Path.{◌≡◌, refl, sym, ap, ◌∙◌, subst}
 use mathlib.Core.Bool.{Bool, true, false}
@@ -11,11 +11,12 @@ use Rattle.device.specs.declared.Cause.TheVariants.{LogFull, TapeShort}
 use Rattle.journal.specs.declared.Commit.{Commit}
 use Rattle.device.specs.declared.Cause.{Cause}
 use Rattle.device.specs.Tape.{tape_bytes}
-use Rattle.device.specs.Calls.{image_size, work_size, log_full, tape_short, refusal, is_image_size, refusal_at}
+use Rattle.device.specs.Calls.{image_size, work_size, log_full, tape_short, refusal, is_image_size, refusal_at, of_cause, number_in}
 use Rattle.device.specs.declared.Refusal.{Refusal}
 use Rattle.image.specs.Calls.{check_call}
 use Rattle.edit.specs.EditList.{Edit, Listed, listed, edits_of, edit_list}
 use Rattle.edit.specs.Judged.{judged_of}
+use Rattle.device.proofs.Causes.{refusal-numbered}
 use Rattle.edit.proofs.Judging.{faulty-listed}
 use Rattle.journal.specs.Changes.{changed_pages}
 use Rattle.journal.specs.Tape.{room_in_log, taken_for}
@@ -32,8 +33,7 @@ use Rattle.transaction.proofs.Answers.{begun-call, answers-call}
 -- what a transaction answers and leaves when writing its tape came to r
 abbrev pub answered : List ℕ → Result Commit Cause → List ℕ → List ℕ → Called
 answered a (Ok d) work tape = record { answer = Ok d; work = work; tape = tape }
-answered a (Err LogFull) work tape = record { answer = Err (refusal log_full); work = a; tape = tape }
-answered a (Err TapeShort) work tape = record { answer = Err (refusal tape_short); work = a; tape = tape }
+answered a (Err cause) work tape = record { answer = Err (of_cause cause); work = a; tape = tape }
 
 -- the answer and the buffers are those of the result y
 abbrev pub Shows : Called → Called → Type 0
@@ -63,15 +63,15 @@ module _ (way : Way) (a w tape : List ℕ) where
 -- ---- each way out
 
 -- a refusal that names no edit, with work put back
-pub refused-shows : (k : ℕ) (a t : List ℕ) (y : Called) → Shows (record { answer = Err (refusal k); work = a; tape = t }) y →
-    (r : Refusal) → r ≡ refusal k → (work : List ℕ) → work ≡ a → Shows (record { answer = Err r; work = work; tape = t }) y
+pub refused-shows : (q : Refusal) (a t : List ℕ) (y : Called) → Shows (record { answer = Err q; work = a; tape = t }) y →
+    (r : Refusal) → r ≡ q → (work : List ℕ) → work ≡ a → Shows (record { answer = Err r; work = work; tape = t }) y
 refused-shows k a t y (e, (f, g)) r q work z = (ap Err q ∙ e, (z ∙ f, g))
 
 module _ (way : Way) (a tape : List ℕ) (es : List Edit) where
-  pub stopped-shows : (k i : ℕ) → edits_on a es ≡ stopped k i → (work : List ℕ) → work ≡ a →
-      Shows (record { answer = Err (refusal_at k i); work = work; tape = tape }) (outcome_of way a tape (edits_on a es))
+  pub stopped-shows : (r : Refusal) → edits_on a es ≡ stopped (number_in r) r.edit → (work : List ℕ) → work ≡ a →
+      Shows (record { answer = Err r; work = work; tape = tape }) (outcome_of way a tape (edits_on a es))
   unfolding outcome_of refused_with
-  stopped-shows k i e work z = rw e (refl, (z, refl))
+  stopped-shows r e work z = rw e (ap Err (sym (refusal-numbered r)), (z, refl))
 
   pub finished-shows : (st : State) → edits_on a es ≡ finished st → (w : List ℕ) → w ≡ edited_image a st → (x : Called) → Shows x (committed way a w tape) →
       Shows x (outcome_of way a tape (edits_on a es))
@@ -81,7 +81,7 @@ module _ (way : Way) (a tape : List ℕ) (es : List Edit) where
 module _ (way : Way) (a work tape : List ℕ) where
   pub faulty-shows : (l : Listed) (r : Refusal) → judged_of l ≡ Err r → Shows (record { answer = Err r; work = work; tape = tape }) (list_of way a work tape l)
   unfolding list_of refused_with
-  faulty-shows l r e = rw (faulty-listed l r e) (refl, (refl, refl))
+  faulty-shows l r e = let f = faulty-listed l r e in rw f.2 (ap Err (sym f.3), (refl, refl))
 
   pub listed-shows : (l : Listed) → l ≡ listed (edits_of l) → (x : Called) → Shows x (outcome_of way a tape (edits_on a (edits_of l))) → Shows x (list_of way a work tape l)
   unfolding list_of
@@ -94,7 +94,7 @@ module _ (way : Way) (a work tape : List ℕ) where
     unfolding refused_with
     call-refused k h r q =
         let y = transaction_call way a work tape bytes in
-        refused-shows k work tape y (shows (refused_with k 0 work tape) y (sym (answers-call way a work tape bytes (refused_with k 0 work tape) h))) r q work refl
+        refused-shows (refusal k) work tape y (shows (refused_with k 0 work tape) y (sym (answers-call way a work tape bytes (refused_with k 0 work tape) h))) r q work refl
 
     pub size-shows : is_image_size (length a) ≡ false → (r : Refusal) → r ≡ refusal image_size → Shows (record { answer = Err r; work = work; tape = tape }) (transaction_call way a work tape bytes)
     size-shows e = call-refused image_size (bad-size e)

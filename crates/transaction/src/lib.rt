@@ -11,22 +11,15 @@ ghost use Rattle.tape_write.specs.Calls.{Marks, reached_in};
 ghost use Rattle.tree.specs.Whole.{edits_on};
 ghost use Rattle.transaction.specs.Calls.{committed, outcome_of, list_of, transaction_call};
 
-use device::{Answer, Refusal, is_image_size};
-use edit::{Judged, judge};
+use device::{Cause, Refusal, is_image_size};
+use edit::judge;
 use image::calls::check;
 use image::descent::root_of;
 use journal::{Commit, Way};
-use tape_write::{Written, commit};
+use tape_write::commit;
 use tree_edit::edits::edit_list;
 use tree_edit::ends::{finish, marks_of};
-use tree_edit::{Outcome, Tree};
-
-// What a transaction answers.
-#[derive(Clone, Copy)]
-pub enum Transacted {
-    Accepted(Commit),
-    Refused(Refusal),
-}
+use tree_edit::Tree;
 
 // Commits the edited image that work holds, or puts the image back into work. The pages that image reaches are marked.
 fn commit_edits(
@@ -35,7 +28,7 @@ fn commit_edits(
     work: &mut [u8],
     tape: &mut [u8],
     before: &[u8; 64],
-) -> Transacted
+) -> Result<Commit, Refusal>
     requires { (sound image.now ≡ true) × Edited image.now work.old × Marks before.now (reached_in image.now) }
     ensures value { result ≡ (committed way image.now work.old tape.old).answer }
     ensures work_after { work.new ≡ (committed way image.now work.old tape.old).work }
@@ -43,20 +36,16 @@ fn commit_edits(
 {
     let after = marks_of(work, root_of(work));
     match commit(way, image, work, tape, before, &after) {
-        Written::Done(done) => Transacted::Accepted(done),
-        Written::LogFull => {
+        Ok(done) => Ok(done),
+        Err(cause) => {
             codec::copy_all(work, image);
-            Transacted::Refused(Refusal::of(Refusal::LOG_FULL))
-        }
-        Written::TapeShort => {
-            codec::copy_all(work, image);
-            Transacted::Refused(Refusal::of(Refusal::TAPE_SHORT))
+            Err(Refusal::of(cause))
         }
     }
 }
 
 // Makes the edits of a well-formed list on a copy of a sound image, and commits them.
-fn make_edits(way: Way, image: &[u8], work: &mut [u8], tape: &mut [u8], list: &[u8]) -> Transacted
+fn make_edits(way: Way, image: &[u8], work: &mut [u8], tape: &mut [u8], list: &[u8]) -> Result<Commit, Refusal>
     requires { (sound image.now ≡ true) × (length work.old ≡ length image.now) × (edit_list list.now ≡ listed (edits_of (edit_list list.now))) }
     ensures value { result ≡ (outcome_of way image.now tape.old (edits_on image.now (edits_of (edit_list list.now)))).answer }
     ensures work_after { work.new ≡ (outcome_of way image.now tape.old (edits_on image.now (edits_of (edit_list list.now)))).work }
@@ -70,11 +59,11 @@ fn make_edits(way: Way, image: &[u8], work: &mut [u8], tape: &mut [u8], list: &[
         top: image.len() / 1024,
     };
     match edit_list(work, &before, tree, list) {
-        Outcome::Stopped { number, edit } => {
+        Err(refusal) => {
             codec::copy_all(work, image);
-            Transacted::Refused(Refusal { number, edit })
+            Err(refusal)
         }
-        Outcome::Finished(end) => {
+        Ok(end) => {
             finish(work, image, &before, end);
             commit_edits(way, image, work, tape, &before)
         }
@@ -82,39 +71,35 @@ fn make_edits(way: Way, image: &[u8], work: &mut [u8], tape: &mut [u8], list: &[
 }
 
 // Judges the list, and makes its edits on a sound image.
-fn judge_list(way: Way, image: &[u8], work: &mut [u8], tape: &mut [u8], list: &[u8]) -> Transacted
+fn judge_list(way: Way, image: &[u8], work: &mut [u8], tape: &mut [u8], list: &[u8]) -> Result<Commit, Refusal>
     requires { (sound image.now ≡ true) × (length work.old ≡ length image.now) }
     ensures value { result ≡ (list_of way image.now work.old tape.old (edit_list list.now)).answer }
     ensures work_after { work.new ≡ (list_of way image.now work.old tape.old (edit_list list.now)).work }
     ensures tape_after { tape.new ≡ (list_of way image.now work.old tape.old (edit_list list.now)).tape }
 {
-    match judge(list) {
-        Judged::Faulty(refusal) => Transacted::Refused(refusal),
-        Judged::Good => make_edits(way, image, work, tape, list),
-    }
+    judge(list)?;
+    make_edits(way, image, work, tape, list)
 }
 
 // Makes a list of edits on an image: work takes the image after them, tape the commands that commit them, in the device's way.
-fn transact(way: Way, image: &[u8], work: &mut [u8], tape: &mut [u8], edits: &[u8]) -> Transacted
+fn transact(way: Way, image: &[u8], work: &mut [u8], tape: &mut [u8], edits: &[u8]) -> Result<Commit, Refusal>
     ensures value { result ≡ (transaction_call way image.now work.old tape.old edits.now).answer }
     ensures work_after { work.new ≡ (transaction_call way image.now work.old tape.old edits.now).work }
     ensures tape_after { tape.new ≡ (transaction_call way image.now work.old tape.old edits.now).tape }
 {
     let n = image.len();
     if !is_image_size(n) {
-        return Transacted::Refused(Refusal::of(Refusal::IMAGE_SIZE));
+        return Err(Refusal::of(Cause::ImageSize));
     }
     if work.len() != n {
-        return Transacted::Refused(Refusal::of(Refusal::WORK_SIZE));
+        return Err(Refusal::of(Cause::WorkSize));
     }
-    match check(image) {
-        Answer::Refused(refusal) => Transacted::Refused(refusal),
-        Answer::Accepted => judge_list(way, image, work, tape, edits),
-    }
+    check(image)?;
+    judge_list(way, image, work, tape, edits)
 }
 
 // The transaction on modules with line stores.
-pub fn transaction(image: &[u8], work: &mut [u8], tape: &mut [u8], edits: &[u8]) -> Transacted
+pub fn transaction(image: &[u8], work: &mut [u8], tape: &mut [u8], edits: &[u8]) -> Result<Commit, Refusal>
     ensures value { result ≡ (transaction_call ByLine image.now work.old tape.old edits.now).answer }
     ensures work_after { work.new ≡ (transaction_call ByLine image.now work.old tape.old edits.now).work }
     ensures tape_after { tape.new ≡ (transaction_call ByLine image.now work.old tape.old edits.now).tape }
@@ -123,7 +108,7 @@ pub fn transaction(image: &[u8], work: &mut [u8], tape: &mut [u8], edits: &[u8])
 }
 
 // The same on modules "atomic for 8 bytes only": its tape has no line store (document 02 (d)).
-pub fn transaction_words(image: &[u8], work: &mut [u8], tape: &mut [u8], edits: &[u8]) -> Transacted
+pub fn transaction_words(image: &[u8], work: &mut [u8], tape: &mut [u8], edits: &[u8]) -> Result<Commit, Refusal>
     ensures value { result ≡ (transaction_call ByWords image.now work.old tape.old edits.now).answer }
     ensures work_after { work.new ≡ (transaction_call ByWords image.now work.old tape.old edits.now).work }
     ensures tape_after { tape.new ≡ (transaction_call ByWords image.now work.old tape.old edits.now).tape }

@@ -1,6 +1,6 @@
 -- A row of 'Worked on paper': transactions from a store on, mostly a fresh one of 8 pages, one more, and what is read off its answer.
 -- Assumes nothing.
-use Rattle.std.specs.Prelude.{ℕ, ◌/◌, ◌≡◌, List, [], ◌∷◌, ◌++◌, length, get_or, take, replicate, eqb, Err, Ok}
+use Rattle.std.specs.Prelude.{ℕ, ◌/◌, ◌≡◌, List, [], ◌∷◌, ◌++◌, length, get_or, take, replicate, eqb, Err, Ok, Result}
 use Rattle.device.specs.Calls.{number_in}
 use Rattle.device.specs.declared.Refusal.{Refusal}
 use Rattle.journal.specs.declared.Commit.{Commit}

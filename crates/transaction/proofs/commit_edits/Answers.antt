@@ -3,7 +3,6 @@
 use Rattle.std.specs.Prelude.{Err, Ok}
 use mathlib.Core.Path.{sym, ◌∙◌, subst}
 use native.Mathlib.Omega.{arith}
-use Rattle.device.specs.declared.Cause.TheVariants.{LogFull, TapeShort}
 use Rattle.tree_edit.specs.Asked.{CanMark}
 use Rattle.transaction.proofs.Joining.{image-size, can-mark, marks-at, lent-are}
 use Rattle.transaction.proofs.Shown.{commit-shows, refused-shows}
@@ -25,18 +24,10 @@ pub copy_all-requires : goal.copy_all-requires
 copy_all-requires c =
     (c.commit.auto.work ∙ c.requires.1.same_length, (image-size c.args.image.now c.requires.0).high)
 
-pub copy_all-requires-in-TapeShort : goal.copy_all-requires-in-TapeShort
-copy_all-requires-in-TapeShort c =
-    (c.commit.auto.work ∙ c.requires.1.same_length, (image-size c.args.image.now c.requires.0).high)
+pub returns-in-Ok : goal.returns-in-Ok
+returns-in-Ok c = let whole =
+    commit-shows c.args.way c.args.image.now c.args.work.now c.args.tape.now _ (Ok c.in-Ok.done) c.in-Ok.is _ _ (c.commit.ensures.value, (c.commit.ensures.work_after, c.commit.ensures.tape_after)) in record { value = whole.0; work_after = whole.1.0; tape_after = whole.1.1 }
 
-pub returns-in-Done : goal.returns-in-Done
-returns-in-Done c = let whole =
-    commit-shows c.args.way c.args.image.now c.args.work.now c.args.tape.now _ (Ok c.in-Done.done) c.in-Done.is _ _ (c.commit.ensures.value, (c.commit.ensures.work_after, c.commit.ensures.tape_after)) in record { value = whole.0; work_after = whole.1.0; tape_after = whole.1.1 }
-
-pub returns-in-LogFull : goal.returns-in-LogFull
-returns-in-LogFull c = let whole =
-    refused-shows _ c.args.image.now _ _ (commit-shows c.args.way c.args.image.now c.args.work.now c.args.tape.now _ (Err LogFull) c.in-LogFull.is _ _ (c.commit.ensures.value, (c.commit.ensures.work_after, c.commit.ensures.tape_after))) _ c.of.ensures _ c.copy_all.ensures in record { value = whole.0; work_after = whole.1.0; tape_after = whole.1.1 }
-
-pub returns-in-TapeShort : goal.returns-in-TapeShort
-returns-in-TapeShort c = let whole =
-    refused-shows _ c.args.image.now _ _ (commit-shows c.args.way c.args.image.now c.args.work.now c.args.tape.now _ (Err TapeShort) c.in-TapeShort.is _ _ (c.commit.ensures.value, (c.commit.ensures.work_after, c.commit.ensures.tape_after))) _ c.of-in-TapeShort.ensures _ c.copy_all-in-TapeShort.ensures in record { value = whole.0; work_after = whole.1.0; tape_after = whole.1.1 }
+pub returns-in-Err : goal.returns-in-Err
+returns-in-Err c = let whole =
+    refused-shows _ c.args.image.now _ _ (commit-shows c.args.way c.args.image.now c.args.work.now c.args.tape.now _ (Err c.in-Err.cause) c.in-Err.is _ _ (c.commit.ensures.value, (c.commit.ensures.work_after, c.commit.ensures.tape_after))) _ c.of.ensures _ c.copy_all.ensures in record { value = whole.0; work_after = whole.1.0; tape_after = whole.1.1 }

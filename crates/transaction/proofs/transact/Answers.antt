@@ -1,5 +1,6 @@
 -- `transact` answers and leaves what `transaction_call` says: the two sizes, the check, and then the list.
 -- Assumes nothing.
+use Rattle.std.proofs.lemmas.Result.{err_from_is_err_and}
 use mathlib.Core.Path.{sym, ◌∙◌}
 use borrow.Author.Tests.{not-true, not-false}
 use Rattle.image.proofs.Answers.{check_sound}
@@ -15,12 +16,14 @@ returns-then-work-n c = let whole =
     work-shows c.args.way c.args.image.now c.args.work.now c.args.tape.now c.args.edits.now (sym c.is_image_size.ensures ∙ not-false _ c.if-not-is_image_size.false-raw) c.if-work-n.true _ c.of-then-work-n.ensures in record { value = whole.0; work_after = whole.1.0; tape_after = whole.1.1 }
 
 pub judge_list-requires : goal.judge_list-requires
-judge_list-requires c = (check_sound c.args.image.now (sym c.check.ensures ∙ c.in-Accepted.is), c.if-work-n.false)
+judge_list-requires c = (check_sound c.args.image.now (sym c.check.ensures ∙ c.in_ok-check.was), c.if-work-n.false)
 
-pub returns-in-Refused : goal.returns-in-Refused
-returns-in-Refused c = let whole =
-    unsound-shows c.args.way c.args.image.now c.args.work.now c.args.tape.now c.args.edits.now (sym c.is_image_size.ensures ∙ not-false _ c.if-not-is_image_size.false-raw) c.if-work-n.false _ (sym c.check.ensures ∙ c.in-Refused.is) in record { value = whole.0; work_after = whole.1.0; tape_after = whole.1.1 }
+pub returns-in_err-check : goal.returns-in_err-check
+returns-in_err-check c =
+    let p = err_from_is_err_and c.from_residual.result c.from_residual.ensures.1 in
+    let whole =
+    unsound-shows c.args.way c.args.image.now c.args.work.now c.args.tape.now c.args.edits.now (sym c.is_image_size.ensures ∙ not-false _ c.if-not-is_image_size.false-raw) c.if-work-n.false _ (sym c.check.ensures ∙ c.in_err-check.was) in record { value = rw (p.1, p.2) whole.0; work_after = whole.1.0; tape_after = whole.1.1 }
 
-pub returns-in-Accepted : goal.returns-in-Accepted
-returns-in-Accepted c = let whole =
-    checked-shows c.args.way c.args.image.now c.args.work.now c.args.tape.now c.args.edits.now (sym c.is_image_size.ensures ∙ not-false _ c.if-not-is_image_size.false-raw) c.if-work-n.false (sym c.check.ensures ∙ c.in-Accepted.is) _ (c.judge_list.ensures.value, (c.judge_list.ensures.work_after, c.judge_list.ensures.tape_after)) in record { value = whole.0; work_after = whole.1.0; tape_after = whole.1.1 }
+pub returns : goal.returns
+returns c = let whole =
+    checked-shows c.args.way c.args.image.now c.args.work.now c.args.tape.now c.args.edits.now (sym c.is_image_size.ensures ∙ not-false _ c.if-not-is_image_size.false-raw) c.if-work-n.false (sym c.check.ensures ∙ c.in_ok-check.was) _ (c.judge_list.ensures.value, (c.judge_list.ensures.work_after, c.judge_list.ensures.tape_after)) in record { value = whole.0; work_after = whole.1.0; tape_after = whole.1.1 }

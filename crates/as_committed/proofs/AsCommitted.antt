@@ -14,6 +14,7 @@ use Rattle.codec.specs.Lists.{All}
 use Rattle.device.specs.Calls.{is_image_size, refusal, number_in, refusal_at}
 use Rattle.device.specs.declared.Refusal.{Refusal}
 use Rattle.page.specs.Layout.{Rec}
+use Rattle.device.proofs.Causes.{number-caused, number-same}
 use Rattle.image.specs.PageZero.{root_of}
 use Rattle.image.specs.Table.{table, find}
 use Rattle.image.specs.Calls.{check_call, key_ok, lookup_call}
@@ -131,7 +132,8 @@ module _ (a work tape bytes : List ℕ) (k : ℕ) (low : 1 ≤ k) (high : k ≤ 
   alike way r room other opens _ (transactions.bad-list B n i f) q = list-alike B.checked n i f ∙ ap Err (refused-is n i work tape r q)
   alike way r room other opens _ (transactions.bad-edit B es reads n i eight G) q =
       let z = refused-is n i a tape r q in
-      let nine : n ≤ 9 = not-room n (edit-most B.checked es reads n i eight G) (subst (λ (m : ℕ). 10 ≤ m → 13 < m) (ap (λ (x : Refusal). number_in x) (sym z)) room) in
+      let most = edit-most B.checked es reads n i eight G in
+      let nine : n ≤ 9 = not-room n most (subst (λ (m : ℕ). 10 ≤ m → 13 < m) (sym (number-same n i r (omega arith) (omega arith) z).0) room) in
       edit-alike B.checked es reads n i eight nine G ∙ ap Err z
   alike way r room other opens _ (transactions.no-log _ _ _ _ _) q = let same = ap (λ (x : Refusal). number_in x) (refused-is 12 0 a tape r q) in absurd (omega (arith, room (omega (arith, same)), same))
   alike way r room other opens _ (transactions.no-tape _ _ _ _ _ _) q = let same = ap (λ (x : Refusal). number_in x) (refused-is 13 0 a tape r q) in absurd (omega (arith, room (omega (arith, same)), same))
@@ -173,7 +175,10 @@ module _ (a work tape bytes : List ℕ) (same : length work ≡ length a) (k : �
 
         go : (b : Bool) → leb n 9 ≡ b → RefusedSo a r (Err (refusal_at n i))
         go true e = so _ (edit-alike a work tape bytes k low high c es reads n i eight (leb-true n 9 e) G)
-        go false e = let ten = leb-false n 9 e in (_, refl, inr (inl (ten, most, later n i ten G)))
+        go false e =
+            let ten = leb-false n 9 e in
+            let same = number-caused n (omega (arith, eight)) (omega (arith, most)) in
+            (_, refl, inr (inl (omega (arith, same, ten), omega (arith, same, most), later n i ten G)))
 
   -- 1 and 3 come first in both; 4 may be for a leaf that the preview does not come to
   image-refuses : (s : Refusal) → check_call a ≡ Err s → RefusedSo a r (Err s)

@@ -14,6 +14,7 @@ use Rattle.codec.specs.Lists.{pick}
 use Rattle.device.specs.Tape.{tape_bytes, flush_count}
 use Rattle.device.specs.Calls.{is_image_size, number_in, refusal_at}
 use Rattle.device.specs.declared.Refusal.{Refusal}
+use Rattle.device.proofs.Causes.{number-same}
 use Rattle.image.specs.PageZero.{page_count, page_zero}
 use Rattle.image.specs.Image.{sound}
 use Rattle.image.specs.Says.{NotOpened}
@@ -104,22 +105,27 @@ list-other : (k : ℕ) → ((5 ≤ k) × (k ≤ 7)) ⊎ (k ≡ 19) → k ≡ 13 
 list-other k (inl h) e = omega (arith, h.1)
 list-other k (inr h) e = omega arith
 
+list-few : (k : ℕ) → ((5 ≤ k) × (k ≤ 7)) ⊎ (k ≡ 19) → (1 ≤ k) × (k ≤ 20)
+list-few k (inl h) = (omega (arith, h.0), omega (arith, h.1))
+list-few k (inr h) = (omega arith, omega arith)
+
 pub tape-suffices : TapeSuffices
 unfolding accepted_with
 tape-suffices way a work tape bytes long r e thirteen = go (transaction_call way a work tape bytes) (call-answers way a work tape bytes) e
   where
-    said : (n i : ℕ) (left : List ℕ) → (refused_with n i left tape).answer ≡ Err r → n ≡ 13
-    said n i left e = ap (λ (x : Refusal). number_in x) (refused-is n i left tape r e) ∙ thirteen
+    said : (n i : ℕ) (left : List ℕ) → 1 ≤ n → n ≤ 20 → (refused_with n i left tape).answer ≡ Err r → n ≡ 13
+    said n i left low high e = (number-same n i r low high (refused-is n i left tape r e)).0 ∙ thirteen
 
     go : (x : Called) → Answers way a work tape bytes x → x.answer ≡ Err r → ⊥
-    go _ (bad-size _) e = omega (arith, said 1 0 work e)
-    go _ (bad-work _ _) e = omega (arith, said 2 0 work e)
+    go _ (bad-size _) e = omega (arith, said 1 0 work (omega arith) (omega arith) e)
+    go _ (bad-work _ _) e = omega (arith, said 2 0 work (omega arith) (omega arith) e)
     go _ (bad-image _ _ s c) e = let z : s ≡ r = cc in check-other a s (check-refused a s c) (ap (λ (x : Refusal). number_in x) z ∙ thirteen)
-    go _ (bad-list _ k i f) e = list-other k (list-numbered bytes k i f) (said k i work e)
+    go _ (bad-list _ k i f) e = let few = list-few k (list-numbered bytes k i f) in list-other k (list-numbered bytes k i f) (said k i work few.0 few.1 e)
     go _ (bad-edit B es reads k i low g) e =
         let made = grounds-refuse a (check_sound a B.checked) es (list-proper bytes es reads) k i g (λ z. omega arith) in
-        omega (arith, said k i a e, (edits-numbered a es k i made).1)
-    go _ (no-log _ _ _ _ _) e = omega (arith, said 12 0 a e)
+        let most = (edits-numbered a es k i made).1 in
+        omega (arith, said k i a (omega arith) (omega arith) e, most)
+    go _ (no-log _ _ _ _ _) e = omega (arith, said 12 0 a (omega arith) (omega arith) e)
     go _ (no-tape B es st D few short) e =
         let s = check_sound a B.checked in
         omega (arith, short, tape-most way a (edited_image a st) s (edits-accepted a s es (list-proper bytes es D.reads) st D.makes) few)
@@ -145,7 +151,7 @@ redo-most way a (Waiting k root) e =
 
 module _ (way : Way) (a work tape : List ℕ) where
   -- what holds of the refusals but 13, of 13 where the tape is too short, and of the acceptance, holds of the call
-  recover-all : (P : recoveries.Called → Type 0) → ((n : ℕ) → n ≤ 4 → P (recoveries.refused_with n work tape)) →
+  recover-all : (P : recoveries.Called → Type 0) → ((n : ℕ) → 1 ≤ n → n ≤ 4 → P (recoveries.refused_with n work tape)) →
       (length tape < length (tape_bytes (recovery_tape way a (page_zero a))) → P (recoveries.refused_with 13 a tape)) →
       P (recoveries.accepted_with (recovery_tape way a (page_zero a)) (replay_from a (page_zero a)) tape) → P (recover_call way a work tape)
   unfolding recover_call
@@ -155,12 +161,12 @@ module _ (way : Way) (a work tape : List ℕ) where
       (λ _. by-test P (eqb (length work) (length a))
       (λ _. by-test P (replayable a (page_zero a) && sound (replay_from a (page_zero a)))
       (λ _. by-test P (leb used (length tape)) (λ _. fits) (λ e. short (leb-false used (length tape) e)))
-      (λ _. other 4 (omega arith))) (λ _. other 2 (omega arith))) (λ _. other 1 (omega arith))
+      (λ _. other 4 (omega arith) (omega arith))) (λ _. other 2 (omega arith) (omega arith))) (λ _. other 1 (omega arith) (omega arith))
 
 pub redo-used : RedoUsed
 unfolding recoveries.refused_with recoveries.accepted_with
 redo-used way a work tape c =
-    recover-all way a work tape (λ (x : recoveries.Called). x.answer ≡ Ok c → c.bytes ≤ redo_most way) (λ n h e. let z : ◌≡◌ {A = ℕ} 0 1 = cc in absurd (omega arith))
+    recover-all way a work tape (λ (x : recoveries.Called). x.answer ≡ Ok c → c.bytes ≤ redo_most way) (λ n l h e. let z : ◌≡◌ {A = ℕ} 0 1 = cc in absurd (omega arith))
     (λ h e. let z : ◌≡◌ {A = ℕ} 0 1 = cc in absurd (omega arith))
     (λ e. let cs = recovery_tape way a (page_zero a) in
     let z : record { bytes = length (tape_bytes cs); flushes = flush_count cs } ≡ c = cc in
@@ -170,6 +176,6 @@ pub redo-suffices : RedoSuffices
 unfolding recoveries.refused_with recoveries.accepted_with
 redo-suffices way a work tape long r =
     recover-all way a work tape (λ (x : recoveries.Called). x.answer ≡ Err r → (number_in r) ≡ 13 → ⊥)
-    (λ n h e thirteen. let z : (refusal_at n 0) ≡ r = cc in omega (arith, ap (λ (x : Refusal). number_in x) z))
+    (λ n l h e thirteen. let z : (refusal_at n 0) ≡ r = cc in omega (arith, (number-same n 0 r l (omega arith) z).0))
     (λ short e thirteen. omega (arith, redo-most way a (page_zero a) refl))
     (λ e thirteen. let z : ◌≡◌ {A = ℕ} 0 1 = cc in omega arith)

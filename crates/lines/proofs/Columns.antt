@@ -4,16 +4,18 @@ use Prim.Native.Nat.{ℕ, zero, suc, ◌+◌, ◌*◌, ◌-◌, ◌/◌, ◌^◌
 use mathlib.Core.Path.{◌≡◌, refl, sym, ap, ◌∙◌}
 use mathlib.Core.Bool.{Bool, true, false}
 use mathlib.Core.Logic.{inl}
-use mathlib.Core.List.{List, [], ◌∷◌, ◌++◌}
+use mathlib.Core.List.{List, [], ◌∷◌, ◌++◌, append_assoc}
 use native.Mathlib.Omega.{arith}
 use native.Mathlib.Numerals.{add-one}
 use native.Mathlib.Nat.{pow-suc, pow-le-pow_right}
-use lib.ListN.{length, get_or, drop, set, length-append, length-set, drop_of_length-le}
-use lib.Seq.{sets}
+use lib.ListN.{length, get_or, take, drop, set, length-append, length-set, length-take, length-drop}
+use lib.Seq.{sets, drop-drop}
+use Rattle.std.proofs.lemmas.List.{drop-set, at_drop_more, at_drop_all}
 use lib.Dec.{eqb}
+use borrow.Rule.Slice.PartMut.{put_mid}
 use borrow.Author.Tests.{eqb-true}
-use Rattle.codec.specs.Lists.{part, splice, pick}
-use Rattle.codec.proofs.Lists.{splice-sets, sets-append, sets-comm, part-cons, length_part}
+use Rattle.codec.specs.Lists.{splice, pick}
+use Rattle.codec.proofs.Lists.{splice-sets, sets-append, sets-comm}
 use Rattle.lines.specs.Columns.{space, digit_zero, digit, front, columns, value, value_from}
 
 pub length_front : (w n : ℕ) → length (front w n) ≡ w
@@ -25,6 +27,9 @@ pub length-columns : (w n : ℕ) → length (columns w n) ≡ w
 unfolding columns
 length-columns zero n = refl
 length-columns (suc w) n = simp length-append (omega (arith, length_front w (n / 10)))
+
+-- how many columns a line takes
+pub ruleset widths = (length-append, length-columns)
 
 -- ---- what is printed reads back
 
@@ -68,7 +73,17 @@ unfolding columns value_from
 columns-small zero n = omega arith
 columns-small (suc w) n = omega (arith, pow-suc 10 w, front-small w (n / 10), value-snoc (front w (n / 10)) (digit n) (value (front w (n / 10))) refl)
 
--- ---- columns stored from the right
+-- ---- columns put from the right
+
+-- what is left to put stands in front of what was put
+pub front-put : (l : List ℕ) (i j n c : ℕ) → i ≡ j + 1 → j < length l → c ≡ pick (eqb n 0) space (digit n) → front j (n / 10) ++ drop j (set l j c) ≡ front i n ++ drop i l
+unfolding front
+front-put l i j n c e h f =
+    rw (drop-set l j c h, e, f, add-one) (sym (append_assoc (front j (n / 10)) (pick (eqb n 0) space (digit n) ∷ []) (drop (suc j) l)))
+
+pub front-done : (l : List ℕ) (i n : ℕ) → i ≡ 0 → front i n ++ drop i l ≡ l
+unfolding front
+front-done l i n e = rw e refl
 
 -- the last column stored first
 pub splice-snoc : (l : List ℕ) (o : ℕ) (x : List ℕ) (w c : ℕ) → length x ≡ w → o + w < length l → splice (set l (o + w) c) o x ≡ splice l o (x ++ (c ∷ []))
@@ -81,28 +96,27 @@ splice-snoc l o x w c e h =
     ∙ sets-append l o x (c ∷ [])
     ∙ sym (splice-sets l o (x ++ (c ∷ [])) whole)
 
-pub front-next : (l : List ℕ) (o i j n c : ℕ) → i ≡ suc j → o + i ≤ length l → c ≡ pick (eqb n 0) space (digit n) →
-    splice (set l (o + j) c) o (front j (n / 10)) ≡ splice l o (front i n)
-unfolding front
-front-next l o i j n c e h f =
-    ap (λ (d : ℕ). splice (set l (o + j) d) o (front j (n / 10))) f
-    ∙ splice-snoc l o (front j (n / 10)) j (pick (eqb n 0) space (digit n)) (length_front j (n / 10)) (omega arith)
-    ∙ ap (λ (m : ℕ). splice l o (front m n)) (sym e)
+-- a part of a list written over
+splice-mid : (l x : List ℕ) (o k : ℕ) → length x ≡ k → put_mid o k l x ≡ splice l o x
+unfolding splice
+splice-mid l x o k e = rw (drop-drop k o l, e)
 
-pub columns-next : (l : List ℕ) (o i j n c : ℕ) → i ≡ suc j → o + i ≤ length l → c ≡ digit n → splice (set l (o + j) c) o (front j (n / 10)) ≡ splice l o (columns i n)
+-- the last digit, and what is left before it
+pub columns-put : (l : List ℕ) (o w n c : ℕ) (x : List ℕ) → (w ≡ 0 → ⊥) → o + w ≤ length l → c ≡ digit n →
+    x ≡ front (length (take (o + w - 1 - o) (drop o (set l (o + w - 1) c)))) (n / 10) → put_mid o (o + w - 1 - o) (set l (o + w - 1) c) x ≡ splice l o (columns w n)
 unfolding columns
-columns-next l o i j n c e h f =
-    ap (λ (d : ℕ). splice (set l (o + j) d) o (front j (n / 10))) f
-    ∙ splice-snoc l o (front j (n / 10)) j (digit n) (length_front j (n / 10)) (omega arith)
-    ∙ ap (λ (m : ℕ). splice l o (columns m n)) (sym e)
+columns-put l o zero n c x h k e f = absurd (h refl)
+columns-put l o (suc j) n c x h k e f =
+    let last : o + suc j - 1 ≡ o + j = omega arith in
+    let before : o + j - o ≡ j = omega arith in
+    let long : length (take j (drop o (set l (o + j) c))) ≡ j = simp (length-take, length-drop, length-set) (omega arith) in
+    let new : x ≡ front j (n / 10) = rw (last, before, long) at f in
+    rw (last, before, splice-mid (set l (o + j) c) x o j (ap length new ∙ length_front j (n / 10)), new, e)
+    (splice-snoc l o (front j (n / 10)) j (digit n) (length_front j (n / 10)) (omega arith))
 
 -- no column is stored
 pub splice-none : (l : List ℕ) (o : ℕ) → o ≤ length l → splice l o [] ≡ l
 splice-none l o h = splice-sets l o [] (omega arith)
-
-pub front-none : (l : List ℕ) (o i n : ℕ) → i ≡ 0 → o ≤ length l → splice l o (front i n) ≡ l
-unfolding front
-front-none l o i n e h = ap (λ (m : ℕ). splice l o (front m n)) e ∙ splice-none l o h
 
 pub columns-none : (l : List ℕ) (o i n : ℕ) → i ≡ 0 → o ≤ length l → splice l o (columns i n) ≡ l
 unfolding columns
@@ -110,14 +124,13 @@ columns-none l o i n e h = ap (λ (m : ℕ). splice l o (columns m n)) e ∙ spl
 
 -- ---- columns read from the left
 
-pub value-next : (l : List ℕ) (o w i n d : ℕ) → i < w → o + w ≤ length l → d ≡ get_or l (o + i) 0 - digit_zero →
-    value_from n (drop i (part l o w)) ≡ value_from (10 * n + d) (drop (i + 1) (part l o w))
+pub value-next : (l : List ℕ) (i n d : ℕ) → i < length l → d ≡ get_or l i 0 - digit_zero → value_from n (drop i l) ≡ value_from (10 * n + d) (drop (i + 1) l)
 unfolding value_from
-value-next l o w i n d h k e = rw (part-cons l o w i h k, e)
+value-next l i n d h e = rw e (at_drop_more (value_from n) l i 0 h)
 
-pub value-end : (l : List ℕ) (o w i n : ℕ) → w ≤ i → o + w ≤ length l → value_from n (drop i (part l o w)) ≡ n
+pub value-end : (l : List ℕ) (i n : ℕ) → length l ≤ i → value_from n (drop i l) ≡ n
 unfolding value_from
-value-end l o w i n h k = rw (drop_of_length-le (part l o w) {i = i} (omega (arith, length_part l o w k)))
+value-end l i n h = at_drop_all (value_from n) l i h
 
 -- a bound on what i columns hold, whatever their bytes
 pub ten-more : (n i d : ℕ) → n + 23 ≤ 23 * 10 ^ i → d < 208 → 10 * n + d + 23 ≤ 23 * 10 ^ (i + 1)

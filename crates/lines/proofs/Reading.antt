@@ -1,19 +1,18 @@
 -- The laws of a line of the form: what is printed for one reads back, and the tests that the code makes of one.
 -- Assumes nothing.
 use Prim.Native.Nat.{ℕ, ◌+◌, ◌-◌, ◌^◌, ◌≤◌, ◌<◌}
-use mathlib.Core.Path.{◌≡◌, refl, ap, ◌∙◌}
+use mathlib.Core.Path.{◌≡◌, refl, sym, ap, ◌∙◌}
 use mathlib.Core.Bool.{Bool, true, false}
 use mathlib.Core.List.{List, [], ◌∷◌, ◌++◌, append_assoc}
 use native.Mathlib.Omega.{arith}
-use native.Mathlib.Nat.{add-zero}
 use lib.ListN.{length, take, drop, length-append, length-take}
-use lib.Seq.{take_at, drop_at}
+use lib.Seq.{take_at, drop_at, take-take}
+use Rattle.std.proofs.Common.{None, slice_range}
+use Rattle.std.proofs.lemmas.List.{drop-take, take_all, take_rest}
 use Rattle.codec.specs.Lists.{part, pick, eqs}
 use Rattle.codec.proofs.Tests.{eqs-same, eqs-differ, eqs-true}
-use Rattle.codec.proofs.Lists.{part-drop}
 use Rattle.lines.specs.Columns.{columns, value}
 use Rattle.lines.specs.Form.{line_feed, line_bytes, meaning, line_in}
-use Rattle.lines.specs.declared.Line.TheVariants.{Bad}
 use Rattle.lines.proofs.Columns.{length-columns, value-columns}
 
 pub length-line : (kind key price : ℕ) → length (line_bytes kind key price) ≡ 28
@@ -57,13 +56,13 @@ line-back kind key price rest a b c =
     rw (k, e, p, line-whole kind key price rest, eqs-same (line_bytes kind key price))
 
 -- and each line that says something is the line of the numbers that it is read as
-pub line-form : (t : List ℕ) → (line_in t ≡ Bad → ⊥) →
+pub line-form : (t : List ℕ) → (line_in t ≡ None → ⊥) →
     part t 0 28 ≡ line_bytes (value (part t 0 2)) (value (part t 2 13)) (value (part t 15 12))
 unfolding line_in
 line-form t h = go (eqs (part t 0 28) (line_bytes (value (part t 0 2)) (value (part t 2 13)) (value (part t 15 12)))) refl h
   where
     go : (b : Bool) → eqs (part t 0 28) (line_bytes (value (part t 0 2)) (value (part t 2 13)) (value (part t 15 12))) ≡ b →
-        (pick b (meaning (value (part t 0 2)) (value (part t 2 13)) (value (part t 15 12))) Bad ≡ Bad → ⊥) →
+        (pick b (meaning (value (part t 0 2)) (value (part t 2 13)) (value (part t 15 12))) None ≡ None → ⊥) →
         part t 0 28 ≡ line_bytes (value (part t 0 2)) (value (part t 2 13)) (value (part t 15 12))
     go true e k = eqs-true _ _ e
     go false e k = absurd (k refl)
@@ -75,7 +74,7 @@ unfolding part
 length-short l n = omega (arith, length-take n l)
 
 -- a line cut short
-pub line-short : (t : List ℕ) → length t < 28 → line_in t ≡ Bad
+pub line-short : (t : List ℕ) → length t < 28 → line_in t ≡ None
 unfolding line_in
 line-short t h =
     let kind = value (part t 0 2) in
@@ -83,15 +82,25 @@ line-short t h =
     let price = value (part t 15 12) in
     rw (eqs-differ (part t 0 28) (line_bytes kind key price) (λ e. omega (arith, ap length e, length-line kind key price, length-short t 28)))
 
--- the line at a place, by the numbers read there
-pub line_at : (l : List ℕ) (at kind key price : ℕ) → kind ≡ value (part l at 2) → key ≡ value (part l (at + 2) 13) → price ≡ value (part l (at + 15) 12) →
-    line_in (drop at l) ≡ pick (eqs (part l at 28) (line_bytes kind key price)) (meaning kind key price) Bad
-unfolding line_in
-line_at l at kind key price a b c =
-    let front : (n : ℕ) → part (drop at l) 0 n ≡ part l at n = λ n. part-drop l at 0 n ∙ ap (λ (o : ℕ). part l o n) (add-zero at) in
-    rw (front 2, front 28, part-drop l at 2 13, part-drop l at 15 12, a, b, c)
-
--- what the part that is lent is compared with
-pub line_same : (l : List ℕ) (at : ℕ) (line new : List ℕ) (r : Bool) → r ≡ eqs (take (at + 28 - at) (drop at l)) line → line ≡ new → r ≡ eqs (part l at 28) new
+-- a part of the front
+part-part : (t : List ℕ) (n a m : ℕ) → a + m ≤ n → part (part t 0 n) a m ≡ part t a m
 unfolding part
-line_same l at line new r a b = let e : at + 28 - at ≡ 28 = omega arith in a ∙ ap (λ (n : ℕ). eqs (take n (drop at l)) line) e ∙ ap (eqs (take 28 (drop at l))) b
+part-part t n a m h =
+    let e : n ≡ a + (n - a) = omega arith in
+    ap (λ (k : ℕ). take m (drop a (take k t))) e ∙ ap (take m) (drop-take a (n - a) t) ∙ take-take m (n - a) (drop a t) (omega arith)
+
+-- of what follows a line, nothing counts
+pub line-first : (t : List ℕ) → line_in (part t 0 28) ≡ line_in t
+unfolding line_in
+line-first t = rw (part-part t 28 0 2 (omega arith), part-part t 28 2 13 (omega arith), part-part t 28 15 12 (omega arith), part-part t 28 0 28 (omega arith))
+
+-- the line that is cut out at a place
+pub line-cut : (l rest line : List ℕ) (at : ℕ) → rest ≡ slice_range l at (length l) → line ≡ slice_range rest 0 28 → line_in (drop at l) ≡ line_in line
+unfolding part
+line-cut l rest line at e f = sym (line-first (drop at l)) ∙ ap line_in (ap (take 28) (sym (take_rest l at) ∙ sym e) ∙ sym f)
+
+-- a line, by the numbers read there
+pub line-is : (line : List ℕ) (kind key price : ℕ) → length line ≡ 28 → kind ≡ value (take 2 line) → key ≡ value (take 13 (drop 2 line)) → price ≡ value (take 12 (drop 15 line)) →
+    line_in line ≡ pick (eqs line (line_bytes kind key price)) (meaning kind key price) None
+unfolding line_in part
+line-is line kind key price h a b c = rw (take_all 28 line (omega arith), a, b, c)

@@ -2,48 +2,42 @@
 #![tactic(auto)]
 
 ghost use Rattle.std.specs.Prelude.{◌≡◌, ◌∷◌, ◌+◌, ◌-◌, ◌≤◌, ◌<◌, eqb, length, drop};
-ghost use Rattle.codec.specs.Lists.{part, splice, pick, eqs};
+ghost use Rattle.codec.specs.Lists.{splice, pick, eqs};
 ghost use Rattle.codec.specs.Numbers.{bytes_of};
 ghost use Rattle.lines.specs.Columns.{space, digit_zero, digit, front, columns, value};
-ghost use Rattle.lines.specs.Form.{line_bytes, meaning, line_in, line_edit};
+ghost use Rattle.lines.specs.Form.{fields_bytes, line_bytes, meaning, line_in, line_edit};
 ghost use Rattle.lines.specs.Listing.{row_bytes, total_bytes, number_bytes};
 
-// What a line says.
+// A line of the form.
 #[derive(Clone, Copy)]
 pub enum Line {
     Commit,
+    // The kind is 1 to 3, and stays a number: `put_edit` takes one, and promises for every u8.
     Edit { kind: u8, key: u64, price: u64 },
-    Bad,
 }
 
 // The last digit of a number.
 fn last_digit(n: u64) -> u8
     ensures { result ≡ digit n }
 {
-    48 + (n % 10) as u8
+    b'0' + (n % 10) as u8
 }
 
 // The same where something is left of the number, else a space.
 fn front_digit(n: u64) -> u8
     ensures { result ≡ pick (eqb n 0) space (digit n) }
 {
-    if n == 0 {
-        return 32;
-    }
-    last_digit(n)
+    if n == 0 { b' ' } else { last_digit(n) }
 }
 
-// Puts what is left of a number into the w columns from `at` on, from the right.
-fn put_front(dst: &mut [u8], at: usize, w: usize, n: u64)
-    requires { at + w ≤ length dst.old }
-    ensures { dst.new ≡ splice dst.old at (front w n) }
+// Puts what is left of a number into the columns, from the right.
+fn put_front(dst: &mut [u8], n: u64)
+    ensures { dst.new ≡ front (length dst.old) n }
 {
-    let mut i = w;
     let mut left = n;
-    while 0 < i {
-        i -= 1;
-        dst[at + i] = front_digit(left);
-        left = left / 10;
+    for i in (0..dst.len()).rev() {
+        dst[i] = front_digit(left);
+        left /= 10;
     }
 }
 
@@ -55,94 +49,79 @@ pub fn put_columns(dst: &mut [u8], at: usize, w: usize, n: u64)
     if w == 0 {
         return;
     }
-    let before = w - 1;
-    dst[at + before] = last_digit(n);
-    put_front(dst, at, before, n / 10);
+    let last = at + w - 1;
+    dst[last] = last_digit(n);
+    put_front(&mut dst[at..last], n / 10);
 }
 
 // What a column counts.
 fn worth(c: u8) -> u64
     ensures { (result ≡ c - digit_zero) × (result < 208) }
 {
-    if c < 48 {
-        return 0;
-    }
-    (c - 48) as u64
+    u64::from(c.saturating_sub(b'0'))
 }
 
-// The number that the digits of w columns hold.
-fn value_at(src: &[u8], at: usize, w: usize) -> u64
-    requires { (at + w ≤ length src.now) × (w ≤ 13) }
-    ensures { result ≡ value (part src.now at w) }
+// The number that the digits of the columns hold.
+fn value_of(columns: &[u8]) -> u64
+    requires { length columns.now ≤ 13 }
+    ensures { result ≡ value columns.now }
 {
-    let mut n: u64 = 0;
-    let mut i = 0;
-    while i < w {
-        n = 10 * n + worth(src[at + i]);
-        i += 1;
+    let mut n = 0;
+    for c in columns {
+        n = 10 * n + worth(*c);
     }
     n
 }
 
-// Whether the line of these numbers stands at `at`.
-fn is_line(src: &[u8], at: usize, kind: u64, key: u64, price: u64) -> bool
-    requires { at + 28 ≤ length src.now }
-    ensures { result ≡ eqs (part src.now at 28) (line_bytes kind key price) }
+// Puts numbers, each into columns of its width, one after the other, and a line feed.
+fn put_line(dst: &mut [u8], fields: &[(usize, u64)])
+    requires { length dst.old ≡ length (fields_bytes fields.now) }
+    ensures { dst.new ≡ fields_bytes fields.now }
 {
-    let mut line = [0u8; 28];
-    put_columns(&mut line, 0, 2, kind);
-    put_columns(&mut line, 2, 13, key);
-    put_columns(&mut line, 15, 12, price);
-    line[27] = b'\n';
-    let end = at + 28;
-    codec::same(&src[at..end], &line)
+    let mut at = 0;
+    for (w, n) in fields {
+        put_columns(dst, at, *w, *n);
+        at += *w;
+    }
+    dst[at] = b'\n';
 }
 
-// What a line of these numbers says.
-fn line_of(kind: u64, key: u64, price: u64) -> Line
+// Whether this is the line of these numbers.
+#[tactic(auto, using(crate::proofs::Columns::widths), unfolding(crate::specs::Form::fields_bytes, crate::specs::Form::line_bytes))]
+fn is_line(src: &[u8], kind: u64, key: u64, price: u64) -> bool
+    ensures { result ≡ eqs src.now (line_bytes kind key price) }
+{
+    let mut line = [0u8; 28];
+    put_line(&mut line, &[(2, kind), (13, key), (12, price)]);
+    codec::same(src, &line)
+}
+
+// What a line of these numbers says, if it is of the form.
+#[tactic(auto, unfolding(crate::specs::Form::meaning))]
+fn line_of(kind: u64, key: u64, price: u64) -> Option<Line>
     ensures { result ≡ meaning kind key price }
 {
-    if 3 < kind {
-        return Line::Bad;
+    match (kind, key, price) {
+        (0, 0, 0) => Some(Line::Commit),
+        (1 | 2, _, _) | (3, _, 0) => Some(Line::Edit {
+            kind: kind as u8,
+            key,
+            price,
+        }),
+        _ => None,
     }
-    let edit = Line::Edit {
-        kind: kind as u8,
-        key,
-        price,
-    };
-    if kind == 0 {
-        if key != 0 {
-            return Line::Bad;
-        }
-        if price != 0 {
-            return Line::Bad;
-        }
-        return Line::Commit;
-    }
-    if kind == 3 {
-        if price != 0 {
-            return Line::Bad;
-        }
-        return edit;
-    }
-    edit
 }
 
 // Reads the line at `at`; one that is cut short is bad.
-pub fn read_line(src: &[u8], at: usize) -> Line
+pub fn read_line(src: &[u8], at: usize) -> Option<Line>
     ensures { result ≡ line_in (drop at src.now) }
 {
-    if src.len() < 28 {
-        return Line::Bad;
-    }
-    if src.len() - 28 < at {
-        return Line::Bad;
-    }
-    let kind = value_at(src, at, 2);
-    let key = value_at(src, at + 2, 13);
-    let price = value_at(src, at + 15, 12);
-    if !is_line(src, at, kind, key, price) {
-        return Line::Bad;
+    let line = src.get(at..)?.get(..28)?;
+    let kind = value_of(&line[..2]);
+    let key = value_of(&line[2..15]);
+    let price = value_of(&line[15..27]);
+    if !is_line(line, kind, key, price) {
+        return None;
     }
     line_of(kind, key, price)
 }
@@ -173,33 +152,31 @@ pub fn put_edit(list: &mut [u8], at: usize, kind: u8, key: u64, price: u64) -> u
 }
 
 // Writes the listing's row of a record.
+#[tactic(auto, using(crate::proofs::Columns::widths), unfolding(crate::specs::Form::fields_bytes, crate::specs::Listing::row_bytes))]
 pub fn put_row(dst: &mut [u8], page: usize, slot: usize, key: u64, n: usize)
     requires { length dst.old ≡ 26 }
     ensures { dst.new ≡ row_bytes page slot key n }
 {
-    put_columns(dst, 0, 4, page as u64);
-    put_columns(dst, 4, 4, slot as u64);
-    put_columns(dst, 8, 13, key);
-    put_columns(dst, 21, 4, n as u64);
-    dst[25] = b'\n';
+    put_line(
+        dst,
+        &[(4, page as u64), (4, slot as u64), (13, key), (4, n as u64)],
+    );
 }
 
 // Writes the listing's last line.
+#[tactic(auto, using(crate::proofs::Columns::widths), unfolding(crate::specs::Form::fields_bytes, crate::specs::Listing::total_bytes))]
 pub fn put_totals(dst: &mut [u8], records: u64, accepted: u64, refused: u64)
     requires { length dst.old ≡ 25 }
     ensures { dst.new ≡ total_bytes records accepted refused }
 {
-    put_columns(dst, 0, 8, records);
-    put_columns(dst, 8, 8, accepted);
-    put_columns(dst, 16, 8, refused);
-    dst[24] = b'\n';
+    put_line(dst, &[(8, records), (8, accepted), (8, refused)]);
 }
 
 // Writes the number of a bad line.
+#[tactic(auto, using(crate::proofs::Columns::widths), unfolding(crate::specs::Form::fields_bytes, crate::specs::Listing::number_bytes))]
 pub fn put_line_number(dst: &mut [u8], n: u64)
     requires { length dst.old ≡ 9 }
     ensures { dst.new ≡ number_bytes n }
 {
-    put_columns(dst, 0, 8, n);
-    dst[8] = b'\n';
+    put_line(dst, &[(8, n)]);
 }

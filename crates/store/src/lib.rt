@@ -2,7 +2,7 @@
 // lent array of numbers, if it has room.
 #![tactic(auto)]
 
-ghost use Rattle.std.specs.Prelude.{◌≡◌, ◌≤◌, take};
+ghost use Rattle.std.specs.Prelude.{◌≡◌};
 ghost use Rattle.device.specs.Calls.{number_of, run_call, cut_call};
 ghost use Rattle.cuts.specs.Calls.{count_call, nth_call};
 ghost use Rattle.image.specs.Calls.{format_call, check_call, lookup_call, next_call};
@@ -31,19 +31,15 @@ fn number_of(answer: Answer) -> u8
     }
 }
 
-// Writes the first n numbers to the front of a lent array, if they fit.
-fn put_numbers(answer: &mut [u64], numbers: [u64; 5], n: usize)
-    requires { n ≤ 5 }
-    ensures { answer.new ≡ lent answer.old (take n numbers) }
+// Writes the numbers to the front of a lent array, if they fit.
+fn put_numbers(answer: &mut [u64], numbers: &[u64])
+    ensures { answer.new ≡ lent answer.old numbers.now }
 {
+    let n = numbers.len();
     if answer.len() < n {
         return;
     }
-    let mut i = 0;
-    while i < n {
-        answer[i] = numbers[i];
-        i += 1;
-    }
+    answer[..n].copy_from_slice(numbers);
 }
 
 #[unsafe(no_mangle)]
@@ -75,7 +71,7 @@ fn put_counted(answer: &mut [u64], counted: Counted) -> u8
 {
     match counted {
         Counted::Number(number) => {
-            put_numbers(answer, [number as u64, 0, 0, 0, 0], 1);
+            put_numbers(answer, &[number as u64]);
             0
         }
         Counted::Refused(refusal) => refusal.number,
@@ -129,11 +125,11 @@ pub extern "C" fn quote_lookup(image: &[u8], key: u64, answer: &mut [u64]) -> u8
 {
     match calls::lookup(image, key) {
         Lookup::Found { offset, length } => {
-            put_numbers(answer, [1, offset as u64, length as u64, 0, 0], 3);
+            put_numbers(answer, &[1, offset as u64, length as u64]);
             0
         }
         Lookup::Missing => {
-            put_numbers(answer, [0, 0, 0, 0, 0], 3);
+            put_numbers(answer, &[0, 0, 0]);
             0
         }
         Lookup::Refused(refusal) => refusal.number,
@@ -147,11 +143,11 @@ pub extern "C" fn quote_next_key(image: &[u8], key: u64, answer: &mut [u64]) -> 
 {
     match calls::next_key(image, key) {
         Next::Key(next) => {
-            put_numbers(answer, [1, next, 0, 0, 0], 2);
+            put_numbers(answer, &[1, next]);
             0
         }
         Next::Last => {
-            put_numbers(answer, [0, 0, 0, 0, 0], 2);
+            put_numbers(answer, &[0, 0]);
             0
         }
         Next::Refused(refusal) => refusal.number,
@@ -165,19 +161,19 @@ pub extern "C" fn quote_preview(image: &[u8], edits: &[u8], key: u64, answer: &m
 {
     match preview(image, edits, key) {
         Preview::InList { offset, length } => {
-            put_numbers(answer, [0, 1, offset as u64, length as u64, 0], 4);
+            put_numbers(answer, &[0, 1, offset as u64, length as u64]);
             0
         }
         Preview::InImage { offset, length } => {
-            put_numbers(answer, [0, 2, offset as u64, length as u64, 0], 4);
+            put_numbers(answer, &[0, 2, offset as u64, length as u64]);
             0
         }
         Preview::Missing => {
-            put_numbers(answer, [0, 0, 0, 0, 0], 4);
+            put_numbers(answer, &[0, 0, 0, 0]);
             0
         }
         Preview::Refused(refusal) => {
-            put_numbers(answer, [refusal.edit as u64, 0, 0, 0, 0], 4);
+            put_numbers(answer, &[refusal.edit as u64, 0, 0, 0]);
             refusal.number
         }
     }
@@ -199,9 +195,9 @@ fn put_commit(answer: &mut [u64], commit: Commit)
     let flushes = commit.flushes as u64;
     let place = commit.place;
     match place {
-        CommitPlace::Header(page) => put_numbers(answer, [0, 1, page as u64, bytes, flushes], 5),
-        CommitPlace::Root => put_numbers(answer, [0, 2, 0, bytes, flushes], 5),
-        CommitPlace::Log => put_numbers(answer, [0, 3, 0, bytes, flushes], 5),
+        CommitPlace::Header(page) => put_numbers(answer, &[0, 1, page as u64, bytes, flushes]),
+        CommitPlace::Root => put_numbers(answer, &[0, 2, 0, bytes, flushes]),
+        CommitPlace::Log => put_numbers(answer, &[0, 3, 0, bytes, flushes]),
     }
 }
 
@@ -216,7 +212,7 @@ fn put_transacted(answer: &mut [u64], transacted: Transacted) -> u8
             0
         }
         Transacted::Refused(refusal) => {
-            put_numbers(answer, [refusal.edit as u64, 0, 0, 0, 0], 5);
+            put_numbers(answer, &[refusal.edit as u64, 0, 0, 0, 0]);
             refusal.number
         }
     }
@@ -229,7 +225,7 @@ fn put_recovered(answer: &mut [u64], recovered: Recovered) -> u8
 {
     match recovered {
         Recovered::Accepted(done) => {
-            put_numbers(answer, [done.bytes as u64, done.flushes as u64, 0, 0, 0], 2);
+            put_numbers(answer, &[done.bytes as u64, done.flushes as u64]);
             0
         }
         Recovered::Refused(refusal) => refusal.number,

@@ -3,23 +3,28 @@
 use native.Mathlib.Omega.{arith}
 use mathlib.Core.Path.{sym, ◌∙◌}
 use lib.ListN.{length-drop}
-use borrow.Author.Tests.{not-true, not-false}
-use Rattle.lines.proofs.Reading.{line-short, line_at}
+use Rattle.lines.proofs.Reading.{line-short, line-cut, line-is}
 use Rattle.lines.proofs.read_line.Goals as goal
 
-pub returns-then-src-lt28 : goal.returns-then-src-lt28
-returns-then-src-lt28 c = sym (line-short _ (simp length-drop (omega arith)))
+pub returns-in_err-get : goal.returns-in_err-get
+returns-in_err-get c = c.from_residual.ensures ∙ sym (line-short _ (simp length-drop (omega (arith, c.in_err-get.ensures.lookup))))
 
-pub returns-then-src-at : goal.returns-then-src-at
-returns-then-src-at c = sym (line-short _ (simp length-drop (omega arith)))
+pub returns-in_err-line : goal.returns-in_err-line
+returns-in_err-line c = c.from_residual-in_err-line.ensures ∙ sym (line-short _ (simp length-drop (omega (arith, c.in_err-line.ensures.lookup, c.in_ok-get.ensures.lookup))))
 
 pub returns-then-not-is_line : goal.returns-then-not-is_line
 returns-then-not-is_line c =
-    sym (line_at c.args.src.now c.args.at _ _ _ c.value_at-kind.ensures c.value_at-key.ensures c.value_at-price.ensures
-    ∙ rw (sym c.is_line.ensures ∙ not-true _ c.if-not-is_line.true-raw))
+    let g = c.in_ok-get.ensures.lookup.0 in
+    let h = c.in_ok-line.ensures.lookup.0 in
+    sym (line-cut _ _ _ c.args.at g.2 h.2
+    ∙ line-is _ _ _ _ (omega arith) c.value_of-kind.ensures c.value_of-key.ensures c.value_of-price.ensures
+    ∙ rw (sym c.is_line.ensures ∙ c.if-not-is_line.true))
 
 pub returns : goal.returns
 returns c =
+    let g = c.in_ok-get.ensures.lookup.0 in
+    let h = c.in_ok-line.ensures.lookup.0 in
     c.line_of.ensures
-    ∙ sym (line_at c.args.src.now c.args.at _ _ _ c.value_at-kind.ensures c.value_at-key.ensures c.value_at-price.ensures
-    ∙ rw (sym c.is_line.ensures ∙ not-false _ c.if-not-is_line.false-raw))
+    ∙ sym (line-cut _ _ _ c.args.at g.2 h.2
+    ∙ line-is _ _ _ _ (omega arith) c.value_of-kind.ensures c.value_of-key.ensures c.value_of-price.ensures
+    ∙ rw (sym c.is_line.ensures ∙ c.if-not-is_line.false))

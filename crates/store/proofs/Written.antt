@@ -6,6 +6,9 @@ use mathlib.Core.List.{List, [], ◌∷◌}
 use lib.ListN.{length}
 use borrow.Author.Tests.{le-leb}
 use native.Mathlib.Omega.{arith}
+use Rattle.std.specs.Prelude.{Result}
+use Rattle.device.specs.Calls.{number_of}
+use Rattle.device.specs.declared.Refusal.{Refusal}
 use Rattle.journal.specs.declared.CommitPlace.{CommitPlace}
 use Rattle.journal.specs.declared.Commit.{Commit}
 use Rattle.store.specs.Numbers.{lent, place_kind, place_page, commit_numbers}
@@ -16,9 +19,9 @@ unfolding lent
 lent_none old = rw (le-leb 0 (length old) (omega arith))
 
 -- the number and the array of the case x are those of the answer l, which is x
-pub written : {A : Type 0} (number : A → ℕ) (numbers : A → List ℕ) (l x : A) → l ≡ x → (old new : List ℕ) → new ≡ lent old (numbers x) →
-    (number x ≡ number l) × (new ≡ lent old (numbers l))
-written number numbers l x e old new w = (ap number (sym e), w ∙ ap (λ y. lent old (numbers y)) (sym e))
+pub written : {A : Type 0} (numbers : Result A Refusal → List ℕ) (l x : Result A Refusal) → l ≡ x → (old new : List ℕ) → new ≡ lent old (numbers x) →
+    (number_of x ≡ number_of l) × (new ≡ lent old (numbers l))
+written {A} numbers l x e old new w = (ap (λ (y : Result A Refusal). number_of y) (sym e), w ∙ ap (λ y. lent old (numbers y)) (sym e))
 
 -- the numbers of an accepted transaction, where its commit place is p
 pub commit-written : (c : Commit) (p : CommitPlace) → c.place ≡ p → (old : List ℕ) →

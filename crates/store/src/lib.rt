@@ -11,23 +11,24 @@ ghost use Rattle.preview.specs.Calls.{preview_call};
 ghost use Rattle.merge.specs.Calls.{merge_call};
 ghost use Rattle.transaction.specs.Calls.{transaction_call};
 ghost use Rattle.recovery.specs.Calls.{recover_call};
-ghost use Rattle.store.specs.Numbers.{lent, counted_number, counted_numbers, lookup_number, lookup_numbers, next_number, next_numbers, preview_number, preview_numbers, commit_numbers, transacted_number, transacted_numbers, recovered_number, recovered_numbers};
+ghost use Rattle.store.specs.Numbers.{lent, counted_numbers, lookup_numbers, next_numbers, preview_numbers, commit_numbers, transacted_numbers, recovered_numbers};
 
-use cuts::{Counted, count_cuts, nth_cut};
-use device::Answer;
-use image::{Lookup, Next, calls};
-use journal::{Commit, CommitPlace};
+use cuts::{count_cuts, nth_cut};
+use device::Refusal;
+use image::calls;
+use journal::{Commit, CommitPlace, Redone};
 use preview::Preview;
 use preview::calls::preview;
-use recovery::{Recovered, recover, recover_words};
-use transaction::{Transacted, transaction, transaction_words};
+use recovery::{recover, recover_words};
+use transaction::{transaction, transaction_words};
 
-fn number_of(answer: Answer) -> u8
+// The number of an answer that gives nothing more: 0 if accepted.
+fn number_of(answer: Result<(), Refusal>) -> u8
     ensures { result ≡ number_of answer }
 {
     match answer {
-        Answer::Accepted => 0,
-        Answer::Refused(refusal) => refusal.number,
+        Ok(()) => 0,
+        Err(refusal) => refusal.cause.number(),
     }
 }
 
@@ -65,22 +66,22 @@ pub extern "C" fn quote_cut(
 }
 
 // Writes what a call on all cuts answers besides its number, which is the answer.
-fn put_counted(answer: &mut [u64], counted: Counted) -> u8
-    ensures value { result ≡ counted_number counted }
+fn put_counted(answer: &mut [u64], counted: Result<usize, Refusal>) -> u8
+    ensures value { result ≡ number_of counted }
     ensures answer_after { answer.new ≡ lent answer.old (counted_numbers counted) }
 {
     match counted {
-        Counted::Number(number) => {
+        Ok(number) => {
             put_numbers(answer, &[number as u64]);
             0
         }
-        Counted::Refused(refusal) => refusal.number,
+        Err(refusal) => refusal.cause.number(),
     }
 }
 
 #[unsafe(no_mangle)]
 pub extern "C" fn quote_count_cuts(image: &[u8], tape: &[u8], answer: &mut [u64]) -> u8
-    ensures value { result ≡ counted_number (count_call image.now tape.now) }
+    ensures value { result ≡ number_of (count_call image.now tape.now) }
     ensures answer_after { answer.new ≡ lent answer.old (counted_numbers (count_call image.now tape.now)) }
 {
     let counted = count_cuts(image, tape);
@@ -95,7 +96,7 @@ pub extern "C" fn quote_nth_cut(
     choices: &mut [u8],
     answer: &mut [u64],
 ) -> u8
-    ensures value { result ≡ counted_number (nth_call image.now tape.now r choices.old).answer }
+    ensures value { result ≡ number_of (nth_call image.now tape.now r choices.old).answer }
     ensures choices_after { choices.new ≡ (nth_call image.now tape.now r choices.old).choices }
     ensures answer_after { answer.new ≡ lent answer.old (counted_numbers (nth_call image.now tape.now r choices.old).answer) }
 {
@@ -120,61 +121,61 @@ pub extern "C" fn quote_check(image: &[u8]) -> u8
 
 #[unsafe(no_mangle)]
 pub extern "C" fn quote_lookup(image: &[u8], key: u64, answer: &mut [u64]) -> u8
-    ensures value { result ≡ lookup_number (lookup_call image.now key) }
+    ensures value { result ≡ number_of (lookup_call image.now key) }
     ensures answer_after { answer.new ≡ lent answer.old (lookup_numbers (lookup_call image.now key)) }
 {
     match calls::lookup(image, key) {
-        Lookup::Found { offset, length } => {
-            put_numbers(answer, &[1, offset as u64, length as u64]);
+        Ok(Some(part)) => {
+            put_numbers(answer, &[1, part.offset as u64, part.length as u64]);
             0
         }
-        Lookup::Missing => {
+        Ok(None) => {
             put_numbers(answer, &[0, 0, 0]);
             0
         }
-        Lookup::Refused(refusal) => refusal.number,
+        Err(refusal) => refusal.cause.number(),
     }
 }
 
 #[unsafe(no_mangle)]
 pub extern "C" fn quote_next_key(image: &[u8], key: u64, answer: &mut [u64]) -> u8
-    ensures value { result ≡ next_number (next_call image.now key) }
+    ensures value { result ≡ number_of (next_call image.now key) }
     ensures answer_after { answer.new ≡ lent answer.old (next_numbers (next_call image.now key)) }
 {
     match calls::next_key(image, key) {
-        Next::Key(next) => {
+        Ok(Some(next)) => {
             put_numbers(answer, &[1, next]);
             0
         }
-        Next::Last => {
+        Ok(None) => {
             put_numbers(answer, &[0, 0]);
             0
         }
-        Next::Refused(refusal) => refusal.number,
+        Err(refusal) => refusal.cause.number(),
     }
 }
 
 #[unsafe(no_mangle)]
 pub extern "C" fn quote_preview(image: &[u8], edits: &[u8], key: u64, answer: &mut [u64]) -> u8
-    ensures value { result ≡ preview_number (preview_call image.now edits.now key) }
+    ensures value { result ≡ number_of (preview_call image.now edits.now key) }
     ensures answer_after { answer.new ≡ lent answer.old (preview_numbers (preview_call image.now edits.now key)) }
 {
     match preview(image, edits, key) {
-        Preview::InList { offset, length } => {
-            put_numbers(answer, &[0, 1, offset as u64, length as u64]);
+        Ok(Some(Preview::InList(part))) => {
+            put_numbers(answer, &[0, 1, part.offset as u64, part.length as u64]);
             0
         }
-        Preview::InImage { offset, length } => {
-            put_numbers(answer, &[0, 2, offset as u64, length as u64]);
+        Ok(Some(Preview::InImage(part))) => {
+            put_numbers(answer, &[0, 2, part.offset as u64, part.length as u64]);
             0
         }
-        Preview::Missing => {
+        Ok(None) => {
             put_numbers(answer, &[0, 0, 0, 0]);
             0
         }
-        Preview::Refused(refusal) => {
+        Err(refusal) => {
             put_numbers(answer, &[refusal.edit as u64, 0, 0, 0]);
-            refusal.number
+            refusal.cause.number()
         }
     }
 }
@@ -202,33 +203,33 @@ fn put_commit(answer: &mut [u64], commit: Commit)
 }
 
 // Writes what a transaction answers besides its number, which is the answer.
-fn put_transacted(answer: &mut [u64], transacted: Transacted) -> u8
-    ensures value { result ≡ transacted_number transacted }
+fn put_transacted(answer: &mut [u64], transacted: Result<Commit, Refusal>) -> u8
+    ensures value { result ≡ number_of transacted }
     ensures answer_after { answer.new ≡ lent answer.old (transacted_numbers transacted) }
 {
     match transacted {
-        Transacted::Accepted(commit) => {
+        Ok(commit) => {
             put_commit(answer, commit);
             0
         }
-        Transacted::Refused(refusal) => {
+        Err(refusal) => {
             put_numbers(answer, &[refusal.edit as u64, 0, 0, 0, 0]);
-            refusal.number
+            refusal.cause.number()
         }
     }
 }
 
 // The same of a recovery.
-fn put_recovered(answer: &mut [u64], recovered: Recovered) -> u8
-    ensures value { result ≡ recovered_number recovered }
+fn put_recovered(answer: &mut [u64], recovered: Result<Redone, Refusal>) -> u8
+    ensures value { result ≡ number_of recovered }
     ensures answer_after { answer.new ≡ lent answer.old (recovered_numbers recovered) }
 {
     match recovered {
-        Recovered::Accepted(done) => {
+        Ok(done) => {
             put_numbers(answer, &[done.bytes as u64, done.flushes as u64]);
             0
         }
-        Recovered::Refused(refusal) => refusal.number,
+        Err(refusal) => refusal.cause.number(),
     }
 }
 
@@ -240,7 +241,7 @@ pub extern "C" fn quote_transaction(
     edits: &[u8],
     answer: &mut [u64],
 ) -> u8
-    ensures value { result ≡ transacted_number (transaction_call ByLine image.now work.old tape.old edits.now).answer }
+    ensures value { result ≡ number_of (transaction_call ByLine image.now work.old tape.old edits.now).answer }
     ensures work_after { work.new ≡ (transaction_call ByLine image.now work.old tape.old edits.now).work }
     ensures tape_after { tape.new ≡ (transaction_call ByLine image.now work.old tape.old edits.now).tape }
     ensures answer_after { answer.new ≡ lent answer.old (transacted_numbers (transaction_call ByLine image.now work.old tape.old edits.now).answer) }
@@ -257,7 +258,7 @@ pub extern "C" fn quote_transaction_words(
     edits: &[u8],
     answer: &mut [u64],
 ) -> u8
-    ensures value { result ≡ transacted_number (transaction_call ByWords image.now work.old tape.old edits.now).answer }
+    ensures value { result ≡ number_of (transaction_call ByWords image.now work.old tape.old edits.now).answer }
     ensures work_after { work.new ≡ (transaction_call ByWords image.now work.old tape.old edits.now).work }
     ensures tape_after { tape.new ≡ (transaction_call ByWords image.now work.old tape.old edits.now).tape }
     ensures answer_after { answer.new ≡ lent answer.old (transacted_numbers (transaction_call ByWords image.now work.old tape.old edits.now).answer) }
@@ -273,7 +274,7 @@ pub extern "C" fn quote_recover(
     tape: &mut [u8],
     answer: &mut [u64],
 ) -> u8
-    ensures value { result ≡ recovered_number (recover_call ByLine image.now work.old tape.old).answer }
+    ensures value { result ≡ number_of (recover_call ByLine image.now work.old tape.old).answer }
     ensures work_after { work.new ≡ (recover_call ByLine image.now work.old tape.old).work }
     ensures tape_after { tape.new ≡ (recover_call ByLine image.now work.old tape.old).tape }
     ensures answer_after { answer.new ≡ lent answer.old (recovered_numbers (recover_call ByLine image.now work.old tape.old).answer) }
@@ -289,7 +290,7 @@ pub extern "C" fn quote_recover_words(
     tape: &mut [u8],
     answer: &mut [u64],
 ) -> u8
-    ensures value { result ≡ recovered_number (recover_call ByWords image.now work.old tape.old).answer }
+    ensures value { result ≡ number_of (recover_call ByWords image.now work.old tape.old).answer }
     ensures work_after { work.new ≡ (recover_call ByWords image.now work.old tape.old).work }
     ensures tape_after { tape.new ≡ (recover_call ByWords image.now work.old tape.old).tape }
     ensures answer_after { answer.new ≡ lent answer.old (recovered_numbers (recover_call ByWords image.now work.old tape.old).answer) }

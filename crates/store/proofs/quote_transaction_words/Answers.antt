@@ -2,10 +2,10 @@
 -- Assumes nothing.
 use mathlib.Core.Path.{sym, ◌∙◌}
 use Rattle.store.proofs.Written.{written}
-use Rattle.store.specs.Numbers.{transacted_number, transacted_numbers}
+use Rattle.store.specs.Numbers.{transacted_numbers}
 use Rattle.store.proofs.quote_transaction_words.Goals as goal
 
 pub returns : goal.returns
 returns c =
-    let w = written transacted_number transacted_numbers _ c.transaction_words-done.result (sym c.transaction_words-done.ensures.value) _ _ c.put_transacted.ensures.answer_after in
+    let w = written transacted_numbers _ c.transaction_words-done.result (sym c.transaction_words-done.ensures.value) _ _ c.put_transacted.ensures.answer_after in
     record { value = c.put_transacted.ensures.value ∙ w.0; work_after = c.transaction_words-done.ensures.work_after; tape_after = c.transaction_words-done.ensures.tape_after; answer_after = w.1 }

@@ -86,6 +86,7 @@ pub fn judge(list: &[u8]) -> Judged
     }
     let mut at = 0;
     let mut edit: u8 = 0;
+    // A walk from place to place: edits differ in size, so `at` is no index.
     while at < list.len() {
         if 15 < edit {
             return Judged::Faulty(Refusal {

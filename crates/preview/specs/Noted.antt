@@ -1,6 +1,8 @@
 -- What the code notes of the edits that it has judged: the key and the kind of each, by their numbers.
 -- Assumes nothing.
-use Rattle.std.specs.Prelude.{ℕ, zero, suc, ◌≡◌, Bool, true, List, length, get_or, eqb}
+use Rattle.std.specs.Prelude.{ℕ, ◌≡◌, Bool, true, List, reverse, length, get_or, eqb}
+use Rattle.std.specs.List.{find}
+use Rattle.std.specs.Option.{option_map_or}
 use Rattle.std.proofs.Math.Option.{Option, none, some}
 use Rattle.codec.specs.Lists.{pick}
 use Rattle.device.specs.Calls.{unsound, key_present, key_missing, refusal}
@@ -9,13 +11,13 @@ use Rattle.image.specs.Descent.{leaf_for, leaf_sound}
 use Rattle.edit.specs.Keys.{holds}
 use Rattle.edit.specs.declared.Judged.{Judged}
 use Rattle.edit.specs.declared.Judged.TheVariants.{Good, Faulty}
+use Rattle.preview.specs.declared.keys.Noted.{Noted}
 use Rattle.preview.specs.declared.Presence.{Presence}
 use Rattle.preview.specs.declared.Presence.TheVariants.{Present, Absent, Unsound}
 
--- the kind of the last edit of the key k among the first n that are noted, or 0
-unfoldable pub kind_noted : List ℕ → List ℕ → ℕ → ℕ → ℕ
-kind_noted keys kinds k zero = 0
-kind_noted keys kinds k (suc n) = pick (eqb (get_or keys n 0) k) (get_or kinds n 0) (kind_noted keys kinds k n)
+-- the kind of the last edit of the key k among those that are noted, or 0
+unfoldable pub kind_noted : List Noted → ℕ → ℕ
+kind_noted noted k = option_map_or (λ (e : Noted). e.kind) (find (λ (e : Noted). eqb e.key k) (reverse noted)) 0
 
 -- whether the key k is there, by the records that are read for it
 unfoldable pub presence : ℕ → Option (List Rec) → Presence

@@ -5,9 +5,6 @@ use borrow.Author.Tests.{ne_eqb}
 use Rattle.preview.specs.Noted.{there_by}
 use Rattle.preview.proofs.keys.is_there.Goals as goal
 
-pub in_leaf-requires : goal.in_leaf-requires
-in_leaf-requires c = (c.requires.0, c.requires.1)
-
 pub returns-in-0 : goal.returns-in-0
 unfolding there_by
 returns-in-0 c = record { value = c.in_leaf.ensures.value ∙ rw (sym c.kind_noted.ensures ∙ c.in-0.is); marks = c.in_leaf.ensures.marks }

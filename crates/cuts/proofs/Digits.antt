@@ -97,12 +97,12 @@ pub digits-down : (ms named : List ℕ) → Names named ms → (r left : ℕ) (d
 digits-down ms named names r left ds b bound h low k = digits-skip ms r left ds b bound h k (λ l p q. names l (λ i n e. omega (arith, low i n (omega arith))))
 
 -- one line, of which the code knows the number of its choices
-pub digits-put : (ms : List ℕ) (r left bound factor : ℕ) (ds : List ℕ) → 0 < bound → factor ≡ get_or ms (bound - 1) 0 + 1 → Digits ms r left bound ds →
-    Digits ms r (left / factor) (bound - 1) (set ds (bound - 1) (left % factor))
-digits-put ms r left bound factor ds h e k =
-    let one : bound ≡ suc (bound - 1) = omega arith in
-    let f : factor ≡ suc (get_or ms (bound - 1) 0) = omega arith in
-    rw f (digits-line ms r left (bound - 1) ds (subst (λ (x : ℕ). Digits ms r left x ds) one k))
+pub digits-put : (ms : List ℕ) (r left bound line factor : ℕ) (ds : List ℕ) → bound ≡ line + 1 → factor ≡ get_or ms line 0 + 1 → Digits ms r left bound ds →
+    Digits ms r (left / factor) line (set ds line (left % factor))
+digits-put ms r left bound line factor ds one e k =
+    let next : bound ≡ suc line = omega arith in
+    let f : factor ≡ suc (get_or ms line 0) = omega arith in
+    rw f (digits-line ms r left line ds (subst (λ (x : ℕ). Digits ms r left x ds) next k))
 
 -- all lines are written
 pub digits-end : (ms : List ℕ) (r left : ℕ) (ds : List ℕ) → Digits ms r left 0 ds → r < ways ms → ds ≡ get_or (choices_up_to ms) r []

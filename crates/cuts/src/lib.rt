@@ -1,7 +1,7 @@
 // All cuts of a small tape: their number, and each by its number. Both go by products of the lines' choices; no list is made.
 #![tactic(auto)]
 
-ghost use Rattle.std.specs.Prelude.{◌≡◌, ◌⊎◌, true, [], ℕ, ◌+◌, ◌*◌, ◌≤◌, ◌<◌, length, drop, get_or, set};
+ghost use Rattle.std.specs.Prelude.{◌≡◌, true, [], ℕ, ◌+◌, ◌*◌, ◌≤◌, ◌<◌, length, drop, get_or, set};
 ghost use Rattle.codec.specs.Lists.{pick};
 ghost use Rattle.device.specs.Tape.{is_command, front, decode, well_formed};
 ghost use Rattle.cuts.specs.All.{choices_up_to};
@@ -160,6 +160,7 @@ fn seek(
     let mut rest = r;
     let mut product = 1;
     let mut later = 1;
+    // A walk from place to place: commands differ in size, and it ends where too few cuts are left.
     while product <= rest {
         rest = rest - product;
         if at == tape.len() {
@@ -180,31 +181,16 @@ fn seek(
     Place { commands, rest }
 }
 
-// What is found so far, or the line if it is higher and below the bound; both by the number after the line, 0 for none.
-fn higher(found: usize, line: usize, bound: usize) -> usize
-    requires { found ≤ bound }
-    ensures { (found ≤ result) × (result ≤ bound) × (line < bound → line < result) × ((result ≡ found) ⊎ (result ≡ line + 1)) }
-{
-    if bound <= line {
-        return found;
-    }
-    if line < found {
-        return found;
-    }
-    line + 1
-}
-
 // The number after the highest named line below the bound; 0 if there is none.
 fn line_below(named: &[usize], bound: usize) -> usize
     ensures { Highest named.now (length named.now) bound result }
 {
-    let mut found = 0;
-    let mut i = 0;
-    while i < named.len() {
-        found = higher(found, named[i], bound);
-        i += 1;
-    }
-    found
+    named
+        .iter()
+        .copied()
+        .filter(|line| *line < bound)
+        .max()
+        .map_or(0, |line| line + 1)
 }
 
 // Writes choice number r of all choices for lines with so many pending stores: the last line's first, which changes fastest.
@@ -212,15 +198,14 @@ fn put_choices(choices: &mut [u8], pending: &[u8], named: &[usize], r: usize)
     requires { (length choices.old ≡ length pending.now) × (r < ways pending.now) × Names named.now pending.now }
     ensures { choices.new ≡ get_or (choices_up_to pending.now) r [] }
 {
-    codec::fill(choices, 0, choices.len(), 0);
+    choices.fill(0);
     let mut left = r;
-    let mut bound = line_below(named, choices.len());
-    while 0 < bound {
-        let line = bound - 1;
+    let mut bound = choices.len();
+    while let Some(line) = line_below(named, bound).checked_sub(1) {
         let factor = codec::wide(pending[line]) + 1;
         choices[line] = (left % factor) as u8;
         left = left / factor;
-        bound = line_below(named, line);
+        bound = line;
     }
 }
 

@@ -12,11 +12,11 @@ use borrow.Author.Tests.{eqb-true, eqb-false}
 use Rattle.codec.specs.Lists.{pick, part, splice}
 use Rattle.codec.specs.Numbers.{number}
 use Rattle.codec.proofs.Lists.{length_part, splice-sets}
-use Rattle.device.specs.Tape.{Op, store, flush, barrier, is_command, front, extent, decode}
-use Rattle.device.specs.Cut.{after, line_of, durable, less, cons_if, kept}
-use Rattle.device.specs.Counts.{finished, note_flush, Kept}
-use Rattle.device.proofs.Decode.{StoreAt, QuietAt, quiet_of, quiet_all, quiet_at, quiet-kind, word_at, line_at}
-use Rattle.device.proofs.Counts.{On, Noting, noting-next, noting-rest, Noted, noted-test, noted-next}
+use Rattle.device.specs.Tape.{Op, store, flush, barrier, is_command, front, extent, decode, well_formed}
+use Rattle.device.specs.Cut.{after, line_of, durable, less, cons_if, kept, cut_image}
+use Rattle.device.specs.Counts.{finished, flush_end, flush_done, note_flush, Kept}
+use Rattle.device.proofs.Decode.{StoreAt, QuietAt, quiet_of, quiet_all, quiet_at, quiet-kind, word_at, line_at, store-good, quiet-good, more-at, good-command, head_at}
+use Rattle.device.proofs.Counts.{On, Noting, noting-next, noting-rest, Noted, noted-start, noted-test, noted-next}
 
 -- ---- play
 
@@ -113,7 +113,7 @@ module _ (n : ℕ) (t : List ℕ) (at k : ℕ) (some : 0 < k) (lines : ℕ) (don
     store-size : length (part t (at + 4) s) ≡ s
     store-size = length_part t (at + 4) s (omega (arith, r.in_tape))
 
-    pub replay-store : (m : ℕ) (work left work' left' : List ℕ) → line_of p ≡ m → length work ≡ n → m < lines → m < length left → Kept work left (done m) at m p (part t (at + 4) s) work' left' →
+    replay-store : (m : ℕ) (work left work' left' : List ℕ) → line_of p ≡ m → length work ≡ n → m < lines → m < length left → Kept work left (done m) at m p (part t (at + 4) s) work' left' →
         after work' (kept (λ (l : ℕ). get_or left' l 0) (take (k - 1) (decode n (drop (at + (4 + s)) t)))) ≡ after work (kept (λ (l : ℕ). get_or left l 0) (take k (decode n (drop at t))))
     unfolding durable
     replay-store m work left work' left' line e inside h q =
@@ -129,7 +129,7 @@ module _ (n : ℕ) (t : List ℕ) (at k : ℕ) (some : 0 < k) (lines : ℕ) (don
         ∙ kept_store work left p m vs cs (ltb at (done m)) line h test
         ∙ sym (ap (λ (ds : List Op). after work (kept (counts left) ds)) store-next)
 
-    pub noted-past-store : (l : ℕ) → l < lines → Noted (done l) (at + (4 + s)) (finished (take (k - 1) (decode n (drop (at + (4 + s)) t)))) l
+    noted-past-store : (l : ℕ) → l < lines → Noted (done l) (at + (4 + s)) (finished (take (k - 1) (decode n (drop (at + (4 + s)) t)))) l
     noted-past-store l h =
         let cs = take (k - 1) (decode n (drop (at + (4 + s)) t)) in
         let here : Noted (done l) at (finished (store p (part t (at + 4) s) ∷ cs)) l = rw store-next at (noted l h) in
@@ -139,7 +139,7 @@ module _ (n : ℕ) (t : List ℕ) (at k : ℕ) (some : 0 < k) (lines : ℕ) (don
     quiet_next : take k (decode n (drop at t)) ≡ quiet_of (get_or t at 0) place ∷ take (k - 1) (decode n (drop (at + 4) t))
     quiet_next = ap (take k) r.next ∙ take-some k (quiet_of (get_or t at 0) place) (decode n (drop (at + 4) t)) some
 
-    pub replay-quiet : (work left : List ℕ) →
+    replay-quiet : (work left : List ℕ) →
         after work (kept (λ (l : ℕ). get_or left l 0) (take (k - 1) (decode n (drop (at + 4) t)))) ≡ after work (kept (λ (l : ℕ). get_or left l 0) (take k (decode n (drop at t))))
     unfolding kept
     replay-quiet work left =
@@ -149,9 +149,75 @@ module _ (n : ℕ) (t : List ℕ) (at k : ℕ) (some : 0 < k) (lines : ℕ) (don
         (ap (λ (ds : List Op). after work (kept f ds)) quiet_next
         ∙ quiet_all (λ (o : Op). after work (kept f (o ∷ cs)) ≡ after work (kept f cs)) (get_or t at 0) place refl refl)
 
-    pub noted-past-quiet : (l : ℕ) → l < lines → Noted (done l) (at + 4) (finished (take (k - 1) (decode n (drop (at + 4) t)))) l
+    noted-past-quiet : (l : ℕ) → l < lines → Noted (done l) (at + 4) (finished (take (k - 1) (decode n (drop (at + 4) t)))) l
     noted-past-quiet l h =
         let o = quiet_of (get_or t at 0) place in
         let cs = take (k - 1) (decode n (drop (at + 4) t)) in
         let here : Noted (done l) at (finished (o ∷ cs)) l = rw quiet_next at (noted l h) in
         rw (quiet_all (λ (x : Op). extent x ≡ 4) (get_or t at 0) place refl refl) at (noted-next (done l) at o cs l here)
+
+-- from `at` of the tape k commands are left; what is kept of them, made over `work`, is the whole
+pub record Replaying (n : ℕ) (t : List ℕ) (lines : ℕ) (done : ℕ → ℕ) (whole : List ℕ) (at k : ℕ) (work left : List ℕ) : Type 0 where
+  pub in_tape : at ≤ length t
+  pub formed : well_formed (decode n (drop at t)) ≡ true
+  pub enough : k ≤ length (decode n (drop at t))
+  pub noted : (l : ℕ) → l < lines → Noted (done l) at (finished (take k (decode n (drop at t)))) l
+  pub comes : after work (kept (λ (l : ℕ). get_or left l 0) (take k (decode n (drop at t)))) ≡ whole
+
+pub replaying-start : (n : ℕ) (t : List ℕ) (lines : ℕ) (flushes : List ℕ) (fence c k : ℕ) (work left : List ℕ) → k ≡ c → well_formed (decode n t) ≡ true → c ≤ length (decode n t) →
+    ((l : ℕ) → l < lines → flush_done flushes fence l ≡ flush_end l 0 (finished (take c (decode n t)))) →
+    Replaying n t lines (flush_done flushes fence) (cut_image work (λ (l : ℕ). get_or left l 0) c (decode n t)) 0 k work left
+unfolding cut_image
+replaying-start n t lines flushes fence c k work left e formed enough tells =
+    rw e (record { in_tape = omega arith; formed = formed; enough = enough; noted = λ l h. noted-start (flush_done flushes fence l) (finished (take c (decode n t))) l (tells l h); comes = refl })
+
+module _ {n : ℕ} {t : List ℕ} {lines : ℕ} {done : ℕ → ℕ} {whole : List ℕ} {at k : ℕ} {work left : List ℕ} (R : Replaying n t lines done whole at k work left) where
+  pub replaying-end : k ≡ 0 → work ≡ whole
+  unfolding after kept
+  replaying-end e = sym (ap (λ (j : ℕ). after work (kept (λ (l : ℕ). get_or left l 0) (take j (decode n (drop at t))))) e) ∙ R.comes
+
+  -- a command stands there
+  module _ (some : 0 < k) where
+    pub replaying-more : at < length t
+    replaying-more = more-at n at t (omega (arith, R.enough))
+
+    replaying-here : is_command n (drop at t) ≡ true
+    replaying-here = good-command n at t replaying-more R.formed
+
+    pub replaying-head : at + 4 ≤ length t
+    replaying-head = head_at n at t replaying-more replaying-here
+
+    module _ (place : ℕ) (e : place ≡ number (part t (at + 2) 2)) where
+      pub replaying-word : get_or t at 0 ≡ 1 → StoreAt n t at (8 * place) 8
+      replaying-word = word_at n at t replaying-more replaying-here place e
+
+      pub replaying-line : get_or t at 0 ≡ 2 → StoreAt n t at (64 * place) 64
+      replaying-line = line_at n at t replaying-more replaying-here place e
+
+      pub replaying-other : (get_or t at 0 ≡ 1 → ⊥) → (get_or t at 0 ≡ 2 → ⊥) → QuietAt n t at place
+      replaying-other = quiet_at n at t replaying-more replaying-here place e
+
+  -- what is left once it is made
+  module _ (some : 0 < k) (j : ℕ) (less : j ≡ k - 1) (at' : ℕ) (work' left' : List ℕ) where
+    pub replaying-store : (p s : ℕ) → StoreAt n t at p s → at' ≡ at + (4 + s) → (m : ℕ) → line_of p ≡ m → length work ≡ n → m < lines → m < length left → Kept work left (done m) at m p (part t (at + 4) s) work' left' →
+        Replaying n t lines done whole at' j work' left'
+    replaying-store p s r e m line long inside h q =
+        rw (e, less)
+        (record {
+          in_tape = r.in_tape;
+          formed = store-good n t at p s r R.formed;
+          enough = omega (arith, R.enough, ap length r.next);
+          noted = noted-past-store n t at k some lines done R.noted p s r;
+          comes = replay-store n t at k some lines done R.noted p s r m work left work' left' line long inside h q ∙ R.comes;
+        })
+
+    pub replaying-quiet : (place : ℕ) → QuietAt n t at place → at' ≡ at + 4 → work' ≡ work → left' ≡ left → Replaying n t lines done whole at' j work' left'
+    replaying-quiet place r e f g =
+        rw (e, less, f, g)
+        (record {
+          in_tape = r.in_tape;
+          formed = quiet-good n t at place r R.formed;
+          enough = omega (arith, R.enough, ap length r.next);
+          noted = noted-past-quiet n t at k some lines done R.noted place r;
+          comes = replay-quiet n t at k some lines done R.noted place r work left ∙ R.comes;
+        })

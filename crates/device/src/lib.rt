@@ -6,7 +6,7 @@ ghost use Rattle.codec.specs.Lists.{pick, part, splice};
 ghost use Rattle.codec.specs.Numbers.{number};
 ghost use Rattle.device.specs.Tape.{decode, front, extent, place_ok, well_formed, head_bytes, word_bytes, line_bytes, flush_bytes, barrier_bytes};
 ghost use Rattle.device.specs.Cut.{after, cut_image};
-ghost use Rattle.device.specs.Counts.{size_of, scanned, flush_done, note_flush, Tells, Found, Kept};
+ghost use Rattle.device.specs.Counts.{size_of, scanned, flush_done, note_flush, Tells, Found};
 ghost use Rattle.device.specs.Calls.{cause_number, of_cause, is_image_size, run_call, cut_tape, cut_call};
 
 // Why a call is refused; the number beside each is the one by which document 01 names it, and document 02 those past 16.
@@ -122,6 +122,7 @@ pub fn count_commands(tape: &[u8], n: usize) -> Option<usize>
 {
     let mut at = 0;
     let mut count = 0;
+    // A walk from place to place: commands differ in size, so `at` is no index.
     while at < tape.len() {
         let size = size_at(tape, at, n);
         if size == 0 {
@@ -139,6 +140,7 @@ fn play(work: &mut [u8], tape: &[u8])
     ensures { work.new ≡ after work.old (decode (length work.old) tape.now) }
 {
     let mut at = 0;
+    // A walk from place to place: commands differ in size, so `at` is no index.
     while at < tape.len() {
         let kind = tape[at];
         let place = codec::number_at(tape, at + 2);
@@ -188,7 +190,7 @@ pub fn run(image: &[u8], work: &mut [u8], tape: &[u8]) -> Result<(), Refusal>
 }
 
 // Where the line's last flush ends that a barrier comes after, 0 if there is none: its last flush, if the last barrier ends past it, else the one
-// that was done when its last flush came.
+// that was done when its last flush came. Both stand in one array, each in its half: `flush_done` and `note_flush` of specs/Counts are stated over it.
 fn flush_done(flushes: &[usize], fence: usize, line: usize) -> usize
     requires { line < length flushes.now / 2 }
     ensures { result ≡ flush_done flushes.now fence line }
@@ -229,6 +231,7 @@ fn judge(flushes: &mut [usize], tape: &[u8], n: usize, c: usize) -> Option<Judge
     let mut at = 0;
     let mut count = 0;
     let mut fence = 0;
+    // A walk from place to place: commands differ in size, so `at` is no index.
     while at < tape.len() {
         let size = size_at(tape, at, n);
         if size == 0 {
@@ -261,44 +264,6 @@ fn is_kept(flushes: &[usize], left: &mut [u8], fence: usize, at: usize, line: us
     true
 }
 
-// Makes a word store if it is kept.
-fn keep_word(
-    work: &mut [u8],
-    left: &mut [u8],
-    flushes: &[usize],
-    fence: usize,
-    tape: &[u8],
-    at: usize,
-    place: usize,
-)
-    requires { (8 * place + 8 ≤ length work.old) × (at + 12 ≤ length tape.now) × (length work.old ≤ 64 * (length flushes.now / 2)) × (length work.old ≤ 64 * length left.old) }
-    ensures { Kept work.old left.old (flush_done flushes.now fence (place / 8)) at (place / 8) (8 * place) (part tape.now (at + 4) 8) work.new left.new }
-{
-    if !is_kept(flushes, left, fence, at, place / 8) {
-        return;
-    }
-    codec::copy_word(work, 8 * place, tape, at + 4);
-}
-
-// Makes a line store if it is kept.
-fn keep_line(
-    work: &mut [u8],
-    left: &mut [u8],
-    flushes: &[usize],
-    fence: usize,
-    tape: &[u8],
-    at: usize,
-    place: usize,
-)
-    requires { (64 * place + 64 ≤ length work.old) × (at + 68 ≤ length tape.now) × (length work.old ≤ 64 * (length flushes.now / 2)) × (length work.old ≤ 64 * length left.old) }
-    ensures { Kept work.old left.old (flush_done flushes.now fence place) at place (64 * place) (part tape.now (at + 4) 64) work.new left.new }
-{
-    if !is_kept(flushes, left, fence, at, place) {
-        return;
-    }
-    codec::copy_line(work, 64 * place, tape, at + 4);
-}
-
 // Makes of the first c commands of a well-formed tape the stores that a cut keeps.
 fn replay(work: &mut [u8], left: &mut [u8], flushes: &[usize], fence: usize, tape: &[u8], c: usize)
     requires work_len_bound { (length work.old ≤ 64 * (length flushes.now / 2)) × (length work.old ≤ 64 * length left.old) }
@@ -307,21 +272,21 @@ fn replay(work: &mut [u8], left: &mut [u8], flushes: &[usize], fence: usize, tap
     ensures { work.new ≡ cut_image work.old (λ l. get_or left.old l 0) c (decode (length work.old) tape.now) }
 {
     let mut at = 0;
-    let mut todo = c;
-    while 0 < todo {
+    for _done in 0..c {
         let kind = tape[at];
         let place = codec::number_at(tape, at + 2);
         if kind == 1 {
-            keep_word(work, left, flushes, fence, tape, at, place);
+            if is_kept(flushes, left, fence, at, place / 8) {
+                codec::copy_word(work, 8 * place, tape, at + 4);
+            }
             at = at + 12;
-            todo = todo - 1;
         } else if kind == 2 {
-            keep_line(work, left, flushes, fence, tape, at, place);
+            if is_kept(flushes, left, fence, at, place) {
+                codec::copy_line(work, 64 * place, tape, at + 4);
+            }
             at = at + 68;
-            todo = todo - 1;
         } else {
             at = at + 4;
-            todo = todo - 1;
         }
     }
 }
@@ -351,26 +316,21 @@ fn cut_tape(
     Ok(())
 }
 
-// The same, with room for the lines of any image.
-fn cut_large(image: &[u8], work: &mut [u8], tape: &[u8], c: usize, choices: &[u8]) -> Result<(), Refusal>
-    requires { (length image.now ≤ 65536) × (length work.old ≡ length image.now) × (length choices.now ≡ length image.now / 64) }
+// The same, with room for so many lines and so many flushes, two a line.
+fn cut_with<const LINES: usize, const FLUSHES: usize>(
+    image: &[u8],
+    work: &mut [u8],
+    tape: &[u8],
+    c: usize,
+    choices: &[u8],
+) -> Result<(), Refusal>
+    requires room { (LINES ≤ 1024) × (FLUSHES ≡ 2 * LINES) }
+    requires sizes { (length image.now ≤ 64 * LINES) × (length work.old ≡ length image.now) × (length choices.now ≡ length image.now / 64) }
     ensures value { result ≡ (cut_tape image.now work.old tape.now c (λ l. get_or choices.now l 0)).answer }
     ensures work_after { work.new ≡ (cut_tape image.now work.old tape.now c (λ l. get_or choices.now l 0)).work }
 {
-    let mut left = [0u8; 1024];
-    let mut flushes = [0usize; 2048];
-    codec::copy(&mut left, 0, choices, 0, choices.len());
-    cut_tape(image, work, tape, c, &mut left, &mut flushes)
-}
-
-// The same, with room for the lines of the smallest image, which it takes less time to clear.
-fn cut_small(image: &[u8], work: &mut [u8], tape: &[u8], c: usize, choices: &[u8]) -> Result<(), Refusal>
-    requires { (length image.now ≡ 8192) × (length work.old ≡ length image.now) × (length choices.now ≡ length image.now / 64) }
-    ensures value { result ≡ (cut_tape image.now work.old tape.now c (λ l. get_or choices.now l 0)).answer }
-    ensures work_after { work.new ≡ (cut_tape image.now work.old tape.now c (λ l. get_or choices.now l 0)).work }
-{
-    let mut left = [0u8; 128];
-    let mut flushes = [0usize; 256];
+    let mut left = [0u8; LINES];
+    let mut flushes = [0usize; FLUSHES];
     codec::copy(&mut left, 0, choices, 0, choices.len());
     cut_tape(image, work, tape, c, &mut left, &mut flushes)
 }
@@ -390,10 +350,11 @@ pub fn cut(image: &[u8], work: &mut [u8], tape: &[u8], c: usize, choices: &[u8])
     if choices.len() != n / 64 {
         return Err(Refusal::of(Cause::BadChoices));
     }
+    // The room of the smallest image takes less time to clear than that of any.
     if n == 8192 {
-        return cut_small(image, work, tape, c, choices);
+        return cut_with::<128, 256>(image, work, tape, c, choices);
     }
-    cut_large(image, work, tape, c, choices)
+    cut_with::<1024, 2048>(image, work, tape, c, choices)
 }
 
 // Writes the head of a command.

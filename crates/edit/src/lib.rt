@@ -76,6 +76,7 @@ pub fn judge(list: &[u8]) -> Result<(), Refusal>
     }
     let mut at = 0;
     let mut edit: u8 = 0;
+    // A walk from place to place: edits differ in size, so `at` is no index.
     while at < list.len() {
         if 15 < edit {
             return Err(Refusal {

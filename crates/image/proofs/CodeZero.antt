@@ -1,12 +1,16 @@
 -- Page 0 read by numbers: the tests of eight-byte numbers that `page_zero` makes stand for the bytes that `page_zero` compares.
 -- Assumes nothing.
-use Prim.Native.Nat.{ℕ, ◌+◌, ◌*◌, ◌/◌, ◌%◌, ◌^◌, ◌≤◌, ◌<◌}
+use Prim.Native.Nat.{ℕ, zero, suc, ◌+◌, ◌*◌, ◌/◌, ◌%◌, ◌^◌, ◌≤◌, ◌<◌}
 use mathlib.Core.Path.{◌≡◌, refl, sym, ap, ◌∙◌}
-use mathlib.Core.Bool.{Bool, true, false}
+use mathlib.Core.Bool.{Bool, true, false, ◌&&◌}
 use mathlib.Core.List.{List, ◌++◌}
 use native.Mathlib.Omega.{arith}
+use native.Mathlib.Nat.{add-zero}
 use lib.ListN.{length, take, replicate, replicate-append-replicate}
 use lib.Seq.{take_at}
+use lib.Dec.{eqb}
+use borrow.Author.Tests.{eqb-true, eqb-false}
+use Rattle.std.specs.List.{range_with_len, list_all}
 use Rattle.codec.specs.Lists.{part, eqs}
 use Rattle.codec.specs.Numbers.{number, bytes_of}
 use Rattle.codec.proofs.Tests.{eqs-true, eqs-same, eqs-differ}
@@ -153,7 +157,7 @@ module _ (img : List ℕ) (bytes : Bytes img) (fits : Size (length img)) where
 abbrev pub zeros : List ℕ → ℕ → ℕ → Bool
 zeros l o m = eqs (part l o m) (replicate m 0)
 
-pub zeros-none : (l : List ℕ) (o m : ℕ) → m ≡ 0 → zeros l o m ≡ true
+zeros-none : (l : List ℕ) (o m : ℕ) → m ≡ 0 → zeros l o m ≡ true
 unfolding part eqs
 zeros-none l o m e = rw e
 
@@ -164,14 +168,37 @@ module _ (l : List ℕ) (bytes : Bytes l) (o m k : ℕ) (fits : o + 8 ≤ length
   zeros-list : ◌≡◌ {A = List ℕ} (replicate m 0) (replicate 8 0 ++ replicate k 0)
   zeros-list = ap (λ (n : ℕ). replicate {A = ℕ} n 0) more ∙ sym (replicate-append-replicate 8 k 0)
 
-  pub zeros-on : number (part l o 8) ≡ 0 → zeros l o m ≡ zeros l (o + 8) k
+  zeros-on : number (part l o 8) ≡ 0 → zeros l o m ≡ zeros l (o + 8) k
   unfolding eqs bytes_of
   zeros-on e = rw (zeros-part, zeros-list, word-is l bytes o fits 0 e)
 
-  pub zeros-stop : (number (part l o 8) ≡ 0 → ⊥) → zeros l o m ≡ false
+  zeros-stop : (number (part l o 8) ≡ 0 → ⊥) → zeros l o m ≡ false
   unfolding bytes_of
   zeros-stop h =
       eqs-differ (part l o m) (replicate m 0)
       (λ e.
       h (word-says l bytes o fits 0 (omega arith)
       (first-eight (part l o 8) (part l (o + 8) k) (replicate 8 0) (replicate k 0) (length_part l o 8 fits) refl (sym zeros-part ∙ e ∙ zeros-list))))
+
+-- whether the i-th word from o on is zero
+abbrev pub is_zero : List ℕ → ℕ → ℕ → Bool
+is_zero l o i = eqb (number (part l (o + 8 * i) 8)) 0
+
+module _ (l : List ℕ) (bytes : Bytes l) (o : ℕ) where
+  words-from : (i n : ℕ) → o + 8 * (i + n) ≤ length l → list_all (is_zero l o) (range_with_len i n) ≡ zeros l (o + 8 * i) (8 * n)
+  words-from i zero h = sym (zeros-none l (o + 8 * i) 0 refl)
+  words-from i (suc n) h = go (is_zero l o i) refl (words-from (i + 1) n (omega arith))
+    where
+      more : 8 * suc n ≡ 8 + 8 * n
+      more = omega arith
+
+      next : o + 8 * (i + 1) ≡ o + 8 * i + 8
+      next = omega arith
+
+      go : (t : Bool) → is_zero l o i ≡ t → list_all (is_zero l o) (range_with_len (i + 1) n) ≡ zeros l (o + 8 * (i + 1)) (8 * n) → (t && list_all (is_zero l o) (range_with_len (i + 1) n)) ≡ zeros l (o + 8 * i) (8 * suc n)
+      go true e rest = rest ∙ rw next (sym (zeros-on l bytes (o + 8 * i) (8 * suc n) (8 * n) (omega arith) more (eqb-true _ 0 e)))
+      go false e rest = sym (zeros-stop l bytes (o + 8 * i) (8 * suc n) (8 * n) (omega arith) more (eqb-false _ 0 e))
+
+  -- n words are zero if each of them is
+  pub zeros-words : (n : ℕ) → o + 8 * n ≤ length l → list_all (is_zero l o) (range_with_len 0 n) ≡ zeros l o (8 * n)
+  zeros-words n h = words-from 0 n (omega arith) ∙ ap (λ (a : ℕ). zeros l a (8 * n)) (add-zero o)

@@ -22,14 +22,7 @@ pub(crate) fn zero_words(s: &[u8], at: usize, n: usize) -> bool
     requires { at + 8 * n ≤ length s.now }
     ensures { result ≡ eqs (part s.now at (8 * n)) (replicate (8 * n) 0) }
 {
-    let mut i = 0;
-    while i < n {
-        if codec::long_at(s, at + 8 * i) != 0 {
-            return false;
-        }
-        i += 1;
-    }
-    true
+    (0..n).all(|i| codec::long_at(s, at + 8 * i) == 0)
 }
 
 // What page 0 says. Each word is read as one number: word 2 holds N and the format number 1, and a mark that waits is

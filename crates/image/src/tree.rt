@@ -28,8 +28,7 @@ pub fn index_ok(image: &[u8], root: usize) -> bool
     let mut marks = [0u8; 64];
     marks[0] = 1;
     marks[root] = 1;
-    let mut i = 0;
-    while i < leaves {
+    for i in 0..leaves {
         let leaf = pages::child_at(page, i);
         if n <= leaf {
             return false;
@@ -38,7 +37,6 @@ pub fn index_ok(image: &[u8], root: usize) -> bool
             return false;
         }
         marks[leaf] = 1;
-        i += 1;
     }
     true
 }
@@ -82,14 +80,12 @@ pub fn leaves_ok(image: &[u8], root: usize) -> bool
     let leaves = pages::count(page);
     let only = leaves == 1;
     let mut lo = 0;
-    let mut i = 0;
-    while i < leaves {
+    for i in 0..leaves {
         let hi = sep_after(page, i, pages::KEYS_END);
         if !leaf_ok(image, only, lo, hi, pages::child_at(page, i)) {
             return false;
         }
         lo = hi;
-        i += 1;
     }
     true
 }

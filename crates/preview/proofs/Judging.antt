@@ -1,17 +1,19 @@
 -- The judging of keys, edit by edit: what is noted says which keys are there now, and the edits that are left come to what all come to.
 -- Assumes nothing.
-use Rattle.std.specs.Prelude.{Result, not, Err, None, Ok, Option, Some}
-use Prim.Native.Nat.{ℕ, zero, suc, ◌+◌, ◌-◌, ◌≤◌, ◌<◌}
+use Rattle.std.specs.Prelude.{Result, not, Err, None, Ok, Option, Some, option_map}
+use Prim.Native.Nat.{ℕ, suc, ◌+◌, ◌-◌, ◌≤◌, ◌<◌}
 use mathlib.Core.Path.{◌≡◌, refl, sym, ap, ◌∙◌, subst}
 use mathlib.Core.Bool.{Bool, true, false}
-use mathlib.Core.List.{List, []}
+use mathlib.Core.List.{List, [], ◌∷◌}
 use native.Mathlib.Omega.{arith}
-use native.Mathlib.Nat.{not-suc-le-zero}
 use native.Mathlib.Numerals.{add-one}
 use lib.ListN.{length, get_or, take, drop, set, replicate, length-set}
-use lib.Seq.{get_or-set_same, get_or-set_other}
+use lib.Seq.{get_or-set_other}
 use lib.Dec.{eqb}
 use borrow.Author.Tests.{eqb-true, eqb-false}
+use Rattle.std.specs.Prelude.{cond, reverse}
+use Rattle.std.specs.List.{find}
+use Rattle.std.proofs.lemmas.List.{reverse-append, take_more_set}
 use Rattle.device.specs.Calls.{unsound, refusal, Answer}
 use Rattle.codec.specs.Lists.{part, pick}
 use Rattle.codec.specs.Numbers.{number}
@@ -33,6 +35,7 @@ use Rattle.edit.proofs.Parsing.{list-whole}
 use Rattle.edit.proofs.Keys.{FaultSays, fault-says, gives, find-own, find-other}
 use Rattle.edit.proofs.Heads.{Ahead, Head, head, head-none, head-rest, head-is}
 use Rattle.preview.specs.Noted.{kind_noted, presence, there_by, fault_by, Marks}
+use Rattle.preview.specs.declared.keys.Noted.{Noted}
 use Rattle.preview.proofs.Walk.{next-key}
 
 -- ---- a key in its leaf
@@ -89,12 +92,12 @@ fault-by i kind k v (Some t) = go (eqb kind 1) (eqb kind 2) (holds k t) refl
     go false false false e = rw e
 
 -- it leaves its key there unless it is a delete
-edit-leaves : (kind k : ℕ) (v : List ℕ) (before : Result Bool Refusal) → 1 ≤ kind → kind ≤ 3 → there_by kind before ≡ Ok (is_some (gives (edit_of kind k v)))
+edit-leaves : (kind k : ℕ) (v : List ℕ) (before : Result Bool Refusal) → 1 ≤ kind → kind ≤ 3 → there_by (Some kind) before ≡ Ok (is_some (gives (edit_of kind k v)))
 unfolding there_by edit_of
 edit-leaves kind k v before low high = go (eqb kind 1) refl (eqb kind 2) refl
   where
     go : (a : Bool) → eqb kind 1 ≡ a → (b : Bool) → eqb kind 2 ≡ b →
-        pick (eqb kind 0) before (Ok (not (eqb kind 3))) ≡ Ok (is_some (gives (pick a (insert k v) (pick b (update k v) (delete k)))))
+        ◌≡◌ {A = Result Bool Refusal} (Ok (not (eqb kind 3))) (Ok (is_some (gives (pick a (insert k v) (pick b (update k v) (delete k))))))
     go true p b q = rw (eqb-true kind 1 p)
     go false p true q = rw (eqb-true kind 2 q)
     go false p false q =
@@ -114,43 +117,31 @@ presence-other e j other (Some t) = ap (λ (x : Option (List ℕ)). Ok (is_some 
 
 -- ---- what is noted
 
-pub noted-at : (keys kinds : List ℕ) (k i : ℕ) → 1 ≤ i → kind_noted keys kinds k i ≡ pick (eqb (get_or keys (i - 1) 0) k) (get_or kinds (i - 1) 0) (kind_noted keys kinds k (i - 1))
+-- one note more
+noted-next : (noted : List Noted) (n : ℕ) (x : Noted) (k : ℕ) → n < length noted → kind_noted (take (n + 1) (set noted n x)) k ≡ pick (eqb x.key k) (Some x.kind) (kind_noted (take n noted) k)
 unfolding kind_noted
-noted-at keys kinds k zero h = absurd (not-suc-le-zero h)
-noted-at keys kinds k (suc i) h =
-    let e : i ≡ suc i - 1 = omega arith in
-    ap (λ (x : ℕ). pick (eqb (get_or keys x 0) k) (get_or kinds x 0) (kind_noted keys kinds k x)) e
-
-module _ (keys kinds : List ℕ) (n x y k : ℕ) where
-  -- a note past the first m
-  noted-past : (m : ℕ) → m ≤ n → kind_noted (set keys n x) (set kinds n y) k m ≡ kind_noted keys kinds k m
-  unfolding kind_noted
-  noted-past zero h = refl
-  noted-past (suc m) h =
-      let other : m ≡ n → ⊥ = λ e. omega arith in
-      rw (get_or-set_other keys n m x 0 other, get_or-set_other kinds n m y 0 other, noted-past m (omega arith))
-
-  -- one note more
-  noted-next : n < length keys → n < length kinds → kind_noted (set keys n x) (set kinds n y) k (suc n) ≡ pick (eqb x k) y (kind_noted keys kinds k n)
-  unfolding kind_noted
-  noted-next a b = rw (get_or-set_same keys n x 0 a, get_or-set_same kinds n y 0 b, noted-past n (omega arith))
+noted-next noted n x k h = rw (take_more_set noted n x h, reverse-append (take n noted) (x ∷ [])) (go (eqb x.key k))
+  where
+    go : (t : Bool) → option_map (λ (e : Noted). e.kind) (cond t (Some x) (find (λ (e : Noted). eqb e.key k) (reverse (take n noted)))) ≡ pick t (Some x.kind) (option_map (λ (e : Noted). e.kind) (find (λ (e : Noted). eqb e.key k) (reverse (take n noted))))
+    go true = refl
+    go false = refl
 
 -- ---- the edits from the place `at` of the list on: n are judged, and `sees` is what is read for each key with them made
 
-pub record Upto (read : Source) (list keys kinds : List ℕ) (all : Answer) (at n : ℕ) : Type 0 where
+pub record Upto (read : Source) (list : List ℕ) (noted : List Noted) (all : Answer) (at n : ℕ) : Type 0 where
   pub ahead : Ahead list at
   pub few : n + length ahead.edits ≤ 16
   pub sees : Source
-  pub there : (k : ℕ) → there_by (kind_noted keys kinds k n) (presence k (read k)) ≡ presence k (sees k)
+  pub there : (k : ℕ) → there_by (kind_noted (take n noted) k) (presence k (read k)) ≡ presence k (sees k)
   pub goes : keys_from n ahead.edits sees ≡ all
 
-pub upto-start : (read : Source) (list keys kinds : List ℕ) (es : List Edit) → edit_list list ≡ listed es → Upto read list keys kinds (keys_from 0 es read) 0 0
+pub upto-start : (read : Source) (list : List ℕ) (noted : List Noted) (es : List Edit) → edit_list list ≡ listed es → Upto read list noted (keys_from 0 es read) 0 0
 unfolding kind_noted there_by
-upto-start read list keys kinds es e =
+upto-start read list noted es e =
     let w = list-whole list es e in
     record { ahead = record { edits = es; reads = w.reads }; few = omega (arith, w.few); sees = read; there = λ k. refl; goes = refl }
 
-module _ {read : Source} {list keys kinds : List ℕ} {all : Answer} {at n : ℕ} (U : Upto read list keys kinds all at n) where
+module _ {read : Source} {list : List ℕ} {noted : List Noted} {all : Answer} {at n : ℕ} (U : Upto read list noted all at n) where
   abbrev s : Source
   s = U.sees
 
@@ -179,7 +170,7 @@ module _ {read : Source} {list keys kinds : List ℕ} {all : Answer} {at n : ℕ
       next-is = ap (λ (x : ℕ). edit_of x k v) first ∙ head-is U.ahead more m long k key
 
       -- what the code says of the edit, by the kind and the key that stand there, is what is to be said
-      module _ (c : Answer) (says : c ≡ fault_by n (eqb kind 1) (there_by (kind_noted keys kinds k n) (presence k (read k)))) where
+      module _ (c : Answer) (says : c ≡ fault_by n (eqb kind 1) (there_by (kind_noted (take n noted) k) (presence k (read k)))) where
         fault-is : c ≡ key_fault n next (s (key_of next))
         fault-is =
             says
@@ -195,32 +186,35 @@ module _ {read : Source} {list keys kinds : List ℕ} {all : Answer} {at n : ℕ
         pub upto-stop : (r : Refusal) → c ≡ Err r → c ≡ all
         upto-stop r e = e ∙ ap (λ (x : Answer). or_fault x (keys_from (suc n) H.rest (made next s))) (sym e) ∙ goes_on
 
-        module _ (good : c ≡ Ok tt) (a : n < length keys) (b : n < length kinds) where
+        module _ (good : c ≡ Ok tt) (room : n < length noted) where
           kept : KeptIn next (s (key_of next))
           kept = subst (FaultSays n next (s (key_of next))) (sym fault-is ∙ good) (fault-says n next (s (key_of next)))
 
+          abbrev note : Noted
+          note = record { key = k; kind = kind }
+
           -- the key j after the edit
-          there-next : (j : ℕ) → there_by (kind_noted (set keys n k) (set kinds n kind) j (suc n)) (presence j (read j)) ≡ presence j (made next s j)
-          there-next j = ap (λ (x : ℕ). there_by x (presence j (read j))) (noted-next keys kinds n k kind j a b) ∙ go (eqb k j) refl
+          there-next : (j : ℕ) → there_by (kind_noted (take (n + 1) (set noted n note)) j) (presence j (read j)) ≡ presence j (made next s j)
+          there-next j = ap (λ (x : Option ℕ). there_by x (presence j (read j))) (noted-next noted n note j room) ∙ go (eqb k j) refl
             where
-              leaves : there_by kind (presence j (read j)) ≡ Ok (is_some (gives next))
+              leaves : there_by (Some kind) (presence j (read j)) ≡ Ok (is_some (gives next))
               leaves =
                   edit-leaves kind k v (presence j (read j)) (omega (arith, first, kind_at list at, H.ok.known.kind-low)) (omega (arith, first, kind_at list at, H.ok.known.kind-high))
                   ∙ ap (λ (e : Edit). Ok (is_some (gives e))) next-is
 
-              go : (q : Bool) → eqb k j ≡ q → there_by (pick q kind (kind_noted keys kinds j n)) (presence j (read j)) ≡ presence j (made next s j)
+              go : (q : Bool) → eqb k j ≡ q → there_by (pick q (Some kind) (kind_noted (take n noted) j)) (presence j (read j)) ≡ presence j (made next s j)
               go true q =
                   let same : key_of next ≡ j = own ∙ eqb-true k j q in
                   leaves ∙ sym (presence-own next (s (key_of next)) kept) ∙ ap (λ (x : ℕ). presence x (made next s x)) same
               go false q = U.there j ∙ sym (presence-other next j (λ e. eqb-false k j q (sym own ∙ e)) (s j))
 
-          pub upto_next : Upto read list (set keys n k) (set kinds n kind) all (at + 10 + m) (n + 1)
+          pub upto_next : Upto read list (set noted n note) all (at + 10 + m) (n + 1)
           upto_next =
               let on : keys_from (suc n) H.rest (made next s) ≡ all = ap (λ (x : Answer). or_fault x (keys_from (suc n) H.rest (made next s))) (sym good) ∙ goes_on in
               record {
                 ahead = head-rest U.ahead more m long;
                 few = omega (arith, U.few, ap (λ (es : List Edit). length es) H.shape);
                 sees = made next s;
-                there = λ j. ap (λ (x : ℕ). there_by (kind_noted (set keys n k) (set kinds n kind) j x) (presence j (read j))) (add-one n) ∙ there-next j;
+                there = there-next;
                 goes = ap (λ (x : ℕ). keys_from x H.rest (made next s)) (add-one n) ∙ on;
               }

@@ -13,19 +13,22 @@ use image::descent::{leaf_for, leaf_sound};
 use image::pages::page_of;
 use page::find;
 
-// The kind of the last edit of a key among the first n that are noted, or 0.
-fn kind_noted(keys: &[u64; 16], kinds: &[u8; 16], n: usize, key: u64) -> u8
-    requires { n ≤ 16 }
-    ensures { result ≡ kind_noted keys.now kinds.now key n }
+// An edit that is judged: its key and its kind.
+#[derive(Clone, Copy)]
+struct Noted {
+    key: u64,
+    kind: u8,
+}
+
+// The kind of the last edit of a key among those that are noted.
+fn kind_noted(noted: &[Noted], key: u64) -> Option<u8>
+    ensures { result ≡ kind_noted noted.now key }
 {
-    let mut i = n;
-    while 0 < i {
-        i -= 1;
-        if keys[i] == key {
-            return kinds[i];
-        }
-    }
-    0
+    noted
+        .iter()
+        .rev()
+        .find(|edit| edit.key == key)
+        .map(|edit| edit.kind)
 }
 
 // Whether a sound page holds a key.
@@ -54,24 +57,16 @@ fn in_leaf(image: &[u8], root: usize, judged: &mut [u8], key: u64) -> Result<boo
     Ok(in_page(page_of(image, own), key))
 }
 
-// Whether a key is there after the first n edits: as the last of them that has it leaves it, else as the image has it.
-fn is_there(
-    image: &[u8],
-    root: usize,
-    judged: &mut [u8],
-    keys: &[u64; 16],
-    kinds: &[u8; 16],
-    n: usize,
-    key: u64,
-) -> Result<bool, Refusal>
-    requires { (index_call image.now ≡ Ok root) × Marks image.now root judged.old × (n ≤ 16) }
-    ensures value { result ≡ there_by (kind_noted keys.now kinds.now key n) (presence key (records_for image.now root key)) }
+// Whether a key is there after the edits that are noted: as the last of them that has it leaves it, else as the image has it.
+fn is_there(image: &[u8], root: usize, judged: &mut [u8], noted: &[Noted], key: u64) -> Result<bool, Refusal>
+    requires { (index_call image.now ≡ Ok root) × Marks image.now root judged.old }
+    ensures value { result ≡ there_by (kind_noted noted.now key) (presence key (records_for image.now root key)) }
     ensures marks { Marks image.now root judged.new }
 {
-    match kind_noted(keys, kinds, n, key) {
-        0 => in_leaf(image, root, judged, key),
-        3 => Ok(false),
-        _ => Ok(true),
+    match kind_noted(noted, key) {
+        None => in_leaf(image, root, judged, key),
+        Some(3) => Ok(false),
+        Some(_) => Ok(true),
     }
 }
 
@@ -102,18 +97,17 @@ pub(crate) fn judge_keys(image: &[u8], root: usize, list: &[u8]) -> Result<(), R
     requires { (index_call image.now ≡ Ok root) × (edit_list list.now ≡ listed (edits_of (edit_list list.now))) }
     ensures { result ≡ keys_from 0 (edits_of (edit_list list.now)) (records_for image.now root) }
 {
-    let mut keys = [0u64; 16];
-    let mut kinds = [0u8; 16];
+    let mut noted = [Noted { key: 0, kind: 0 }; 16];
     let mut judged = [0u8; 64];
     let mut n = 0;
     let mut at = 0;
+    // A walk from place to place: edits differ in size, so `at` is no index.
     while at < list.len() {
         let kind = list[at];
         let key = codec::long_at(list, at + 2);
-        let there = is_there(image, root, &mut judged, &keys, &kinds, n, key)?;
+        let there = is_there(image, root, &mut judged, &noted[..n], key)?;
         key_fault(n as u8, kind, there)?;
-        keys[n] = key;
-        kinds[n] = kind;
+        noted[n] = Noted { key, kind };
         n += 1;
         at = at + 10 + codec::wide(list[at + 1]);
     }

@@ -27,6 +27,7 @@ pub(crate) fn see(image: &[u8], root: usize, list: &[u8], key: u64) -> Result<Op
 {
     let mut last = None;
     let mut at = 0;
+    // A walk from place to place: edits differ in size, so `at` is no index.
     while at < list.len() {
         let value = at + 10;
         let n = codec::wide(list[at + 1]);

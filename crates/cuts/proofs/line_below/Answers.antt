@@ -1,59 +1,52 @@
--- `line_below`: what is found is the highest of the lines passed.
+-- `line_below`: the largest of the lines that are below the bound, and one more.
 -- Assumes nothing.
-use Prim.Native.Nat.{ℕ, ◌+◌, ◌≤◌, ◌<◌}
-use mathlib.Core.Path.{◌≡◌, refl, sym, ◌∙◌, subst}
-use mathlib.Core.Logic.{◌⊎◌, inl, inr}
-use mathlib.Core.Bool.{Bool, true, false}
-use mathlib.Core.List.{List}
+use Prim.Native.Nat.{ℕ, zero, suc, ◌+◌, ◌≤◌, ◌<◌}
+use mathlib.Core.Path.{◌≡◌, refl, ap, ◌∙◌, subst}
+use mathlib.Core.Logic.{inl, inr}
+use mathlib.Core.Bool.{Bool, true, false, cond}
+use mathlib.Core.List.{List, [], ◌∷◌}
 use native.Mathlib.Omega.{arith}
 use lib.ListN.{length, get_or}
-use lib.Dec.{eqb}
-use borrow.Author.Tests.{eqb-true, eqb-false}
+use lib.Dec.{ltb}
+use borrow.Author.Tests.{ltb-true, lt-ltb}
+use Rattle.std.proofs.Common.{Option, Some, None, rules}
+use Rattle.std.specs.List.{filter, Contains, All}
+use Rattle.std.specs.Option.{MatchOption, option_map_or}
+use Rattle.std.proofs.lemmas.List.{get_or_default}
+use Rattle.std.proofs.lemmas.List.Elements.{All-filter, All-contains, All-contains_itself, filter_passes}
 use Rattle.cuts.specs.Products.{Highest}
 use Rattle.cuts.proofs.line_below.Goals as goal
 
--- one more line
-highest-next : (named : List ℕ) (bound i found r : ℕ) → Highest named i bound found → found ≤ r → r ≤ bound → (get_or named i 0 < bound → get_or named i 0 < r) → (r ≡ found) ⊎ (r ≡ get_or named i 0 + 1) →
-    Highest named (i + 1) bound r
-highest-next named bound i found r k e f new one = record { within = f; above = above; is_one = is_one one k.is_one }
+-- what passes a test is among those that do
+passed : (p : ℕ → Bool) (xs : List ℕ) (i : ℕ) → i < length xs → p (get_or xs i 0) ≡ true → Contains (filter p xs) (get_or xs i 0)
+passed p [] i h e = absurd (omega arith)
+passed p (x ∷ xs) zero h e = rw e (0, omega arith, refl)
+passed p (x ∷ xs) (suc i) h e = go (p x) (passed p xs i (omega arith) e)
   where
-    above : (j : ℕ) → j < i + 1 → get_or named j 0 < bound → get_or named j 0 < r
-    above j h b = go (eqb j i) refl
-      where
-        go : (t : Bool) → eqb j i ≡ t → get_or named j 0 < r
-        go true q = let s : j ≡ i = eqb-true j i q in rw s (new (rw s at b))
-        go false q = omega (arith, k.above j (omega (arith, eqb-false j i q)) b)
+    go : (t : Bool) → Contains (filter p xs) (get_or xs i 0) → Contains (cond t (x ∷ filter p xs) (filter p xs)) (get_or xs i 0)
+    go true (k, l, q) = (suc k, omega arith, q)
+    go false c = c
 
-    is_one : (r ≡ found) ⊎ (r ≡ get_or named i 0 + 1) → (found ≡ 0) ⊎ ((j : ℕ) × (j < i) × (get_or named j 0 + 1 ≡ found)) → (r ≡ 0) ⊎ ((j : ℕ) × (j < i + 1) × (get_or named j 0 + 1 ≡ r))
-    is_one (inr q) o = inr (i, omega arith, sym q)
-    is_one (inl q) (inl o) = inl (q ∙ o)
-    is_one (inl q) (inr (j, h, o)) = inr (j, omega arith, o ∙ sym q)
+module _ (named : List ℕ) (bound : ℕ) where
+  abbrev below : List ℕ
+  below = filter (λ (l : ℕ). ltb l bound) named
 
-pub loop-i-init : goal.loop-i-init
-loop-i-init c = (omega arith, record { within = omega arith; above = λ j h. absurd (omega arith); is_one = inl refl })
+  within-below : (i : ℕ) → i < length named → get_or named i 0 < bound → Contains below (get_or named i 0)
+  within-below i h b = passed (λ (l : ℕ). ltb l bound) named i h (lt-ltb (get_or named i 0) bound b)
 
-pub offset_bounds-named-i : goal.offset_bounds-named-i
-offset_bounds-named-i c = omega arith
-
-pub bounds-named-i : goal.bounds-named-i
-bounds-named-i c = omega arith
-
-pub higher-found-requires : goal.higher-found-requires
-higher-found-requires c = c.loop-i.invariant.1.within
-
-pub overflow_add-i : goal.overflow_add-i
-overflow_add-i c = omega arith
-
-pub loop-i-smaller : goal.loop-i-smaller
-loop-i-smaller c = omega arith
-
-pub loop-i-preserved : goal.loop-i-preserved
-loop-i-preserved c =
-    let l = c.loop-i in
-    (omega arith, highest-next c.args.named.now c.args.bound l.i l.found c.higher-found.result l.invariant.1 c.higher-found.ensures.0 c.higher-found.ensures.1 c.higher-found.ensures.2 c.higher-found.ensures.3)
+  highest : (o : Option ℕ) → MatchOption o (length below ≡ 0) (λ m. Contains below m × All (λ x. x ≤ m) below) → Highest named (length named) bound (option_map_or (λ (l : ℕ). l + 1) o 0)
+  highest None e = record { within = omega arith; above = λ i h b. (let c = within-below i h b in absurd (omega (arith, c.1, e))); is_one = inl refl }
+  highest (Some m) (c, a) =
+      let low = ltb-true m bound (All-contains (λ (l : ℕ). ltb l bound ≡ true) below m (filter_passes (λ (l : ℕ). ltb l bound) named) c) in
+      let n = All-contains (Contains named) below m (All-filter (λ (l : ℕ). ltb l bound) (Contains named) named (All-contains_itself named)) c in
+      record {
+        within = omega arith;
+        above = λ i h b. (let le = All-contains (λ (x : ℕ). x ≤ m) below (get_or named i 0) a (within-below i h b) in omega arith);
+        is_one = inr (n.0, n.1, ap (λ (x : ℕ). x + 1) (get_or_default named n.0 0 m n.1 ∙ n.2));
+      }
 
 pub returns : goal.returns
 returns c =
-    let l = c.loop-i in
-    let all : l.i ≡ length c.args.named.now = omega (arith, l.invariant.0) in
-    subst (λ (n : ℕ). Highest c.args.named.now n c.args.bound l.found) all l.invariant.1
+    let h : MatchOption c.max.result (length (below c.args.named.now c.args.bound) ≡ 0) (λ m. Contains (below c.args.named.now c.args.bound) m × All (λ x. x ≤ m) (below c.args.named.now c.args.bound)) = search rules in
+    let e : option_map_or (λ (l : ℕ). l + 1) c.max.result 0 ≡ c.map_or.result = search rules in
+    subst (Highest c.args.named.now (length c.args.named.now) c.args.bound) e (highest c.args.named.now c.args.bound c.max.result h)

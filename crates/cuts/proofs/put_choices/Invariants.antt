@@ -3,8 +3,8 @@
 use Rattle.cuts.proofs.Digits.{Digits}
 use Rattle.cuts.proofs.put_choices.Given as goal
 
-abbrev pub invariant-loop-bound : goal.invariant-loop-bound
-invariant-loop-bound l = Digits l.pending l.r l.left l.bound l.choices
+abbrev pub invariant-loop-line : goal.invariant-loop-line
+invariant-loop-line l = Digits l.pending l.r l.left l.bound l.choices
 
-abbrev pub decreases-loop-bound : goal.decreases-loop-bound
-decreases-loop-bound l = l.bound
+abbrev pub decreases-loop-line : goal.decreases-loop-line
+decreases-loop-line l = l.bound

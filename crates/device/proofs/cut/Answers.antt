@@ -1,6 +1,7 @@
 -- `cut`: each test on the way is one of the definition's.
 -- Assumes nothing.
-use mathlib.Core.Path.{◌≡◌, sym, ap, ◌∙◌}
+use mathlib.Core.Path.{◌≡◌, refl, sym, ap, ◌∙◌}
+use native.Mathlib.Omega.{arith}
 use mathlib.Core.Bool.{true}
 use lib.ListN.{length, get_or}
 use borrow.Author.Tests.{eq-eqb, ne_eqb, not-true, not-false}
@@ -42,14 +43,11 @@ past : (c : Else-choices-n) →
 unfolding cut_call
 past c = holds _ _ _ _ (sym c.is_image_size.ensures ∙ not-false _ c.if-not-is_image_size.false-raw) ∙ holds _ _ _ _ (eq-eqb _ _ c.if-work-n.false) ∙ holds _ _ _ _ (eq-eqb _ _ c.if-choices-n.false)
 
-pub cut_small-requires : goal.cut_small-requires
-cut_small-requires c = (c.if-n-eq8192.true, c.if-work-n.false, c.if-choices-n.false)
-
 pub returns-then-n-eq8192 : goal.returns-then-n-eq8192
-returns-then-n-eq8192 c = let s = said _ _ (past (goal.at.returns-then-n-eq8192 c).Else-choices-n) in record { value = c.cut_small.ensures.value ∙ s.0; work_after = c.cut_small.ensures.work_after ∙ s.1 }
+returns-then-n-eq8192 c = let s = said _ _ (past (goal.at.returns-then-n-eq8192 c).Else-choices-n) in record { value = c.cut_with.ensures.value ∙ s.0; work_after = c.cut_with.ensures.work_after ∙ s.1 }
 
-pub cut_large-requires : goal.cut_large-requires
-cut_large-requires c = (image-size-le _ (sized (goal.at.cut_large-requires c).Else-not-is_image_size), c.if-work-n.false, c.if-choices-n.false)
+pub cut_with-requires-2 : goal.cut_with-requires-2
+cut_with-requires-2 c = let small = image-size-le _ (sized (goal.at.cut_with-requires-2 c).Else-not-is_image_size) in record { room = (omega arith, refl); sizes = (small, c.if-work-n.false, c.if-choices-n.false) }
 
 pub returns : goal.returns
-returns c = let s = said _ _ (past (goal.at.returns c).Else-choices-n) in record { value = c.cut_large.ensures.value ∙ s.0; work_after = c.cut_large.ensures.work_after ∙ s.1 }
+returns c = let s = said _ _ (past (goal.at.returns c).Else-choices-n) in record { value = c.cut_with-2.ensures.value ∙ s.0; work_after = c.cut_with-2.ensures.work_after ∙ s.1 }

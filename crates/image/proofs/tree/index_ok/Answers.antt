@@ -6,7 +6,6 @@ use mathlib.Core.Bool.{true, true≢false}
 use mathlib.Core.List.{List, []}
 use native.Mathlib.Omega.{arith}
 use lib.ListN.{length}
-use borrow.Author.Tests.{not-true, not-false}
 use Rattle.page.specs.Layout.{index_kind, rec_of}
 use Rattle.page.specs.Page.{records, page_ok}
 use Rattle.page.proofs.Facts.{page_ok-true}
@@ -22,16 +21,13 @@ use Rattle.image.proofs.tree.index_ok.Goals.{Else-not-page_ok}
 pub page_of-page-requires : goal.page_of-page-requires
 page_of-page-requires c = page-fits c.args.image.now c.args.root c.requires.1
 
-pub page_ok-requires : goal.page_ok-requires
-page_ok-requires c = tt
-
 pub returns-then-not-page_ok : goal.returns-then-not-page_ok
 returns-then-not-page_ok c =
     let a = c.args in
-    sym (not-index a.image.now a.root (λ k. true≢false (sym k.page ∙ ap (page_ok index_kind a.root) (sym c.page_of-page.ensures) ∙ sym c.page_ok.ensures ∙ not-true _ c.if-not-page_ok.true-raw)))
+    sym (not-index a.image.now a.root (λ k. true≢false (sym k.page ∙ ap (page_ok index_kind a.root) (sym c.page_of-page.ensures) ∙ sym c.page_ok.ensures ∙ c.if-not-page_ok.true)))
 
 page-is : (c : Else-not-page_ok) → page_ok index_kind c.args.root c.page_of-page.result.now ≡ true
-page-is c = sym c.page_ok.ensures ∙ not-false _ c.if-not-page_ok.false-raw
+page-is c = sym c.page_ok.ensures ∙ c.if-not-page_ok.false
 
 pub count-leaves-requires : goal.count-leaves-requires
 count-leaves-requires c = (page_ok-true _ _ _ (page-is (goal.at.count-leaves-requires c).Else-not-page_ok)).laid
@@ -42,9 +38,6 @@ returns-then-leaves-eq0 c =
     let a = c.args in
     sym (not-index a.image.now a.root (λ k. let e = ap (λ (p : List ℕ). length (records p)) c.page_of-page.ensures in omega (arith, k.some, c.count-leaves.ensures, c.if-leaves-eq0.true)))
 
-pub bounds-marks-0 : goal.bounds-marks-0
-bounds-marks-0 c = omega arith
-
 pub bounds-marks-root : goal.bounds-marks-root
 bounds-marks-root c =
     let a = c.args in
@@ -53,7 +46,7 @@ bounds-marks-root c =
 pub loop-i-init : goal.loop-i-init
 loop-i-init c =
     let a = c.args in
-    (omega arith, index-claims a.image.now a.root (size-true _ c.requires.0) c.requires.1 _ c.page_of-page.ensures (page-is (goal.at.loop-i-init c).Else-not-page_ok) (omega (arith, c.count-leaves.ensures, c.if-leaves-eq0.false)))
+    index-claims a.image.now a.root (size-true _ c.requires.0) c.requires.1 _ c.page_of-page.ensures (page-is (goal.at.loop-i-init c).Else-not-page_ok) (omega (arith, c.count-leaves.ensures, c.if-leaves-eq0.false))
 
 pub child_at-leaf-requires : goal.child_at-leaf-requires
 child_at-leaf-requires c =
@@ -62,31 +55,17 @@ child_at-leaf-requires c =
 pub returns-then-n-leaf : goal.returns-then-n-leaf
 returns-then-n-leaf c =
     let l = c.loop-i in
-    sym (marks-past _ l.marks _ l.i (rec_of 0 []) (omega (arith, c.count-leaves.ensures, c.loop-i-test.true)) _ c.child_at-leaf.ensures c.if-n-leaf.true) ∙ l.invariant.1
-
-pub bounds-marks-leaf : goal.bounds-marks-leaf
-bounds-marks-leaf c =
-    let z = size-true (length c.args.image.now) c.requires.0 in omega (arith, c.if-n-leaf.false)
+    sym (marks-past _ l.marks _ l.i (rec_of 0 []) (omega (arith, c.count-leaves.ensures, c.loop-i-test.true)) _ c.child_at-leaf.ensures c.if-n-leaf.true) ∙ l.invariant
 
 pub returns-then-marks-leaf-ne0 : goal.returns-then-marks-leaf-ne0
 returns-then-marks-leaf-ne0 c =
     let l = c.loop-i in
-    sym (marks-twice _ l.marks _ l.i (rec_of 0 []) (omega (arith, c.count-leaves.ensures, c.loop-i-test.true)) _ c.child_at-leaf.ensures c.if-n-leaf.false c.if-marks-leaf-ne0.true) ∙ l.invariant.1
-
-pub bounds-marks-leaf-in-loop-i : goal.bounds-marks-leaf-in-loop-i
-bounds-marks-leaf-in-loop-i c =
-    let z = size-true (length c.args.image.now) c.requires.0 in omega (arith, c.if-n-leaf.false)
-
-pub overflow_add-i : goal.overflow_add-i
-overflow_add-i c = omega arith
-
-pub loop-i-smaller : goal.loop-i-smaller
-loop-i-smaller c = omega arith
+    sym (marks-twice _ l.marks _ l.i (rec_of 0 []) (omega (arith, c.count-leaves.ensures, c.loop-i-test.true)) _ c.child_at-leaf.ensures c.if-n-leaf.false c.if-marks-leaf-ne0.true) ∙ l.invariant
 
 pub loop-i-preserved : goal.loop-i-preserved
 loop-i-preserved c =
     let l = c.loop-i in
-    (omega arith, marks-on _ l.marks _ l.i (rec_of 0 []) (omega (arith, c.count-leaves.ensures, c.loop-i-test.true)) _ c.child_at-leaf.ensures c.if-n-leaf.false c.if-marks-leaf-ne0.false ∙ l.invariant.1)
+    marks-on _ l.marks _ l.i (rec_of 0 []) (omega (arith, c.count-leaves.ensures, c.loop-i-test.true)) _ c.child_at-leaf.ensures c.if-n-leaf.false c.if-marks-leaf-ne0.false ∙ l.invariant
 
 pub returns : goal.returns
-returns c = sym (marks-end _ c.loop-i.marks _ c.loop-i.i (omega (arith, c.count-leaves.ensures, c.loop-i-test.false))) ∙ c.loop-i.invariant.1
+returns c = sym (marks-end _ c.loop-i.marks _ c.loop-i.i (omega (arith, c.count-leaves.ensures, c.loop-i-test.false))) ∙ c.loop-i.invariant

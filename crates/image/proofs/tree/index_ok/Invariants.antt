@@ -1,6 +1,5 @@
 -- `index_ok` tests what `index_ok` says: what the marks leave to be tested of the records from the i-th on is the whole test.
 -- Assumes nothing.
-use Prim.Native.Nat.{◌-◌, ◌≤◌}
 use mathlib.Core.Path.{◌≡◌}
 use mathlib.Core.List.{map}
 use lib.ListN.{drop}
@@ -10,7 +9,4 @@ use Rattle.image.proofs.CodeMarks.{claims}
 use Rattle.image.proofs.tree.index_ok.Given as goal
 
 abbrev pub invariant-loop-i : goal.invariant-loop-i
-invariant-loop-i l = (l.i ≤ l.leaves) × (claims l.n l.marks (map child_of (drop l.i (records l.page))) ≡ index_ok l.image l.root)
-
-abbrev pub decreases-loop-i : goal.decreases-loop-i
-decreases-loop-i l = l.leaves - l.i
+invariant-loop-i l = claims l.n l.marks (map child_of (drop l.i (records l.page))) ≡ index_ok l.image l.root

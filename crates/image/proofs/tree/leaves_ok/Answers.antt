@@ -7,7 +7,6 @@ use mathlib.Core.List.{List, []}
 use native.Mathlib.Omega.{arith}
 use lib.ListN.{length, get_or}
 use lib.Dec.{eqb}
-use borrow.Author.Tests.{not-true, not-false}
 use Rattle.page.specs.Layout.{Rec, rec_of}
 use Rattle.page.specs.Page.{records, laid_out}
 use Rattle.image.specs.Image.{child_of, leaves_ok}
@@ -40,7 +39,7 @@ pub loop-i-init : goal.loop-i-init
 loop-i-init c =
     let a = c.args in
     let e = index-records a.image.now a.root (known (goal.at.loop-i-init c).After-page_of-page) _ c.page_of-page.ensures in
-    (omega arith, ap (λ (n : ℕ). leaves_ok a.image.now (eqb n 1) 0 (records c.page_of-page.result.now)) c.count-leaves.ensures ∙ ap (λ (cs : List Rec). leaves_ok a.image.now (eqb (length cs) 1) 0 cs) e)
+    ap (λ (n : ℕ). leaves_ok a.image.now (eqb n 1) 0 (records c.page_of-page.result.now)) c.count-leaves.ensures ∙ ap (λ (cs : List Rec). leaves_ok a.image.now (eqb (length cs) 1) 0 cs) e
 
 pub sep_after-hi-requires : goal.sep_after-hi-requires
 sep_after-hi-requires c = (laid (goal.at.sep_after-hi-requires c).After-page_of-page, omega (arith, c.count-leaves.ensures, c.loop-i-test.true))
@@ -60,18 +59,12 @@ leaf_ok-requires c =
 pub returns-then-not-leaf_ok : goal.returns-then-not-leaf_ok
 returns-then-not-leaf_ok c =
     let l = c.loop-i in
-    sym (leaves-stop c.args.image.now _ l.lo _ l.i (rec_of 0 []) (omega (arith, c.count-leaves.ensures, c.loop-i-test.true)) _ c.sep_after-hi.ensures _ c.child_at.ensures (sym c.leaf_ok.ensures ∙ not-true _ c.if-not-leaf_ok.true-raw)) ∙ l.invariant.1
-
-pub overflow_add-i : goal.overflow_add-i
-overflow_add-i c = omega arith
-
-pub loop-i-smaller : goal.loop-i-smaller
-loop-i-smaller c = omega arith
+    sym (leaves-stop c.args.image.now _ l.lo _ l.i (rec_of 0 []) (omega (arith, c.count-leaves.ensures, c.loop-i-test.true)) _ c.sep_after-hi.ensures _ c.child_at.ensures (sym c.leaf_ok.ensures ∙ c.if-not-leaf_ok.true)) ∙ l.invariant
 
 pub loop-i-preserved : goal.loop-i-preserved
 loop-i-preserved c =
     let l = c.loop-i in
-    (omega arith, leaves-on c.args.image.now _ l.lo _ l.i (rec_of 0 []) (omega (arith, c.count-leaves.ensures, c.loop-i-test.true)) _ c.sep_after-hi.ensures _ c.child_at.ensures (sym c.leaf_ok.ensures ∙ not-false _ c.if-not-leaf_ok.false-raw) ∙ l.invariant.1)
+    leaves-on c.args.image.now _ l.lo _ l.i (rec_of 0 []) (omega (arith, c.count-leaves.ensures, c.loop-i-test.true)) _ c.sep_after-hi.ensures _ c.child_at.ensures (sym c.leaf_ok.ensures ∙ c.if-not-leaf_ok.false) ∙ l.invariant
 
 pub returns : goal.returns
-returns c = sym (leaves-end c.args.image.now _ c.loop-i.lo _ c.loop-i.i (omega (arith, c.count-leaves.ensures, c.loop-i-test.false))) ∙ c.loop-i.invariant.1
+returns c = sym (leaves-end c.args.image.now _ c.loop-i.lo _ c.loop-i.i (omega (arith, c.count-leaves.ensures, c.loop-i-test.false))) ∙ c.loop-i.invariant

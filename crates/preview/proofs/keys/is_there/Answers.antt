@@ -5,19 +5,14 @@ use borrow.Author.Tests.{ne_eqb}
 use Rattle.preview.specs.Noted.{there_by}
 use Rattle.preview.proofs.keys.is_there.Goals as goal
 
-pub in_leaf-requires : goal.in_leaf-requires
-in_leaf-requires c = (c.requires.0, c.requires.1)
-
-pub returns-in-0 : goal.returns-in-0
+pub returns-in-None : goal.returns-in-None
 unfolding there_by
-returns-in-0 c = record { value = c.in_leaf.ensures.value ∙ rw (sym c.kind_noted.ensures ∙ c.in-0.is); marks = c.in_leaf.ensures.marks }
+returns-in-None c = record { value = c.in_leaf.ensures.value ∙ rw (sym c.in-None.ensures); marks = c.in_leaf.ensures.marks }
 
-pub returns-in-3 : goal.returns-in-3
+pub returns-in-Some-eq3 : goal.returns-in-Some-eq3
 unfolding there_by
-returns-in-3 c = record { value = rw (sym c.kind_noted.ensures ∙ c.in-3.is); marks = c.requires.1 }
+returns-in-Some-eq3 c = record { value = rw (sym c.in-Some-eq3.ensures, c.in-Some-eq3.field-0-test); marks = c.requires.1 }
 
-pub returns-in_default : goal.returns-in_default
+pub returns-in-Some : goal.returns-in-Some
 unfolding there_by
-returns-in_default c =
-    let same = sym c.kind_noted.ensures in
-    record { value = rw (ne_eqb _ 0 (λ z. c.in_default.in_default-own.rest.0.1 (sym same ∙ z)), ne_eqb _ 3 (λ z. c.in_default.in_default-own.rest.1 (sym same ∙ z))); marks = c.requires.1 }
+returns-in-Some c = record { value = rw (sym c.in-Some.ensures, ne_eqb _ 3 c.in-Some.field-0-test.1); marks = c.requires.1 }

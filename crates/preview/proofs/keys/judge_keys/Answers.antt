@@ -5,7 +5,7 @@ use Rattle.std.proofs.lemmas.Result.{err_from_is_err_and}
 use Prim.Native.Nat.{◌<◌}
 use mathlib.Core.Path.{◌≡◌, refl, sym, ap, ◌∙◌}
 use native.Mathlib.Omega.{arith}
-use lib.ListN.{get_or, length-set}
+use lib.ListN.{get_or, take, length-set}
 use lib.Dec.{eqb}
 use Rattle.device.specs.declared.Refusal.{Refusal}
 use Rattle.image.specs.Descent.{records_for}
@@ -17,77 +17,39 @@ use Rattle.preview.proofs.keys.judge_keys.Goals.{After-is_there}
 
 pub loop-at-init : goal.loop-at-init
 loop-at-init c =
-    (omega arith, refl, refl, upto-start (records_for c.args.image.now c.args.root) c.args.list.now _ _ _ c.requires.1, marks-none c.args.image.now c.args.root)
-
-pub bounds-list-at : goal.bounds-list-at
-bounds-list-at c = omega arith
-
-pub overflow_add-at : goal.overflow_add-at
-overflow_add-at c = omega (arith, head-fits c.loop-at.invariant.3.ahead c.loop-at-test.true _ refl)
+    (omega arith, refl, upto-start (records_for c.args.image.now c.args.root) c.args.list.now _ _ c.requires.1, marks-none c.args.image.now c.args.root)
 
 pub long_at-key-requires : goal.long_at-key-requires
-long_at-key-requires c = omega (arith, head-fits c.loop-at.invariant.3.ahead c.loop-at-test.true _ refl)
-
-pub slice_bounds-is_there-end : goal.slice_bounds-is_there-end
-slice_bounds-is_there-end c = sym c.loop-at.invariant.4.enough
-
-pub is_there-requires : goal.is_there-requires
-is_there-requires c = (c.requires.0, c.loop-at.invariant.4, omega (arith, one_more c.loop-at.invariant.3 c.loop-at-test.true))
-
-pub overflow_cast-n : goal.overflow_cast-n
-overflow_cast-n c = omega (arith, one_more c.loop-at.invariant.3 c.loop-at-test.true)
+long_at-key-requires c = omega (arith, head-fits c.loop-at.invariant.2.ahead c.loop-at-test.true _ refl)
 
 -- what is to be said of the edit, by what is noted
 says : (c : After-is_there) (there : Result Bool Refusal) → c.is_there.result ≡ there →
     let l = c.loop-at in
     let a = c.args in
-    fault_by l.n (eqb (get_or a.list.now l.at 0) 1) there ≡ fault_by l.n (eqb (get_or a.list.now l.at 0) 1) (there_by (kind_noted l.keys l.kinds c.long_at-key.result l.n) (presence c.long_at-key.result (records_for a.image.now a.root c.long_at-key.result)))
+    fault_by l.n (eqb (get_or a.list.now l.at 0) 1) there ≡ fault_by l.n (eqb (get_or a.list.now l.at 0) 1) (there_by (kind_noted (take l.n l.noted) c.long_at-key.result) (presence c.long_at-key.result (records_for a.image.now a.root c.long_at-key.result)))
 says c there is = ap (fault_by c.loop-at.n (eqb (get_or c.args.list.now c.loop-at.at 0) 1)) (sym is ∙ c.is_there.ensures.value)
 
 pub returns-in_err-there : goal.returns-in_err-there
 unfolding fault_by
 returns-in_err-there c =
     let p = err_from_is_err_and c.from_residual.result c.from_residual.ensures.1 in
-    rw (p.1, p.2) (upto-stop c.loop-at.invariant.3 c.loop-at-test.true _ refl _ c.long_at-key.ensures _ refl _ (says (goal.at.returns-in_err-there c).After-is_there _ c.in_err-there.was) _ refl)
+    rw (p.1, p.2) (upto-stop c.loop-at.invariant.2 c.loop-at-test.true _ refl _ c.long_at-key.ensures _ refl _ (says (goal.at.returns-in_err-there c).After-is_there _ c.in_err-there.was) _ refl)
 
 pub returns-in_err-key_fault : goal.returns-in_err-key_fault
 returns-in_err-key_fault c =
     let p = err_from_is_err_and c.from_residual-in_err-key_fault.result c.from_residual-in_err-key_fault.ensures.1 in
-    rw (p.1, p.2) (upto-stop c.loop-at.invariant.3 c.loop-at-test.true _ refl _ c.long_at-key.ensures _ refl _ (sym c.in_err-key_fault.was ∙ c.key_fault.ensures ∙ says (goal.at.returns-in_err-key_fault c).After-is_there _ c.in_ok-there.was) _ refl)
+    rw (p.1, p.2) (upto-stop c.loop-at.invariant.2 c.loop-at-test.true _ refl _ c.long_at-key.ensures _ refl _ (sym c.in_err-key_fault.was ∙ c.key_fault.ensures ∙ says (goal.at.returns-in_err-key_fault c).After-is_there _ c.in_ok-there.was) _ refl)
 
-pub offset_bounds-keys-n : goal.offset_bounds-keys-n
-offset_bounds-keys-n c = omega (arith, one_more c.loop-at.invariant.3 c.loop-at-test.true)
-
-pub bounds-keys-n : goal.bounds-keys-n
-bounds-keys-n c = omega (arith, one_more c.loop-at.invariant.3 c.loop-at-test.true)
-
-pub bounds-kinds-n : goal.bounds-kinds-n
-bounds-kinds-n c = omega (arith, one_more c.loop-at.invariant.3 c.loop-at-test.true)
-
-pub overflow_add-n : goal.overflow_add-n
-overflow_add-n c = omega (arith, one_more c.loop-at.invariant.3 c.loop-at-test.true)
-
-pub overflow_add-at-in-loop-at : goal.overflow_add-at-in-loop-at
-overflow_add-at-in-loop-at c = omega (arith, head-fits c.loop-at.invariant.3.ahead c.loop-at-test.true _ refl)
-
-pub overflow_add-at-in-loop-at-2 : goal.overflow_add-at-in-loop-at-2
-overflow_add-at-in-loop-at-2 c = omega (arith, head-fits c.loop-at.invariant.3.ahead c.loop-at-test.true _ refl)
 
 pub bounds-list-at-in-loop-at : goal.bounds-list-at-in-loop-at
-bounds-list-at-in-loop-at c = omega (arith, head-fits c.loop-at.invariant.3.ahead c.loop-at-test.true _ refl)
-
-pub overflow_add-at-in-loop-at-3 : goal.overflow_add-at-in-loop-at-3
-overflow_add-at-in-loop-at-3 c = omega (arith, head-fits c.loop-at.invariant.3.ahead c.loop-at-test.true _ c.wide.ensures.0)
-
-pub loop-at-smaller : goal.loop-at-smaller
-loop-at-smaller c = omega (arith, head-fits c.loop-at.invariant.3.ahead c.loop-at-test.true _ c.wide.ensures.0)
+bounds-list-at-in-loop-at c = omega (arith, head-fits c.loop-at.invariant.2.ahead c.loop-at-test.true _ refl)
 
 pub loop-at-preserved : goal.loop-at-preserved
 loop-at-preserved c =
     let l = c.loop-at in
     let more = c.loop-at-test.true in
-    let room : l.n < 16 = omega (arith, one_more l.invariant.3 more) in
-    (head-fits l.invariant.3.ahead more _ c.wide.ensures.0, length-set l.keys l.n _ ∙ l.invariant.1, length-set l.kinds l.n _ ∙ l.invariant.2, upto_next l.invariant.3 more _ c.wide.ensures.0 _ c.long_at-key.ensures _ refl _ (sym c.in_ok-key_fault.was ∙ c.key_fault.ensures ∙ says (goal.at.loop-at-preserved c).After-is_there _ c.in_ok-there.was) refl (omega (arith, l.invariant.1)) (omega (arith, l.invariant.2)), c.is_there.ensures.marks)
+    let room : l.n < 16 = omega (arith, one_more l.invariant.2 more) in
+    (head-fits l.invariant.2.ahead more _ c.wide.ensures.0, length-set l.noted l.n _ ∙ l.invariant.1, upto_next l.invariant.2 more _ c.wide.ensures.0 _ c.long_at-key.ensures _ refl _ (sym c.in_ok-key_fault.was ∙ c.key_fault.ensures ∙ says (goal.at.loop-at-preserved c).After-is_there _ c.in_ok-there.was) refl (omega (arith, l.invariant.1)), c.is_there.ensures.marks)
 
 pub returns : goal.returns
-returns c = upto-end c.loop-at.invariant.3 c.loop-at-test.false
+returns c = upto-end c.loop-at.invariant.2 c.loop-at-test.false

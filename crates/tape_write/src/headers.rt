@@ -22,10 +22,8 @@ pub fn same_words(a: &[u8], b: &[u8], at: usize, n: usize) -> bool
     ensures { result ≡ eqs (part a.now at (8 * n)) (part b.now at (8 * n)) }
 {
     let mut differ = 0u64;
-    let mut i = 0;
-    while i < n {
-        differ = differ | (codec::long_at(a, at + 8 * i) ^ codec::long_at(b, at + 8 * i));
-        i += 1;
+    for i in 0..n {
+        differ |= codec::long_at(a, at + 8 * i) ^ codec::long_at(b, at + 8 * i);
     }
     differ == 0
 }
@@ -43,19 +41,11 @@ pub fn changed_headers(
     ensures pages_after { pages.new ≡ sets pages.old 0 (changed_pages image.now work.now) }
 {
     let count = image.len() / 1024;
-    let mut p = 1;
     let mut k = 0;
-    while p < count {
-        if before[p] == 0 {
-            p += 1;
-        } else if after[p] == 0 {
-            p += 1;
-        } else if same_words(image, work, 1024 * p, 8) {
-            p += 1;
-        } else {
+    for p in 1..count {
+        if before[p] != 0 && after[p] != 0 && !same_words(image, work, 1024 * p, 8) {
             pages[k] = p as u8;
             k += 1;
-            p += 1;
         }
     }
     k
@@ -99,18 +89,10 @@ pub fn emit_headers(way: Way, tape: &mut [u8], at: usize, src: &[u8], k: usize, 
     requires { (at + lines_bytes way k ≤ length tape.old) × (64 * k + 64 ≤ length src.now) × (k ≤ 65536) }
     ensures { tape.new ≡ sets tape.old at (tape_bytes (line_stores way own 1 (logged k src.now))) }
 {
-    let mut i = 0;
-    while i < k {
+    for i in 0..k {
+        let to = at + lines_bytes(way, i);
         let l = i + 1;
-        emit_line(
-            way,
-            tape,
-            at + lines_bytes(way, i),
-            line_for(src, l, own),
-            src,
-            64 * l,
-        );
-        i += 1;
+        emit_line(way, tape, to, line_for(src, l, own), src, 64 * l);
     }
 }
 
@@ -119,10 +101,8 @@ pub fn flush_headers(tape: &mut [u8], at: usize, src: &[u8], k: usize, own: bool
     requires { (at + 4 * k ≤ length tape.old) × (64 * k + 64 ≤ length src.now) × (k ≤ 65536) }
     ensures { tape.new ≡ sets tape.old at (tape_bytes (line_flushes own 1 (logged k src.now))) }
 {
-    let mut i = 0;
-    while i < k {
+    for i in 0..k {
         device::emit_flush(tape, at + 4 * i, line_for(src, i + 1, own));
-        i += 1;
     }
 }
 

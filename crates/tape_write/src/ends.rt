@@ -1,5 +1,5 @@
 // What follows stage A: the one changed place, or the log and its replay.
-ghost use Rattle.std.specs.Prelude.{◌≡◌, [], ◌∷◌, ◌++◌, ℕ, ◌+◌, ◌*◌, ◌≤◌, length, take};
+ghost use Rattle.std.specs.Prelude.{◌≡◌, [], ◌∷◌, ◌++◌, ℕ, ◌+◌, ◌*◌, ◌≤◌, length};
 ghost use Rattle.std.proofs.lemmas.List.Edits.{sets};
 ghost use Rattle.codec.specs.Lists.{pick, All};
 ghost use Rattle.codec.specs.Numbers.{bytes_of};
@@ -98,49 +98,47 @@ pub fn emit_header(tape: &mut [u8], at: usize, work: &[u8], page: usize)
     emit_wait(tape, at + 68, 16 * page);
 }
 
-// Writes a commit by the log, of the headers of the first k pages: work takes them in its log lines, and the tape goes by these.
+// Writes a commit by the log, of the headers of the pages: work takes them in its log lines, and the tape goes by these.
 pub fn emit_by_log(
     way: Way,
     work: &mut [u8],
     tape: &mut [u8],
     at: usize,
     pages: &[u8],
-    k: usize,
     same: bool,
 )
-    requires { (at + log_bytes way k same ≤ length tape.old) × (k ≤ 15) × (k ≤ length pages.now) × (page_size ≤ length work.old) × All (PageIn work.old) (take k pages.now) }
-    ensures work_after { work.new ≡ (by_log way [] work.old same (new_headers work.old (take k pages.now))).work }
-    ensures tape_after { tape.new ≡ sets tape.old at (tape_bytes (by_log way [] work.old same (new_headers work.old (take k pages.now))).tape) }
+    requires { (at + log_bytes way (length pages.now) same ≤ length tape.old) × (length pages.now ≤ 15) × (page_size ≤ length work.old) × All (PageIn work.old) pages.now }
+    ensures work_after { work.new ≡ (by_log way [] work.old same (new_headers work.old pages.now)).work }
+    ensures tape_after { tape.new ≡ sets tape.old at (tape_bytes (by_log way [] work.old same (new_headers work.old pages.now)).tape) }
 {
     let root = codec::long_at(work, 8);
-    log_headers(work, pages, k);
-    emit_log(way, tape, at, work, k, same, root);
+    log_headers(work, pages);
+    emit_log(way, tape, at, work, pages.len(), same, root);
 }
 
-// Writes what follows stage A, with the headers of the first k pages changed.
+// Writes what follows stage A, with the headers of the pages changed.
 pub fn emit_end(
     way: Way,
     work: &mut [u8],
     tape: &mut [u8],
     at: usize,
     pages: &[u8],
-    k: usize,
     same: bool,
 ) -> CommitPlace
-    requires { (at + end_bytes way k same ≤ length tape.old) × (k ≤ 15) × (k ≤ length pages.now) × (page_size ≤ length work.old) × All (PageIn work.old) (take k pages.now) }
-    ensures value { result ≡ (choose way [] work.old same (take k pages.now)).place }
-    ensures work_after { work.new ≡ (choose way [] work.old same (take k pages.now)).work }
-    ensures tape_after { tape.new ≡ sets tape.old at (tape_bytes (choose way [] work.old same (take k pages.now)).tape) }
+    requires { (at + end_bytes way (length pages.now) same ≤ length tape.old) × (length pages.now ≤ 15) × (page_size ≤ length work.old) × All (PageIn work.old) pages.now }
+    ensures value { result ≡ (choose way [] work.old same pages.now).place }
+    ensures work_after { work.new ≡ (choose way [] work.old same pages.now).work }
+    ensures tape_after { tape.new ≡ sets tape.old at (tape_bytes (choose way [] work.old same pages.now).tape) }
 {
-    if k == 0 {
+    if pages.is_empty() {
         emit_settled(tape, at, 1, codec::long_at(work, 8));
         return CommitPlace::Root;
     }
-    if commits_alone(way, k, same) {
+    if commits_alone(way, pages.len(), same) {
         let page = codec::wide(pages[0]);
         emit_header(tape, at, work, page);
         return CommitPlace::Header(page);
     }
-    emit_by_log(way, work, tape, at, pages, k, same);
+    emit_by_log(way, work, tape, at, pages, same);
     CommitPlace::Log
 }

@@ -38,7 +38,7 @@ pub fn changed_headers(
 ) -> usize
     requires { Lent image.now work.now before.now after.now × (length pages.old ≡ 64) }
     ensures value { result ≡ length (changed_pages image.now work.now) }
-    ensures pages_after { pages.new ≡ sets pages.old 0 (changed_pages image.now work.now) }
+    ensures pages_first { take result pages.new ≡ changed_pages image.now work.now }
 {
     let count = image.len() / 1024;
     let mut k = 0;
@@ -61,15 +61,13 @@ pub fn move_line(s: &mut [u8], to: usize, from: usize)
     codec::copy_line(s, to, &line, 0);
 }
 
-// Writes the headers of the first k pages to log lines 1 to k.
-pub fn log_headers(work: &mut [u8], pages: &[u8], k: usize)
-    requires { (k ≤ 15) × (k ≤ length pages.now) × (page_size ≤ length work.old) × All (PageIn work.old) (take k pages.now) }
-    ensures { work.new ≡ splice work.old line_size (join_lines (new_headers work.old (take k pages.now))) }
+// Writes the headers of the pages to the log's lines, from line 1 on.
+pub fn log_headers(work: &mut [u8], pages: &[u8])
+    requires { (length pages.now ≤ 15) × (page_size ≤ length work.old) × All (PageIn work.old) pages.now }
+    ensures { work.new ≡ splice work.old line_size (join_lines (new_headers work.old pages.now)) }
 {
-    let mut i = 0;
-    while i < k {
-        move_line(work, 64 * i + 64, 1024 * codec::wide(pages[i]));
-        i += 1;
+    for (i, page) in pages.iter().enumerate() {
+        move_line(work, 64 * i + 64, 1024 * codec::wide(*page));
     }
 }
 

@@ -7,7 +7,7 @@ use lib.ListN.{length}
 use Rattle.page.specs.Layout.{page_size}
 use Rattle.journal.specs.Changes.{header_line, changed_pages}
 use Rattle.tape_write.specs.Calls.{reached_in}
-use Rattle.tape_write.proofs.Collecting.{collects-start, collects-as, collects-one, collects-done}
+use Rattle.tape_write.proofs.Collecting.{collects-start, collects-as, collects-one, collects-first}
 use Rattle.tape_write.proofs.HeaderPages.{mark-none, mark-some, from, changed-end, changed-before, changed-after, changed-same, changed-page}
 use Rattle.tape_write.proofs.headers.changed_headers.Goals as goal
 use Rattle.tape_write.proofs.headers.changed_headers.Goals.{then-before-p-ne0+then-after-p-ne0+then-not-same_words, else-before-p-ne0, else-before-p-ne0-via-then-before-p-ne0+then-after-p-ne0+else-not-same_words, else-before-p-ne0-via-then-before-p-ne0+else-after-p-ne0, else-before-p-ne0-via-else-before-p-ne0}
@@ -40,5 +40,5 @@ loop-p-preserved c =
 
 pub returns : goal.returns
 returns c =
-    let h = collects-done (collects-as (changed-end (reached_in c.args.image.now) (reached_in c.args.work.now) c.args.image.now c.args.work.now (length c.args.image.now / page_size) c.loop-p.p c.loop-p-test.false) c.loop-p.invariant.1) in
-    record { value = omega (arith, h.0); pages_after = h.1 }
+    let h = collects-first (collects-as (changed-end (reached_in c.args.image.now) (reached_in c.args.work.now) c.args.image.now c.args.work.now (length c.args.image.now / page_size) c.loop-p.p c.loop-p-test.false) c.loop-p.invariant.1) (omega (arith, c.requires.0.images.low, c.requires.0.images.high)) in
+    record { value = h.0; pages_first = h.1 }

@@ -4,7 +4,7 @@ use Prim.Native.Nat.{ℕ, ◌+◌, ◌*◌, ◌≤◌, ◌<◌}
 use mathlib.Core.Path.{◌≡◌, refl, sym, ap, ap₂, ◌∙◌, subst}
 use mathlib.Core.List.{List, []}
 use native.Mathlib.Omega.{arith}
-use lib.ListN.{length, take}
+use lib.ListN.{length}
 use lib.Seq.{sets}
 use borrow.Author.Tests.{le-leb, lt-leb}
 use Rattle.codec.specs.Lists.{splice, All}
@@ -24,7 +24,7 @@ use Rattle.tape_write.specs.Lines.{PageIn}
 use Rattle.tape_write.specs.Sizes.{group_bytes, end_bytes, end_flushes}
 use Rattle.tape_write.specs.Calls.{Images, Counted, commit_call}
 use Rattle.tape_write.proofs.Encoding.{length-tapes, tape-then}
-use Rattle.tape_write.proofs.StageTape.{lines-few, words-in, words-fit, words-few, stage-tape, stage-size, stage-flushes}
+use Rattle.tape_write.proofs.StageTape.{lines-few, words-in, words-few, stage-tape, stage-size, stage-flushes}
 use Rattle.tape_write.proofs.Choosing.{Behind, choose-behind, end-sized, Leaves}
 use Rattle.tape_write.specs.declared.Written.{Written}
 use Rattle.tape_write.specs.declared.Changes.{Changes}

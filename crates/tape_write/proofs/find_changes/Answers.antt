@@ -1,13 +1,11 @@
 -- `find_changes`: each count is what its loop counts.
 -- Assumes nothing.
 use Prim.Native.Nat.{ℕ}
-use mathlib.Core.Path.{ap, sym, ◌∙◌}
+use mathlib.Core.Path.{ap, ◌∙◌}
 use mathlib.Core.List.{List}
 use lib.ListN.{length}
-use lib.Seq.{length-take-le}
 use Rattle.journal.specs.Changes.{same_root}
 use Rattle.tape_write.specs.Words.{lines_past}
-use Rattle.tape_write.proofs.Collecting.{first-room}
 use Rattle.tape_write.proofs.find_changes.Goals as goal
 
 pub changed_words-n-requires : goal.changed_words-n-requires

@@ -8,7 +8,7 @@ use Rattle.page.specs.Layout.{page_size}
 use Rattle.journal.specs.Changes.{header_line, changed_pages}
 use Rattle.tape_write.specs.Calls.{reached_in}
 use Rattle.tape_write.proofs.Collecting.{collects-start, collects-as, collects-one, collects-first}
-use Rattle.tape_write.proofs.HeaderPages.{mark-none, mark-some, from, changed-end, changed-before, changed-after, changed-same, changed-page}
+use Rattle.tape_write.proofs.HeaderPages.{mark-none, mark-some, changed-end, changed-before, changed-after, changed-same, changed-page}
 use Rattle.tape_write.proofs.headers.changed_headers.Goals as goal
 use Rattle.tape_write.proofs.headers.changed_headers.Goals.{then-before-p-ne0+then-after-p-ne0+then-not-same_words, else-before-p-ne0, else-before-p-ne0-via-then-before-p-ne0+then-after-p-ne0+else-not-same_words, else-before-p-ne0-via-then-before-p-ne0+else-after-p-ne0, else-before-p-ne0-via-else-before-p-ne0}
 

@@ -1,8 +1,6 @@
 -- `changed_headers`: the pages that are collected and those still to come are the whole.
 -- Assumes nothing.
 use Prim.Native.Nat.{◌-◌, ◌<◌}
-use mathlib.Core.Path.{◌≡◌}
-use lib.ListN.{length}
 use Rattle.journal.specs.Changes.{changed_from, changed_pages}
 use Rattle.tape_write.specs.Calls.{reached_in}
 use Rattle.tape_write.proofs.Collecting.{Collects}

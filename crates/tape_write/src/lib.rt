@@ -120,6 +120,24 @@ fn commit_with(
     })
 }
 
+// The same, with room for that many words.
+fn commit_within<const WORDS: usize>(
+    way: Way,
+    image: &[u8],
+    work: &mut [u8],
+    tape: &mut [u8],
+    before: &[u8],
+    after: &[u8],
+) -> Written
+    requires { Lent image.now work.old before.now after.now × (length image.now ≤ 8 * WORDS) × (WORDS ≤ 8192) }
+    ensures value { result ≡ (commit_call way image.now work.old tape.old).answer }
+    ensures work_after { work.new ≡ (commit_call way image.now work.old tape.old).work }
+    ensures tape_after { tape.new ≡ (commit_call way image.now work.old tape.old).tape }
+{
+    let mut words = [0u16; WORDS];
+    commit_with(way, image, work, tape, before, after, &mut words)
+}
+
 // Writes the tape that commits the edited image in work. `before` and `after` mark the pages reached in image and in work. An array of
 // words for the smallest image takes less time to clear.
 pub fn commit(
@@ -136,9 +154,7 @@ pub fn commit(
     ensures tape_after { tape.new ≡ (commit_call way image.now work.old tape.old).tape }
 {
     if image.len() == 8192 {
-        let mut few = [0u16; 1024];
-        return commit_with(way, image, work, tape, before, after, &mut few);
+        return commit_within::<1024>(way, image, work, tape, before, after);
     }
-    let mut words = [0u16; 8192];
-    commit_with(way, image, work, tape, before, after, &mut words)
+    commit_within::<8192>(way, image, work, tape, before, after)
 }

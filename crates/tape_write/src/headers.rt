@@ -71,6 +71,15 @@ pub fn log_headers(work: &mut [u8], pages: &[u8])
     }
 }
 
+// The headers in log lines 1 to `count` of an image.
+#[derive(Clone, Copy)]
+pub struct Log<'a> {
+    pub src: &'a [u8],
+    pub count: usize,
+    pub ghost there: { 64 * count + 64 ≤ length src.now },
+    pub ghost few: { count ≤ 65536 },
+}
+
 // The line that the header in log line l is stored to: the first of its own page, or the log line itself.
 pub fn line_for(src: &[u8], l: usize, own: bool) -> usize
     requires { (64 * l + 64 ≤ length src.now) × (l ≤ line_most) }
@@ -82,12 +91,13 @@ pub fn line_for(src: &[u8], l: usize, own: bool) -> usize
     l
 }
 
-// Writes the stores of the headers in log lines 1 to k.
-pub fn emit_headers(way: Way, tape: &mut [u8], at: usize, src: &[u8], k: usize, own: bool)
-    requires { (at + lines_bytes way k ≤ length tape.old) × (64 * k + 64 ≤ length src.now) × (k ≤ 65536) }
-    ensures { tape.new ≡ sets tape.old at (tape_bytes (line_stores way own 1 (logged k src.now))) }
+// Writes the stores of the log's headers.
+pub fn emit_headers(way: Way, tape: &mut [u8], at: usize, log: Log, own: bool)
+    requires { at + lines_bytes way log.count ≤ length tape.old }
+    ensures { tape.new ≡ sets tape.old at (tape_bytes (line_stores way own 1 (logged log.entry.count log.entry.src.now))) }
 {
-    for i in 0..k {
+    let src = log.src;
+    for i in 0..log.count {
         let to = at + lines_bytes(way, i);
         let l = i + 1;
         emit_line(way, tape, to, line_for(src, l, own), src, 64 * l);
@@ -95,12 +105,12 @@ pub fn emit_headers(way: Way, tape: &mut [u8], at: usize, src: &[u8], k: usize, 
 }
 
 // Writes their flushes.
-pub fn flush_headers(tape: &mut [u8], at: usize, src: &[u8], k: usize, own: bool)
-    requires { (at + 4 * k ≤ length tape.old) × (64 * k + 64 ≤ length src.now) × (k ≤ 65536) }
-    ensures { tape.new ≡ sets tape.old at (tape_bytes (line_flushes own 1 (logged k src.now))) }
+pub fn flush_headers(tape: &mut [u8], at: usize, log: Log, own: bool)
+    requires { at + 4 * log.count ≤ length tape.old }
+    ensures { tape.new ≡ sets tape.old at (tape_bytes (line_flushes own 1 (logged log.entry.count log.entry.src.now))) }
 {
-    for i in 0..k {
-        device::emit_flush(tape, at + 4 * i, line_for(src, i + 1, own));
+    for i in 0..log.count {
+        device::emit_flush(tape, at + 4 * i, line_for(log.src, i + 1, own));
     }
 }
 
@@ -115,13 +125,13 @@ pub fn emit_closing(tape: &mut [u8], at: usize, n: usize)
     device::emit_barrier(tape, at);
 }
 
-// Writes the headers in log lines 1 to k: their stores, their flushes and the barrier.
-pub fn emit_lines(way: Way, tape: &mut [u8], at: usize, src: &[u8], k: usize, own: bool)
-    requires { (at + lines_bytes way k + group_bytes k ≤ length tape.old) × (64 * k + 64 ≤ length src.now) × (k ≤ 65536) }
-    ensures { tape.new ≡ sets tape.old at (tape_bytes (line_tape way own (logged k src.now))) }
+// Writes the log's headers: their stores, their flushes and the barrier.
+pub fn emit_lines(way: Way, tape: &mut [u8], at: usize, log: Log, own: bool)
+    requires { at + lines_bytes way log.count + group_bytes log.count ≤ length tape.old }
+    ensures { tape.new ≡ sets tape.old at (tape_bytes (line_tape way own (logged log.entry.count log.entry.src.now))) }
 {
-    let flushes = at + lines_bytes(way, k);
-    emit_headers(way, tape, at, src, k, own);
-    flush_headers(tape, flushes, src, k, own);
-    emit_closing(tape, flushes + 4 * k, k);
+    let flushes = at + lines_bytes(way, log.count);
+    emit_headers(way, tape, at, log, own);
+    flush_headers(tape, flushes, log, own);
+    emit_closing(tape, flushes + 4 * log.count, log.count);
 }

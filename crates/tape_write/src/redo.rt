@@ -6,6 +6,7 @@ ghost use Rattle.tape_write.specs.Calls.{LogWaits, redo_call};
 
 use crate::Replayed;
 use crate::ends::emit_replay;
+use crate::headers::Log;
 use crate::sizes::replay_bytes;
 use journal::Way;
 
@@ -71,7 +72,8 @@ pub fn redo(
         return Replayed::TapeShort;
     }
     replay(image, work, headers, root);
-    emit_replay(way, tape, 0, image, headers, same, root as u64);
+    let log = Log { src: image, count: headers };
+    emit_replay(way, tape, 0, log, same, root as u64);
     Replayed::Done {
         bytes,
         flushes: headers + 1,

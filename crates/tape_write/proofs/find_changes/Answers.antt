@@ -8,10 +8,6 @@ use Rattle.journal.specs.Changes.{same_root}
 use Rattle.tape_write.specs.Words.{lines_past}
 use Rattle.tape_write.proofs.find_changes.Goals as goal
 
-pub changed_words-n-requires : goal.changed_words-n-requires
-changed_words-n-requires c =
-    (c.requires.lent, c.requires.image_len_bound.0)
-
 pub returns : goal.returns
 unfolding same_root
 returns c =

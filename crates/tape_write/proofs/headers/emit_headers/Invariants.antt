@@ -10,4 +10,4 @@ use Rattle.tape_write.specs.Sizes.{lines_bytes}
 use Rattle.tape_write.proofs.headers.emit_headers.Given as goal
 
 abbrev pub invariant-loop-i : goal.invariant-loop-i
-invariant-loop-i l = sets l.tape (l.at + lines_bytes l.way l.i) (tape_bytes (line_stores l.way l.own (l.i + 1) (lines_from (l.k - l.i) (l.i + 1) l.src))) ≡ sets l.initial.tape l.at (tape_bytes (line_stores l.way l.own 1 (logged l.k l.src)))
+invariant-loop-i l = sets l.tape (l.at + lines_bytes l.way l.i) (tape_bytes (line_stores l.way l.own (l.i + 1) (lines_from (l.log.count - l.i) (l.i + 1) l.src))) ≡ sets l.initial.tape l.at (tape_bytes (line_stores l.way l.own 1 (logged l.log.count l.src)))

@@ -29,11 +29,12 @@ fn sound_in(scratch: &mut [u8], image: &[u8], headers: usize, root: usize) -> bo
     tree_ok(scratch, root)
 }
 
-// The same, in the front of a scratch buffer.
-fn sound_within(scratch: &mut [u8], image: &[u8], headers: usize, root: usize) -> bool
-    requires { (is_image_size (length image.now) ≡ true) × Waits image.now headers root × (length image.now ≤ length scratch.old) }
+// The same, in the front of a scratch buffer of that many bytes.
+fn sound_within<const BYTES: usize>(image: &[u8], headers: usize, root: usize) -> bool
+    requires { (is_image_size (length image.now) ≡ true) × Waits image.now headers root × (length image.now ≤ BYTES) × (BYTES ≤ 65536) }
     ensures { result ≡ tree_ok (replayed (logged headers image.now) root image.now) root }
 {
+    let mut scratch = [0u8; BYTES];
     let n = image.len();
     sound_in(&mut scratch[..n], image, headers, root)
 }
@@ -44,11 +45,9 @@ fn replay_ok(image: &[u8], headers: usize, root: usize) -> bool
     ensures { result ≡ tree_ok (replayed (logged headers image.now) root image.now) root }
 {
     if image.len() == 8192 {
-        let mut small = [0u8; 8192];
-        return sound_within(&mut small, image, headers, root);
+        return sound_within::<8192>(image, headers, root);
     }
-    let mut large = [0u8; 65536];
-    sound_within(&mut large, image, headers, root)
+    sound_within::<65536>(image, headers, root)
 }
 
 // Recovers an image whose mark waits.

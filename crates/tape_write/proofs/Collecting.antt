@@ -45,11 +45,13 @@ module _ {l l₀ xs : List ℕ} {n m : ℕ} where
   pub collects-done : Collects l n [] l₀ m xs → (n ≡ m + length xs) × (l ≡ sets l₀ m xs)
   collects-done h = (omega (arith, h.count), h.array)
 
--- what was collected stands at the front
-pub collected : (l l' xs : List ℕ) → l' ≡ sets l 0 xs → length xs ≤ length l → take (length xs) l' ≡ xs
+-- what was collected from the front stands there
+pub collects-first : {l l₀ xs : List ℕ} {n : ℕ} → Collects l n [] l₀ 0 xs → n ≤ length l₀ → (n ≡ length xs) × (take n l ≡ xs)
 unfolding splice
-collected l l' xs e h =
-    ap (take (length xs)) (e ∙ sym (splice-sets l 0 xs (omega arith))) ∙ take_at xs (drop (0 + length xs) l) (length xs) refl
+collects-first {l} {l₀} {xs} {n} h room =
+    let d = collects-done h in
+    let e : n ≡ length xs = omega (arith, d.0) in
+    (e, ap (take n) (d.1 ∙ sym (splice-sets l₀ 0 xs (omega arith))) ∙ take_at xs (drop (0 + length xs) l₀) n (sym e))
 
 -- ---- words compared by their numbers
 

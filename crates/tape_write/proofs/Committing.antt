@@ -5,7 +5,7 @@ use Prim.Native.Nat.{ℕ, ◌+◌, ◌*◌, ◌≤◌, ◌<◌}
 use mathlib.Core.Path.{◌≡◌, refl, sym, ap, ap₂, ◌∙◌, subst}
 use mathlib.Core.List.{List, []}
 use native.Mathlib.Omega.{arith}
-use lib.ListN.{length, take}
+use lib.ListN.{length}
 use lib.Seq.{sets}
 use borrow.Author.Tests.{le-leb, lt-leb}
 use Rattle.device.specs.declared.Cause.TheVariants.{LogFull, TapeShort}
@@ -28,8 +28,7 @@ use Rattle.tape_write.specs.Lines.{PageIn}
 use Rattle.tape_write.specs.Sizes.{group_bytes, end_bytes, end_flushes}
 use Rattle.tape_write.specs.Calls.{Images, Counted, commit_call}
 use Rattle.tape_write.proofs.Encoding.{length-tapes, tape-then}
-use Rattle.tape_write.proofs.Collecting.{collected}
-use Rattle.tape_write.proofs.StageTape.{lines-few, words-in, words-fit, words-few, stage-tape, stage-size, stage-flushes}
+use Rattle.tape_write.proofs.StageTape.{lines-few, words-in, words-few, stage-tape, stage-size, stage-flushes}
 use Rattle.tape_write.proofs.Choosing.{Behind, choose-behind, end-sized, Leaves}
 use Rattle.tape_write.specs.declared.Changes.{Changes}
 
@@ -75,16 +74,9 @@ module _ (way : Way) (a w : List ℕ) (is : Images a w) (r : Changes) (c : Count
       let few = words-few a w is in
       (omega (arith, c.words), omega (arith, c.lines, lines-few 0 (stage_words a w)))
 
-  -- what was collected in an array of zeros
-  pub words_are : (z words : List ℕ) → length a ≤ 8 * length z → words ≡ sets z 0 (stage_words a w) → take r.words words ≡ stage_words a w
-  words_are z words n e = ap (λ (m : ℕ). take m words) c.words ∙ collected z words (stage_words a w) e (omega (arith, words-fit a w is))
-
   module _ (few : r.headers ≤ 15) where
     pub pages-few : length (changed_pages a w) ≤ 15
     pages-few = omega (arith, c.headers)
-
-    pub pages-are : (z pages : List ℕ) → length z ≡ 64 → pages ≡ sets z 0 (changed_pages a w) → take r.headers pages ≡ changed_pages a w
-    pages-are z pages n e = ap (λ (m : ℕ). take m pages) c.headers ∙ collected z pages (changed_pages a w) e (omega (arith, pages-few))
 
     pub bytes-are : (m n : ℕ) → m ≡ group_bytes r.lines → n ≡ end_bytes way r.headers r.same → 12 * r.words + m + n ≡ length (tape_bytes (taken_for way a w).tape)
     bytes-are m n f e =

@@ -24,7 +24,7 @@ use Rattle.journal.proofs.Headers.{Lines}
 use Rattle.journal.proofs.Log.{length-join}
 use Rattle.tape_write.specs.Lines.{PageIn}
 use Rattle.tape_write.specs.Calls.{Marks}
-use Rattle.tape_write.proofs.StageTape.{first-length, first-cons}
+use Rattle.tape_write.proofs.StageTape.{first-cons}
 
 -- ---- parts compared word by word
 
@@ -150,16 +150,16 @@ header-past w v p e one =
     ∙ part-drop w page_size (page_size * p - page_size) line_size
     ∙ ap (λ (o : ℕ). part w o line_size) f
 
--- one header more, from the i-th of the first k pages on
-module _ (w v v' pages : List ℕ) (k i : ℕ) (few : k ≤ length pages) where
+-- one header more, from the i-th of the pages ps on
+module _ (w v v' ps : List ℕ) (i : ℕ) where
   abbrev left : ℕ → List ℕ
-  left j = join_lines (new_headers w (drop j (take k pages)))
+  left j = join_lines (new_headers w (drop j ps))
 
-  pub log-end : k ≤ i → sets v (64 * i + 64) (left i) ≡ v
+  pub log-end : length ps ≤ i → sets v (64 * i + 64) (left i) ≡ v
   unfolding join_lines
-  log-end h = rw (drop_of_length-le (take k pages) {i = i} (omega (arith, first-length pages k few)))
+  log-end h = rw (drop_of_length-le ps {i = i} h)
 
-  module _ (p : ℕ) (more : i < k) (there : p ≡ get_or pages i 0) (inn : PageIn w p) (same : length v ≡ length w) (e : v' ≡ splice v (64 * i + 64) (part v (1024 * p) 64)) (low : k ≤ 15) where
+  module _ (p : ℕ) (more : i < length ps) (there : p ≡ get_or ps i 0) (inn : PageIn w p) (same : length v ≡ length w) (e : v' ≡ splice v (64 * i + 64) (part v (1024 * p) 64)) (low : length ps ≤ 15) where
     fits : 64 * i + 64 + length (part v (1024 * p) 64) ≤ length v
     fits = omega (arith, length_part v (1024 * p) 64 (omega (arith, inn.1)), inn.0, inn.1)
 
@@ -174,7 +174,7 @@ module _ (w v v' pages : List ℕ) (k i : ℕ) (few : k ≤ length pages) where
         ap (λ (x : List ℕ). sets x (64 * (i + 1) + 64) (left (i + 1))) (e ∙ splice-sets v (64 * i + 64) (part v (1024 * p) 64) fits ∙ ap (sets v (64 * i + 64)) h)
         ∙ ap (λ (o : ℕ). sets (sets v (64 * i + 64) (header_line w p)) o (left (i + 1))) n
         ∙ sets-append v (64 * i + 64) (header_line w p) (left (i + 1))
-        ∙ ap (λ (ps : List ℕ). sets v (64 * i + 64) (join_lines (new_headers w ps))) (sym (first-cons pages k few i p more there))
+        ∙ ap (λ (ps : List ℕ). sets v (64 * i + 64) (join_lines (new_headers w ps))) (sym (first-cons ps i p more there))
 
 -- all of them: a part of work written over
 pub log-whole : (w ps : List ℕ) → All (PageIn w) ps → length ps ≤ 15 → page_size ≤ length w →

@@ -7,8 +7,8 @@ use mathlib.Core.List.{List, [], ◌∷◌, ◌++◌, map}
 use native.Mathlib.Omega.{arith}
 use native.Mathlib.Numerals.{add-one}
 use native.Mathlib.Nat.{not-suc-le-zero}
-use lib.ListN.{length, get_or, take, drop, length-take, length-map, drop_of_length-le}
-use lib.Seq.{sets, drop-cons, get_or-take}
+use lib.ListN.{length, get_or, drop, length-map, drop_of_length-le}
+use lib.Seq.{sets, drop-cons}
 use lib.Dec.{eqb}
 use borrow.Author.Tests.{eq-eqb, ne_eqb, eqb-true, eqb-false}
 use Rattle.codec.specs.Lists.{pick, part, splice, All}
@@ -27,21 +27,15 @@ use Rattle.tape_write.proofs.StageWords.{walk-words, InWords, stored-in, stored-
 
 -- ---- the lines that words lie in
 
--- of the first n words, from the i-th on
-module _ (words : List ℕ) (n : ℕ) (few : n ≤ length words) where
-  abbrev ks : List ℕ
-  ks = take n words
-
-  pub first-length : length ks ≡ n
-  first-length = simp length-take (omega arith)
-
-  pub lines_end : (last i : ℕ) → n ≤ i → lines_past last (drop i ks) ≡ []
+-- of the words ks, from the i-th on
+module _ (ks : List ℕ) where
+  pub lines_end : (last i : ℕ) → length ks ≤ i → lines_past last (drop i ks) ≡ []
   unfolding lines_past
-  lines_end last i h = rw (drop_of_length-le ks {i = i} (omega (arith, first-length)))
+  lines_end last i h = rw (drop_of_length-le ks {i = i} h)
 
-  module _ (i k : ℕ) (more : i < n) (there : k ≡ get_or words i 0) where
+  module _ (i k : ℕ) (more : i < length ks) (there : k ≡ get_or ks i 0) where
     pub first-cons : drop i ks ≡ k ∷ drop (i + 1) ks
-    first-cons = rw (drop-cons ks i 0 (omega (arith, first-length)), get_or-take n words i 0 more, ← there, add-one i)
+    first-cons = rw (drop-cons ks i 0 more, ← there, add-one i)
 
     pub line_same : (last : ℕ) → k / 8 ≡ last → lines_past last (drop i ks) ≡ lines_past last (drop (i + 1) ks)
     unfolding lines_past
@@ -155,16 +149,16 @@ module _ (w ks : List ℕ) where
 
 -- ---- one store or flush more
 
-module _ (t t' : List ℕ) (at : ℕ) (w words : List ℕ) (n : ℕ) (few : n ≤ length words) (i : ℕ) where
+module _ (t t' : List ℕ) (at : ℕ) (w ks : List ℕ) (i : ℕ) where
   -- the store of the i-th word, written at its place
-  pub word-step : (k : ℕ) → i < n → k ≡ get_or words i 0 → WordIn w k → at + 12 * n ≤ length t → t' ≡ splice t (at + 12 * i) (word_bytes k (part w (8 * k) 8)) →
-      sets t' (at + 12 * (i + 1)) (tape_bytes (map (word_store w) (drop (i + 1) (take n words)))) ≡ sets t (at + 12 * i) (tape_bytes (map (word_store w) (drop i (take n words))))
+  pub word-step : (k : ℕ) → i < length ks → k ≡ get_or ks i 0 → WordIn w k → at + 12 * length ks ≤ length t → t' ≡ splice t (at + 12 * i) (word_bytes k (part w (8 * k) 8)) →
+      sets t' (at + 12 * (i + 1)) (tape_bytes (map (word_store w) (drop (i + 1) ks))) ≡ sets t (at + 12 * i) (tape_bytes (map (word_store w) (drop i ks)))
   word-step k more e inn fits h =
-      word_next t t' (at + 12 * i) (at + 12 * (i + 1)) (map (word_store w) (drop (i + 1) (take n words))) k (part w (8 * k) 8) h (length_part w (8 * k) 8 inn) (omega arith) (omega arith)
-      ∙ rw (first-cons words n few i k more e)
+      word_next t t' (at + 12 * i) (at + 12 * (i + 1)) (map (word_store w) (drop (i + 1) ks)) k (part w (8 * k) 8) h (length_part w (8 * k) 8 inn) (omega arith) (omega arith)
+      ∙ rw (first-cons ks i k more e)
 
-  pub words-end : n ≤ i → sets t at (tape_bytes (map (word_store w) (drop i (take n words)))) ≡ t
-  words-end h = rw (drop_of_length-le (take n words) {i = i} (omega (arith, first-length words n few))) (tape-none t at)
+  pub words-end : length ks ≤ i → sets t at (tape_bytes (map (word_store w) (drop i ks))) ≡ t
+  words-end h = rw (drop_of_length-le ks {i = i} h) (tape-none t at)
 
 -- an element of a list that has a property throughout
 pub all-at : (P : ℕ → Type 0) (l : List ℕ) (i : ℕ) → All P l → i < length l → P (get_or l i 0)

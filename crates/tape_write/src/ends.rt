@@ -1,5 +1,5 @@
 // What follows stage A: the one changed place, or the log and its replay.
-ghost use Rattle.std.specs.Prelude.{◌≡◌, [], ◌∷◌, ◌++◌, ℕ, ◌+◌, ◌*◌, ◌≤◌, length, take};
+ghost use Rattle.std.specs.Prelude.{◌≡◌, [], ◌∷◌, ◌++◌, ℕ, ◌+◌, ◌*◌, ◌≤◌, length};
 ghost use Rattle.std.proofs.lemmas.List.Edits.{sets};
 ghost use Rattle.codec.specs.Lists.{pick, All};
 ghost use Rattle.codec.specs.Numbers.{bytes_of};
@@ -14,7 +14,7 @@ ghost use Rattle.journal.specs.Recovery.{logged};
 ghost use Rattle.tape_write.specs.Lines.{PageIn};
 ghost use Rattle.tape_write.specs.Sizes.{replay_bytes, log_bytes, end_bytes};
 
-use crate::headers::{emit_lines, log_headers};
+use crate::headers::{Log, emit_lines, log_headers};
 use crate::sizes::{commits_alone, group_bytes, lines_bytes};
 use journal::{CommitPlace, Way};
 
@@ -59,34 +59,26 @@ pub fn emit_ending(tape: &mut [u8], at: usize, same: bool, root: u64)
     }
 }
 
-// Writes what follows the mark and its flush, of the headers in log lines 1 to k: their stores, their flushes, the end.
-pub fn emit_replay(
-    way: Way,
-    tape: &mut [u8],
-    at: usize,
-    src: &[u8],
-    k: usize,
-    same: bool,
-    root: u64,
-)
-    requires { (at + replay_bytes way k same ≤ length tape.old) × (64 * k + 64 ≤ length src.now) × (k ≤ 65536) }
-    ensures { tape.new ≡ sets tape.old at (tape_bytes (replay_tape way (logged k src.now) same root)) }
+// Writes what follows the mark and its flush, of the log's headers: their stores, their flushes, the end.
+pub fn emit_replay(way: Way, tape: &mut [u8], at: usize, log: Log, same: bool, root: u64)
+    requires { at + replay_bytes way log.count same ≤ length tape.old }
+    ensures { tape.new ≡ sets tape.old at (tape_bytes (replay_tape way (logged log.entry.count log.entry.src.now) same root)) }
 {
-    let size = lines_bytes(way, k) + group_bytes(k);
-    emit_lines(way, tape, at, src, k, true);
+    let size = lines_bytes(way, log.count) + group_bytes(log.count);
+    emit_lines(way, tape, at, log, true);
     emit_ending(tape, at + size, same, root);
 }
 
-// Writes a commit by the log, of the headers in log lines 1 to k: the log, the mark, its flush, and the replay.
-pub fn emit_log(way: Way, tape: &mut [u8], at: usize, src: &[u8], k: usize, same: bool, root: u64)
-    requires { (at + log_bytes way k same ≤ length tape.old) × (64 * k + 64 ≤ length src.now) × (k ≤ 15) }
-    ensures { tape.new ≡ sets tape.old at (tape_bytes (log_tape way (logged k src.now) ++ (store 0 (mark_bytes k root) ∷ (mark_flush ++ replay_tape way (logged k src.now) same root)))) }
+// Writes a commit by the log, of its headers: the log, the mark, its flush, and the replay.
+pub fn emit_log(way: Way, tape: &mut [u8], at: usize, log: Log, same: bool, root: u64)
+    requires { (at + log_bytes way log.count same ≤ length tape.old) × (log.count ≤ 15) }
+    ensures { let hs = logged log.entry.count log.entry.src.now in tape.new ≡ sets tape.old at (tape_bytes (log_tape way hs ++ (store 0 (mark_bytes log.entry.count root) ∷ (mark_flush ++ replay_tape way hs same root)))) }
 {
-    let size = lines_bytes(way, k) + group_bytes(k);
-    emit_lines(way, tape, at, src, k, false);
-    let mark = 1 + 256 * (k as u64) + 65536 * (root % 65536);
+    let size = lines_bytes(way, log.count) + group_bytes(log.count);
+    emit_lines(way, tape, at, log, false);
+    let mark = 1 + 256 * (log.count as u64) + 65536 * (root % 65536);
     emit_settled(tape, at + size, 0, mark);
-    emit_replay(way, tape, at + size + 20, src, k, same, root);
+    emit_replay(way, tape, at + size + 20, log, same, root);
 }
 
 // Writes the commit of one changed header: its line store, the flush and its barrier.
@@ -98,49 +90,48 @@ pub fn emit_header(tape: &mut [u8], at: usize, work: &[u8], page: usize)
     emit_wait(tape, at + 68, 16 * page);
 }
 
-// Writes a commit by the log, of the headers of the first k pages: work takes them in its log lines, and the tape goes by these.
+// Writes a commit by the log, of the headers of the pages: work takes them in its log lines, and the tape goes by these.
 pub fn emit_by_log(
     way: Way,
     work: &mut [u8],
     tape: &mut [u8],
     at: usize,
     pages: &[u8],
-    k: usize,
     same: bool,
 )
-    requires { (at + log_bytes way k same ≤ length tape.old) × (k ≤ 15) × (k ≤ length pages.now) × (page_size ≤ length work.old) × All (PageIn work.old) (take k pages.now) }
-    ensures work_after { work.new ≡ (by_log way [] work.old same (new_headers work.old (take k pages.now))).work }
-    ensures tape_after { tape.new ≡ sets tape.old at (tape_bytes (by_log way [] work.old same (new_headers work.old (take k pages.now))).tape) }
+    requires { (at + log_bytes way (length pages.now) same ≤ length tape.old) × (length pages.now ≤ 15) × (page_size ≤ length work.old) × All (PageIn work.old) pages.now }
+    ensures work_after { work.new ≡ (by_log way [] work.old same (new_headers work.old pages.now)).work }
+    ensures tape_after { tape.new ≡ sets tape.old at (tape_bytes (by_log way [] work.old same (new_headers work.old pages.now)).tape) }
 {
     let root = codec::long_at(work, 8);
-    log_headers(work, pages, k);
-    emit_log(way, tape, at, work, k, same, root);
+    log_headers(work, pages);
+    let log = Log { src: work, count: pages.len() };
+    emit_log(way, tape, at, log, same, root);
 }
 
-// Writes what follows stage A, with the headers of the first k pages changed.
+// Writes what follows stage A, with the headers of the pages changed.
 pub fn emit_end(
     way: Way,
     work: &mut [u8],
     tape: &mut [u8],
     at: usize,
     pages: &[u8],
-    k: usize,
     same: bool,
 ) -> CommitPlace
-    requires { (at + end_bytes way k same ≤ length tape.old) × (k ≤ 15) × (k ≤ length pages.now) × (page_size ≤ length work.old) × All (PageIn work.old) (take k pages.now) }
-    ensures value { result ≡ (choose way [] work.old same (take k pages.now)).place }
-    ensures work_after { work.new ≡ (choose way [] work.old same (take k pages.now)).work }
-    ensures tape_after { tape.new ≡ sets tape.old at (tape_bytes (choose way [] work.old same (take k pages.now)).tape) }
+    requires { (at + end_bytes way (length pages.now) same ≤ length tape.old) × (length pages.now ≤ 15) × (page_size ≤ length work.old) × All (PageIn work.old) pages.now }
+    ensures value { result ≡ (choose way [] work.old same pages.now).place }
+    ensures work_after { work.new ≡ (choose way [] work.old same pages.now).work }
+    ensures tape_after { tape.new ≡ sets tape.old at (tape_bytes (choose way [] work.old same pages.now).tape) }
 {
-    if k == 0 {
+    if pages.is_empty() {
         emit_settled(tape, at, 1, codec::long_at(work, 8));
         return CommitPlace::Root;
     }
-    if commits_alone(way, k, same) {
+    if commits_alone(way, pages.len(), same) {
         let page = codec::wide(pages[0]);
         emit_header(tape, at, work, page);
         return CommitPlace::Header(page);
     }
-    emit_by_log(way, work, tape, at, pages, k, same);
+    emit_by_log(way, work, tape, at, pages, same);
     CommitPlace::Log
 }

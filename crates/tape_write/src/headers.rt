@@ -22,10 +22,8 @@ pub fn same_words(a: &[u8], b: &[u8], at: usize, n: usize) -> bool
     ensures { result ≡ eqs (part a.now at (8 * n)) (part b.now at (8 * n)) }
 {
     let mut differ = 0u64;
-    let mut i = 0;
-    while i < n {
-        differ = differ | (codec::long_at(a, at + 8 * i) ^ codec::long_at(b, at + 8 * i));
-        i += 1;
+    for i in 0..n {
+        differ |= codec::long_at(a, at + 8 * i) ^ codec::long_at(b, at + 8 * i);
     }
     differ == 0
 }
@@ -40,22 +38,14 @@ pub fn changed_headers(
 ) -> usize
     requires { Lent image.now work.now before.now after.now × (length pages.old ≡ 64) }
     ensures value { result ≡ length (changed_pages image.now work.now) }
-    ensures pages_after { pages.new ≡ sets pages.old 0 (changed_pages image.now work.now) }
+    ensures pages_first { take result pages.new ≡ changed_pages image.now work.now }
 {
     let count = image.len() / 1024;
-    let mut p = 1;
     let mut k = 0;
-    while p < count {
-        if before[p] == 0 {
-            p += 1;
-        } else if after[p] == 0 {
-            p += 1;
-        } else if same_words(image, work, 1024 * p, 8) {
-            p += 1;
-        } else {
+    for p in 1..count {
+        if before[p] != 0 && after[p] != 0 && !same_words(image, work, 1024 * p, 8) {
             pages[k] = p as u8;
             k += 1;
-            p += 1;
         }
     }
     k
@@ -71,16 +61,23 @@ pub fn move_line(s: &mut [u8], to: usize, from: usize)
     codec::copy_line(s, to, &line, 0);
 }
 
-// Writes the headers of the first k pages to log lines 1 to k.
-pub fn log_headers(work: &mut [u8], pages: &[u8], k: usize)
-    requires { (k ≤ 15) × (k ≤ length pages.now) × (page_size ≤ length work.old) × All (PageIn work.old) (take k pages.now) }
-    ensures { work.new ≡ splice work.old line_size (join_lines (new_headers work.old (take k pages.now))) }
+// Writes the headers of the pages to the log's lines, from line 1 on.
+pub fn log_headers(work: &mut [u8], pages: &[u8])
+    requires { (length pages.now ≤ 15) × (page_size ≤ length work.old) × All (PageIn work.old) pages.now }
+    ensures { work.new ≡ splice work.old line_size (join_lines (new_headers work.old pages.now)) }
 {
-    let mut i = 0;
-    while i < k {
-        move_line(work, 64 * i + 64, 1024 * codec::wide(pages[i]));
-        i += 1;
+    for (i, page) in pages.iter().enumerate() {
+        move_line(work, 64 * i + 64, 1024 * codec::wide(*page));
     }
+}
+
+// The headers in log lines 1 to `count` of an image.
+#[derive(Clone, Copy)]
+pub struct Log<'a> {
+    pub src: &'a [u8],
+    pub count: usize,
+    pub ghost there: { 64 * count + 64 ≤ length src.now },
+    pub ghost few: { count ≤ 65536 },
 }
 
 // The line that the header in log line l is stored to: the first of its own page, or the log line itself.
@@ -94,35 +91,26 @@ pub fn line_for(src: &[u8], l: usize, own: bool) -> usize
     l
 }
 
-// Writes the stores of the headers in log lines 1 to k.
-pub fn emit_headers(way: Way, tape: &mut [u8], at: usize, src: &[u8], k: usize, own: bool)
-    requires { (at + lines_bytes way k ≤ length tape.old) × (64 * k + 64 ≤ length src.now) × (k ≤ 65536) }
-    ensures { tape.new ≡ sets tape.old at (tape_bytes (line_stores way own 1 (logged k src.now))) }
+// Writes the stores of the log's headers.
+pub fn emit_headers(way: Way, tape: &mut [u8], at: usize, log: Log, own: bool)
+    requires { at + lines_bytes way log.count ≤ length tape.old }
+    ensures { tape.new ≡ sets tape.old at (tape_bytes (line_stores way own 1 (logged log.entry.count log.entry.src.now))) }
 {
-    let mut i = 0;
-    while i < k {
+    let src = log.src;
+    for i in 0..log.count {
+        let to = at + lines_bytes(way, i);
         let l = i + 1;
-        emit_line(
-            way,
-            tape,
-            at + lines_bytes(way, i),
-            line_for(src, l, own),
-            src,
-            64 * l,
-        );
-        i += 1;
+        emit_line(way, tape, to, line_for(src, l, own), src, 64 * l);
     }
 }
 
 // Writes their flushes.
-pub fn flush_headers(tape: &mut [u8], at: usize, src: &[u8], k: usize, own: bool)
-    requires { (at + 4 * k ≤ length tape.old) × (64 * k + 64 ≤ length src.now) × (k ≤ 65536) }
-    ensures { tape.new ≡ sets tape.old at (tape_bytes (line_flushes own 1 (logged k src.now))) }
+pub fn flush_headers(tape: &mut [u8], at: usize, log: Log, own: bool)
+    requires { at + 4 * log.count ≤ length tape.old }
+    ensures { tape.new ≡ sets tape.old at (tape_bytes (line_flushes own 1 (logged log.entry.count log.entry.src.now))) }
 {
-    let mut i = 0;
-    while i < k {
-        device::emit_flush(tape, at + 4 * i, line_for(src, i + 1, own));
-        i += 1;
+    for i in 0..log.count {
+        device::emit_flush(tape, at + 4 * i, line_for(log.src, i + 1, own));
     }
 }
 
@@ -137,13 +125,13 @@ pub fn emit_closing(tape: &mut [u8], at: usize, n: usize)
     device::emit_barrier(tape, at);
 }
 
-// Writes the headers in log lines 1 to k: their stores, their flushes and the barrier.
-pub fn emit_lines(way: Way, tape: &mut [u8], at: usize, src: &[u8], k: usize, own: bool)
-    requires { (at + lines_bytes way k + group_bytes k ≤ length tape.old) × (64 * k + 64 ≤ length src.now) × (k ≤ 65536) }
-    ensures { tape.new ≡ sets tape.old at (tape_bytes (line_tape way own (logged k src.now))) }
+// Writes the log's headers: their stores, their flushes and the barrier.
+pub fn emit_lines(way: Way, tape: &mut [u8], at: usize, log: Log, own: bool)
+    requires { at + lines_bytes way log.count + group_bytes log.count ≤ length tape.old }
+    ensures { tape.new ≡ sets tape.old at (tape_bytes (line_tape way own (logged log.entry.count log.entry.src.now))) }
 {
-    let flushes = at + lines_bytes(way, k);
-    emit_headers(way, tape, at, src, k, own);
-    flush_headers(tape, flushes, src, k, own);
-    emit_closing(tape, flushes + 4 * k, k);
+    let flushes = at + lines_bytes(way, log.count);
+    emit_headers(way, tape, at, log, own);
+    flush_headers(tape, flushes, log, own);
+    emit_closing(tape, flushes + 4 * log.count, log.count);
 }

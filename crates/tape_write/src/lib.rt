@@ -45,27 +45,28 @@ fn find_changes(
     requires lent { Lent image.now work.now before.now after.now }
     requires image_len_bound { (length image.now ≤ 8 * length words.old) × (length pages.old ≡ 64) }
     ensures counted { Counted image.now work.now result }
-    ensures words_after { words.new ≡ sets words.old 0 (stage_words image.now work.now) }
-    ensures pages_after { pages.new ≡ sets pages.old 0 (changed_pages image.now work.now) }
+    ensures words_first { take result.words words.new ≡ stage_words image.now work.now }
+    ensures pages_first { take result.headers pages.new ≡ changed_pages image.now work.now }
 {
     let n = changed_words(image, work, before, after, words);
     let k = changed_headers(image, work, before, after, pages);
     Changes {
         words: n,
-        lines: count_lines(words, n),
+        lines: count_lines(&words[..n]),
         headers: k,
         same: same_words(image, work, 8, 1),
     }
 }
 
 // Writes stage A: the word stores, then the flushes of their lines and the barrier.
-fn emit_stage(tape: &mut [u8], work: &[u8], words: &[u16], n: usize, lines: usize)
-    requires { (12 * n + group_bytes lines ≤ length tape.old) × (n ≤ length words.now) × All (WordIn work.now) (take n words.now) × (lines ≡ length (lines_past 0 (take n words.now))) }
-    ensures { tape.new ≡ sets tape.old 0 (tape_bytes (stage_tape work.now (take n words.now))) }
+fn emit_stage(tape: &mut [u8], work: &[u8], words: &[u16], lines: usize)
+    requires { (12 * length words.now + group_bytes lines ≤ length tape.old) × All (WordIn work.now) words.now × (lines ≡ length (lines_past 0 words.now)) }
+    ensures { tape.new ≡ sets tape.old 0 (tape_bytes (stage_tape work.now words.now)) }
 {
-    emit_words(tape, 0, work, words, n);
-    emit_flushes(tape, 12 * n, words, n);
-    emit_closing(tape, 12 * n + 4 * lines, lines);
+    let flushes = 12 * words.len();
+    emit_words(tape, 0, work, words);
+    emit_flushes(tape, flushes, words);
+    emit_closing(tape, flushes + 4 * lines, lines);
 }
 
 // Writes the tape that commits the edited image in work, with room for the words that differ.
@@ -95,13 +96,31 @@ fn commit_with(
     if tape.len() < bytes {
         return Err(Cause::TapeShort);
     }
-    emit_stage(tape, work, words, found.words, found.lines);
-    let place = emit_end(way, work, tape, stage, &pages, k, same);
+    emit_stage(tape, work, &words[..found.words], found.lines);
+    let place = emit_end(way, work, tape, stage, &pages[..k], same);
     Ok(Commit {
         place,
         bytes,
         flushes: found.lines + end_flushes(way, k, same),
     })
+}
+
+// The same, with room for that many words.
+fn commit_within<const WORDS: usize>(
+    way: Way,
+    image: &[u8],
+    work: &mut [u8],
+    tape: &mut [u8],
+    before: &[u8],
+    after: &[u8],
+) -> Result<Commit, Cause>
+    requires { Lent image.now work.old before.now after.now × (length image.now ≤ 8 * WORDS) × (WORDS ≤ 8192) }
+    ensures value { result ≡ (commit_call way image.now work.old tape.old).answer }
+    ensures work_after { work.new ≡ (commit_call way image.now work.old tape.old).work }
+    ensures tape_after { tape.new ≡ (commit_call way image.now work.old tape.old).tape }
+{
+    let mut words = [0u16; WORDS];
+    commit_with(way, image, work, tape, before, after, &mut words)
 }
 
 // Writes the tape that commits the edited image in work. `before` and `after` mark the pages reached in image and in work. An array of
@@ -120,9 +139,7 @@ pub fn commit(
     ensures tape_after { tape.new ≡ (commit_call way image.now work.old tape.old).tape }
 {
     if image.len() == 8192 {
-        let mut few = [0u16; 1024];
-        return commit_with(way, image, work, tape, before, after, &mut few);
+        return commit_within::<1024>(way, image, work, tape, before, after);
     }
-    let mut words = [0u16; 8192];
-    commit_with(way, image, work, tape, before, after, &mut words)
+    commit_within::<8192>(way, image, work, tape, before, after)
 }

@@ -16,10 +16,8 @@ pub fn emit_eight(tape: &mut [u8], at: usize, line: usize, src: &[u8], from: usi
     requires { (at + 96 ≤ length tape.old) × (from + 64 ≤ length src.now) × (line ≤ line_most) }
     ensures { tape.new ≡ sets tape.old at (tape_bytes (line_by ByWords (line_size * line) (part src.now from line_size))) }
 {
-    let mut i = 0;
-    while i < 8 {
+    for i in 0..8 {
         device::emit_word(tape, at + 12 * i, 8 * line + i, src, from + 8 * i);
-        i += 1;
     }
 }
 

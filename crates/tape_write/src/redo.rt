@@ -5,6 +5,7 @@ ghost use Rattle.journal.specs.Recovery.{logged, logged_ok, with_headers, replay
 ghost use Rattle.tape_write.specs.Calls.{LogWaits, redo_call};
 
 use crate::ends::emit_replay;
+use crate::headers::Log;
 use crate::sizes::replay_bytes;
 use device::Cause;
 use journal::{Redone, Way};
@@ -17,17 +18,12 @@ pub fn logged_ok(image: &[u8], headers: usize) -> bool
     let n = image.len() / 1024;
     let mut marks = [0u8; 64];
     marks[0] = 1;
-    let mut i = 0;
-    while i < headers {
+    for i in 0..headers {
         let page = codec::number_at(image, 64 * i + 70);
-        if n <= page {
-            return false;
-        }
-        if marks[page] != 0 {
+        if n <= page || marks[page] != 0 {
             return false;
         }
         marks[page] = 1;
-        i += 1;
     }
     true
 }
@@ -38,11 +34,9 @@ pub fn put_headers(work: &mut [u8], image: &[u8], headers: usize)
     requires image_value { logged_ok (page_count image.now) (logged headers image.now) ≡ true }
     ensures { work.new ≡ with_headers (logged headers image.now) work.old }
 {
-    let mut i = 0;
-    while i < headers {
+    for i in 0..headers {
         let page = codec::number_at(image, 64 * i + 70);
         codec::copy_line(work, 1024 * page, image, 64 * i + 64);
-        i += 1;
     }
 }
 
@@ -78,7 +72,8 @@ pub fn redo(
         return Err(Cause::TapeShort);
     }
     replay(image, work, headers, root);
-    emit_replay(way, tape, 0, image, headers, same, root as u64);
+    let log = Log { src: image, count: headers };
+    emit_replay(way, tape, 0, log, same, root as u64);
     Ok(Redone {
         bytes,
         flushes: headers + 1,

@@ -21,15 +21,11 @@ pub fn collect(
     ensures value { result ≡ count + length (differing image.now work.now (to - from) from) }
     ensures words_after { words.new ≡ sets words.old count (differing image.now work.now (to - from) from) }
 {
-    let mut k = from;
     let mut n = count;
-    while k < to {
+    for k in from..to {
         if codec::long_at(image, 8 * k) != codec::long_at(work, 8 * k) {
             words[n] = k as u16;
             n += 1;
-            k += 1;
-        } else {
-            k += 1;
         }
     }
     n
@@ -68,71 +64,58 @@ pub fn changed_words(
 ) -> usize
     requires { Lent image.now work.now before.now after.now × (length image.now ≤ 8 * length words.old) }
     ensures value { result ≡ length (stage_words image.now work.now) }
-    ensures words_after { words.new ≡ sets words.old 0 (stage_words image.now work.now) }
+    ensures words_first { take result words.new ≡ stage_words image.now work.now }
 {
     let pages = image.len() / 1024;
-    let mut p = 1;
     let mut n = 0;
-    while p < pages {
+    for p in 1..pages {
         let from = 128 * p + 8 * codec::wide(before[p]);
         let to = 128 * p + 128;
         n = collect_changed(image, work, from, to, after[p], words, n);
-        p += 1;
     }
     n
 }
 
-// The number of lines that the first n words lie in. They rise, and none lies in line 0.
-pub fn count_lines(words: &[u16], n: usize) -> usize
-    requires { n ≤ length words.now }
-    ensures { result ≡ length (lines_past 0 (take n words.now)) }
+// The number of lines that the words lie in. They rise, and none lies in line 0.
+pub fn count_lines(words: &[u16]) -> usize
+    ensures { result ≡ length (lines_past 0 words.now) }
 {
     let mut last = 0;
     let mut lines = 0;
-    let mut i = 0;
-    while i < n {
-        let line = codec::wide16(words[i]) / 8;
+    for k in words {
+        let line = codec::wide16(*k) / 8;
         if line != last {
             last = line;
             lines += 1;
-            i += 1;
-        } else {
-            i += 1;
         }
     }
     lines
 }
 
-// Writes the stores of the first n words.
-pub fn emit_words(tape: &mut [u8], at: usize, work: &[u8], words: &[u16], n: usize)
-    requires { (at + 12 * n ≤ length tape.old) × (n ≤ length words.now) × All (WordIn work.now) (take n words.now) }
-    ensures { tape.new ≡ sets tape.old at (tape_bytes (map (word_store work.now) (take n words.now))) }
+// Writes the stores of the words.
+pub fn emit_words(tape: &mut [u8], at: usize, work: &[u8], words: &[u16])
+    requires { (at + 12 * length words.now ≤ length tape.old) × All (WordIn work.now) words.now }
+    ensures { tape.new ≡ sets tape.old at (tape_bytes (map (word_store work.now) words.now)) }
 {
-    let mut i = 0;
-    while i < n {
-        let k = codec::wide16(words[i]);
-        device::emit_word(tape, at + 12 * i, k, work, 8 * k);
-        i += 1;
+    for (i, k) in words.iter().enumerate() {
+        let word = codec::wide16(*k);
+        device::emit_word(tape, at + 12 * i, word, work, 8 * word);
     }
 }
 
-// Writes the flushes of the lines that the first n words lie in.
-pub fn emit_flushes(tape: &mut [u8], at: usize, words: &[u16], n: usize)
-    requires { (at + 4 * length (lines_past 0 (take n words.now)) ≤ length tape.old) × (n ≤ length words.now) }
-    ensures { tape.new ≡ sets tape.old at (tape_bytes (map flush (lines_past 0 (take n words.now)))) }
+// Writes the flushes of the lines that the words lie in.
+pub fn emit_flushes(tape: &mut [u8], at: usize, words: &[u16])
+    requires { at + 4 * length (lines_past 0 words.now) ≤ length tape.old }
+    ensures { tape.new ≡ sets tape.old at (tape_bytes (map flush (lines_past 0 words.now))) }
 {
     let mut last = 0;
     let mut to = at;
-    let mut i = 0;
-    while i < n {
-        let line = codec::wide16(words[i]) / 8;
+    for k in words {
+        let line = codec::wide16(*k) / 8;
         if line != last {
             device::emit_flush(tape, to, line);
             last = line;
             to += 4;
-            i += 1;
-        } else {
-            i += 1;
         }
     }
 }

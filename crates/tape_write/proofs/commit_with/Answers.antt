@@ -1,21 +1,20 @@
 -- `commit_with`: the counts give the size before anything is written; then stage A and the end are written.
 -- Assumes nothing.
 use Prim.Native.Nat.{ℕ, ◌+◌, ◌*◌}
-use mathlib.Core.Path.{sym, ap, ap₂, ◌∙◌, subst}
+use mathlib.Core.Path.{◌≡◌, sym, ap, ap₂, ◌∙◌, subst}
 use mathlib.Core.List.{List, []}
 use native.Mathlib.Omega.{arith}
-use lib.ListN.{length, replicate, length-replicate}
+use lib.ListN.{length, take, length-replicate}
 use lib.Seq.{sets}
 use Rattle.codec.specs.Lists.{All}
 use Rattle.device.specs.Tape.{tape_bytes}
 use Rattle.journal.specs.Tape.{choose}
 use Rattle.tape_write.specs.Words.{WordIn, lines_past, stage_tape}
 use Rattle.tape_write.specs.Lines.{PageIn}
-use Rattle.tape_write.specs.Sizes.{group_bytes, end_flushes}
+use Rattle.tape_write.specs.Sizes.{group_bytes, end_bytes, end_flushes}
 use Rattle.tape_write.proofs.Encoding.{group-few}
-use Rattle.tape_write.proofs.StageTape.{words-fit}
 use Rattle.tape_write.proofs.Choosing.{end-few, leaves-as}
-use Rattle.tape_write.proofs.Committing.{words-there, pages-there, counts-few, words_are, pages-few, pages-are, bytes-are, says-full, says-short, says-done}
+use Rattle.tape_write.proofs.Committing.{words-there, pages-there, counts-few, pages-few, bytes-are, says-full, says-short, says-done}
 use Rattle.tape_write.proofs.commit_with.Goals as goal
 
 pub find_changes-found-requires : goal.find_changes-found-requires
@@ -48,21 +47,21 @@ returns-then-tape-bytes c = let whole =
     says-short c.args.way c.args.image.now c.args.work.now c.args.tape.now c.requires.0.images (pages-few c.args.way c.args.image.now c.args.work.now c.requires.0.images c.find_changes-found.result c.find_changes-found.ensures.counted if1.false) _ (bytes-are c.args.way c.args.image.now c.args.work.now c.requires.0.images c.find_changes-found.result c.find_changes-found.ensures.counted if1.false _ _ c.group_bytes.ensures c.end_bytes.ensures) c.if-tape-bytes.true in record { value = whole.0; work_after = whole.1.0; tape_after = whole.1.1 }
 
 pub emit_stage-requires : goal.emit_stage-requires
-emit_stage-requires c = (
-  omega (arith, c.if-tape-bytes.false, c.group_bytes.ensures),
-  omega (arith, words-fit c.args.image.now c.args.work.now c.requires.0.images, c.find_changes-found.ensures.counted.words, c.find_changes-found.auto.words, c.requires.1),
-  subst (All (WordIn c.args.work.now)) (sym (words_are c.args.way c.args.image.now c.args.work.now c.requires.0.images c.find_changes-found.result c.find_changes-found.ensures.counted c.args.words.now c.find_changes-found.new.words c.requires.1 c.find_changes-found.ensures.words_after)) (words-there c.args.way c.args.image.now c.args.work.now c.requires.0.images),
-  c.find_changes-found.ensures.counted.lines ∙ ap (λ (x : List ℕ). length (lines_past 0 x)) (sym (words_are c.args.way c.args.image.now c.args.work.now c.requires.0.images c.find_changes-found.result c.find_changes-found.ensures.counted c.args.words.now c.find_changes-found.new.words c.requires.1 c.find_changes-found.ensures.words_after)),
-)
+emit_stage-requires c =
+    let words = c.find_changes-found.ensures.words_first in (
+      omega (arith, c.group_bytes.ensures, ap length words, c.find_changes-found.ensures.counted.words),
+      subst (All (WordIn c.args.work.now)) (sym words) (words-there c.args.way c.args.image.now c.args.work.now c.requires.0.images),
+      c.find_changes-found.ensures.counted.lines ∙ ap (λ (x : List ℕ). length (lines_past 0 x)) (sym words),
+    )
 
 pub emit_end-place-requires : goal.emit_end-place-requires
 emit_end-place-requires c =
-    let if1 = c.if-k-gt15 in (
-      omega (arith, c.if-tape-bytes.false, c.end_bytes.ensures, c.emit_stage.auto.tape),
-      if1.false,
-      omega (arith, if1.false, c.find_changes-found.auto.pages, (length-replicate {A = ℕ} 64 0)),
+    let pages = c.find_changes-found.ensures.pages_first in
+    let count : length (take c.find_changes-found.result.headers c.find_changes-found.new.pages) ≡ c.find_changes-found.result.headers = ap length pages ∙ sym c.find_changes-found.ensures.counted.headers in (
+      omega (arith, c.end_bytes.ensures, ap (λ (k : ℕ). end_bytes c.args.way k c.find_changes-found.result.same) count),
+      omega (arith, count, c.if-k-gt15.false),
       omega (arith, c.requires.0.images.low, c.requires.0.images.same),
-      subst (All (PageIn c.args.work.now)) (sym (pages-are c.args.way c.args.image.now c.args.work.now c.requires.0.images c.find_changes-found.result c.find_changes-found.ensures.counted if1.false (replicate 64 0) c.find_changes-found.new.pages (length-replicate {A = ℕ} 64 0) c.find_changes-found.ensures.pages_after)) (pages-there c.args.way c.args.image.now c.args.work.now c.requires.0.images),
+      subst (All (PageIn c.args.work.now)) (sym pages) (pages-there c.args.way c.args.image.now c.args.work.now c.requires.0.images),
     )
 
 pub overflow_add-result : goal.overflow_add-result
@@ -74,7 +73,7 @@ returns c = let whole =
     let if1 = c.if-k-gt15 in
     let found = c.find_changes-found.ensures.counted in
     says-done c.args.way c.args.image.now c.args.work.now c.args.tape.now c.requires.0.images (pages-few c.args.way c.args.image.now c.args.work.now c.requires.0.images c.find_changes-found.result c.find_changes-found.ensures.counted if1.false) _ (bytes-are c.args.way c.args.image.now c.args.work.now c.requires.0.images c.find_changes-found.result c.find_changes-found.ensures.counted if1.false _ _ c.group_bytes.ensures c.end_bytes.ensures) c.if-tape-bytes.false _ _ (12 * c.find_changes-found.result.words + c.group_bytes.result) _ _ _ _
-    (c.emit_stage.ensures ∙ ap (λ (x : List ℕ). sets c.args.tape.now 0 (tape_bytes (stage_tape c.args.work.now x))) (words_are c.args.way c.args.image.now c.args.work.now c.requires.0.images c.find_changes-found.result c.find_changes-found.ensures.counted c.args.words.now c.find_changes-found.new.words c.requires.1 c.find_changes-found.ensures.words_after))
+    (c.emit_stage.ensures ∙ ap (λ (x : List ℕ). sets c.args.tape.now 0 (tape_bytes (stage_tape c.args.work.now x))) c.find_changes-found.ensures.words_first)
     (omega (arith, found.words, c.group_bytes.ensures, ap group_bytes found.lines))
-    (leaves-as _ _ _ _ _ _ _ (ap₂ (choose c.args.way [] c.args.work.now) (sym found.root) (sym (pages-are c.args.way c.args.image.now c.args.work.now c.requires.0.images c.find_changes-found.result c.find_changes-found.ensures.counted if1.false (replicate 64 0) c.find_changes-found.new.pages (length-replicate {A = ℕ} 64 0) c.find_changes-found.ensures.pages_after))) (c.emit_end-place.ensures.value, (c.emit_end-place.ensures.work_after, c.emit_end-place.ensures.tape_after)))
+    (leaves-as _ _ _ _ _ _ _ (ap₂ (choose c.args.way [] c.args.work.now) (sym found.root) (sym c.find_changes-found.ensures.pages_first)) (c.emit_end-place.ensures.value, (c.emit_end-place.ensures.work_after, c.emit_end-place.ensures.tape_after)))
     found.lines (c.end_flushes.ensures ∙ ap₂ (end_flushes c.args.way) found.headers found.root) in record { value = whole.0; work_after = whole.1.0; tape_after = whole.1.1 }

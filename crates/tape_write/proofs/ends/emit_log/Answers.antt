@@ -9,33 +9,33 @@ use Rattle.tape_write.proofs.ends.emit_log.Goals as goal
 
 pub overflow_add-size : goal.overflow_add-size
 unfolding log_bytes
-overflow_add-size c = omega (arith, c.lines_bytes.ensures, c.group_bytes.ensures)
+overflow_add-size c = omega arith
 
 pub emit_lines-requires : goal.emit_lines-requires
 unfolding log_bytes
-emit_lines-requires c = (omega arith, omega arith, omega (arith, c.requires.2))
+emit_lines-requires c = omega arith
 
 pub overflow_add-at : goal.overflow_add-at
 unfolding log_bytes
-overflow_add-at c = omega (arith, c.lines_bytes.ensures, c.group_bytes.ensures)
+overflow_add-at c = omega arith
 
 pub emit_settled-requires : goal.emit_settled-requires
 unfolding log_bytes
-emit_settled-requires c = omega (arith, c.lines_bytes.ensures, c.group_bytes.ensures, c.emit_lines.auto.tape)
+emit_settled-requires c = omega arith
 
 pub overflow_add-at-2 : goal.overflow_add-at-2
 unfolding log_bytes
-overflow_add-at-2 c = omega (arith, c.lines_bytes.ensures, c.group_bytes.ensures)
+overflow_add-at-2 c = omega arith
 
 pub overflow_add-at-3 : goal.overflow_add-at-3
 unfolding log_bytes
-overflow_add-at-3 c = omega (arith, c.lines_bytes.ensures, c.group_bytes.ensures)
+overflow_add-at-3 c = omega arith
 
 pub emit_replay-requires : goal.emit_replay-requires
 unfolding log_bytes
-emit_replay-requires c = (omega (arith, c.lines_bytes.ensures, c.group_bytes.ensures, c.emit_lines.auto.tape, c.emit_settled.auto.tape), omega arith, omega (arith, c.requires.2))
+emit_replay-requires c = omega arith
 
 pub returns : goal.returns
 returns c =
-    let hs = logged c.args.k c.args.src.now in
-    log-chain c.args.way hs c.args.k (logged-lines c.args.k c.args.src.now c.requires.1) (logged-length c.args.k c.args.src.now) c.args.same c.args.root (omega (arith, c.requires.2)) c.args.tape.now _ _ _ c.args.at _ (omega (arith, c.lines_bytes.ensures, c.group_bytes.ensures)) c.emit_lines.ensures c.emit_settled.ensures c.emit_replay.ensures
+    let hs = logged c.args.log.count c.args.log.src.now in
+    log-chain c.args.way hs c.args.log.count (logged-lines c.args.log.count c.args.log.src.now c.args.log.there) (logged-length c.args.log.count c.args.log.src.now) c.args.same c.args.root (omega arith) c.args.tape.now _ _ _ c.args.at _ (omega arith) c.emit_lines.ensures c.emit_settled.ensures c.emit_replay.ensures

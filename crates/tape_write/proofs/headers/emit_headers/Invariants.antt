@@ -1,8 +1,7 @@
 -- `emit_headers`: the stores that are left, over what is written, are the whole.
 -- Assumes nothing.
-use Prim.Native.Nat.{◌+◌, ◌-◌, ◌≤◌}
+use Prim.Native.Nat.{◌+◌, ◌-◌}
 use mathlib.Core.Path.{◌≡◌}
-use lib.ListN.{length}
 use lib.Seq.{sets}
 use Rattle.device.specs.Tape.{tape_bytes}
 use Rattle.journal.specs.Recovery.{lines_from, logged}
@@ -11,7 +10,4 @@ use Rattle.tape_write.specs.Sizes.{lines_bytes}
 use Rattle.tape_write.proofs.headers.emit_headers.Given as goal
 
 abbrev pub invariant-loop-i : goal.invariant-loop-i
-invariant-loop-i l = (l.i ≤ l.k) × (length l.tape ≡ length l.initial.tape) × (sets l.tape (l.at + lines_bytes l.way l.i) (tape_bytes (line_stores l.way l.own (l.i + 1) (lines_from (l.k - l.i) (l.i + 1) l.src))) ≡ sets l.initial.tape l.at (tape_bytes (line_stores l.way l.own 1 (logged l.k l.src))))
-
-abbrev pub decreases-loop-i : goal.decreases-loop-i
-decreases-loop-i l = l.k - l.i
+invariant-loop-i l = sets l.tape (l.at + lines_bytes l.way l.i) (tape_bytes (line_stores l.way l.own (l.i + 1) (lines_from (l.log.count - l.i) (l.i + 1) l.src))) ≡ sets l.initial.tape l.at (tape_bytes (line_stores l.way l.own 1 (logged l.log.count l.src)))

@@ -1,16 +1,13 @@
 -- `emit_words`: the stores that are left, over what is written, are the whole.
 -- Assumes nothing.
-use Prim.Native.Nat.{◌+◌, ◌-◌, ◌*◌, ◌≤◌}
+use Prim.Native.Nat.{◌+◌, ◌*◌}
 use mathlib.Core.Path.{◌≡◌}
 use mathlib.Core.List.{map}
-use lib.ListN.{length, take, drop}
+use lib.ListN.{drop}
 use lib.Seq.{sets}
 use Rattle.device.specs.Tape.{tape_bytes}
 use Rattle.tape_write.specs.Words.{word_store}
 use Rattle.tape_write.proofs.words.emit_words.Given as goal
 
 abbrev pub invariant-loop-i : goal.invariant-loop-i
-invariant-loop-i l = (l.i ≤ l.n) × (length l.tape ≡ length l.initial.tape) × (sets l.tape (l.at + 12 * l.i) (tape_bytes (map (word_store l.work) (drop l.i (take l.n l.words)))) ≡ sets l.initial.tape l.at (tape_bytes (map (word_store l.work) (take l.n l.words))))
-
-abbrev pub decreases-loop-i : goal.decreases-loop-i
-decreases-loop-i l = l.n - l.i
+invariant-loop-i l = sets l.tape (l.at + 12 * l.i) (tape_bytes (map (word_store l.work) (drop l.i l.words))) ≡ sets l.initial.tape l.at (tape_bytes (map (word_store l.work) l.words))

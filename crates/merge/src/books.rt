@@ -177,10 +177,5 @@ pub(crate) fn takes_next(first: &[u8], second: &[u8], at: Cursors, n: usize, s: 
 pub(crate) fn smaller_key(at: Cursors) -> u64
     ensures { result ≡ min at.first.key at.second.key }
 {
-    let a = at.first.key;
-    let b = at.second.key;
-    if a < b {
-        return a;
-    }
-    b
+    at.first.key.min(at.second.key)
 }

@@ -28,7 +28,8 @@ pub(crate) fn takes(n: usize, s: usize, z: usize) -> bool
     s + z <= 960
 }
 
-// How many leaves the records of both fill: the last has n records of s bytes so far.
+// How many leaves the records of both fill: the last has n records of s bytes so far. The loop counts no index: it goes from record to record
+// of two books.
 pub(crate) fn count_leaves(first: &[u8], second: &[u8]) -> Counted
     requires { (sound first.now ≡ true) × (sound second.now ≡ true) }
     ensures { result ≡ pick (apart (table first.now) (table second.now)) (Counted.Leaves (length (leaves_of (merged (table first.now) (table second.now))))) Counted.InBoth }
@@ -55,7 +56,8 @@ pub(crate) fn count_leaves(first: &[u8], second: &[u8]) -> Counted
     Counted::Leaves(leaves)
 }
 
-// Fills a leaf with the records that come next, as many as it takes, and gives the place after them.
+// Fills a leaf with the records that come next, as many as it takes, and gives the place after them. The loop counts no index: it ends where a
+// record does not fit.
 pub(crate) fn fill_leaf(
     page: &mut [u8],
     own: usize,
@@ -76,25 +78,22 @@ pub(crate) fn fill_leaf(
     at
 }
 
-// Fills the leaves into the pages from 2 on, and gives their separators: the first is 0, the others are smallest keys.
-pub(crate) fn fill_leaves(out: &mut [u8], first: &[u8], second: &[u8], leaves: usize) -> [u64; 28]
-    requires first_value { (sound first.now ≡ true) × (sound second.now ≡ true) × (leaves ≤ 28) × (page_size * (leaves + 2) ≤ length out.old) }
-    requires second_value { (apart (table first.now) (table second.now) ≡ true) × (leaves ≡ length (leaves_of (merged (table first.now) (table second.now)))) }
-    ensures { (out.new ≡ put_leaves out.old 2 (leaves_of (merged (table first.now) (table second.now)))) × (take leaves result ≡ separators (leaves_of (merged (table first.now) (table second.now)))) }
+// Fills the leaves into the pages from 2 on, one for each separator, and gives the separators: the first is 0, the others are smallest keys.
+pub(crate) fn fill_leaves(out: &mut [u8], seps: &mut [u64], first: &[u8], second: &[u8])
+    requires first_value { (sound first.now ≡ true) × (sound second.now ≡ true) × (length seps.old ≤ 28) × (page_size * (length seps.old + 2) ≤ length out.old) }
+    requires second_value { (apart (table first.now) (table second.now) ≡ true) × (length seps.old ≡ length (leaves_of (merged (table first.now) (table second.now)))) }
+    ensures out_after { out.new ≡ put_leaves out.old 2 (leaves_of (merged (table first.now) (table second.now))) }
+    ensures seps_after { seps.new ≡ separators (leaves_of (merged (table first.now) (table second.now))) }
 {
-    let mut seps = [0u64; 28];
     let mut at = begin(first, second);
-    let mut sep = 0;
-    let mut i = 0;
-    while i < leaves {
-        seps[i] = sep;
+    let mut next = 0;
+    for (i, sep) in seps.iter_mut().enumerate() {
+        *sep = next;
         let a = pages::PAGE_SIZE * (i + 2);
         let e = a + pages::PAGE_SIZE;
         at = fill_leaf(&mut out[a..e], i + 2, first, second, at);
-        sep = smaller_key(at);
-        i += 1;
+        next = smaller_key(at);
     }
-    seps
 }
 
 // Gives the index that is being filled the record of page k.
@@ -107,16 +106,14 @@ pub(crate) fn name_page(page: &mut [u8], h: Header, sep: u64, k: usize) -> Heade
     append_new(page, h, sep, &value)
 }
 
-// Fills the index over the n pages from 2 on, by their separators.
-pub(crate) fn fill_index(page: &mut [u8], seps: [u64; 28], n: usize)
-    requires { (length page.old ≡ page_size) × (n ≤ 28) × All (λ s. s ≤ top_key) (take n seps) }
-    ensures { page.new ≡ fill page.old index_kind 1 (named 2 (take n seps)) }
+// Fills the index over the pages from 2 on, by their separators.
+pub(crate) fn fill_index(page: &mut [u8], seps: &[u64])
+    requires { (length page.old ≡ page_size) × (length seps.now ≤ 28) × All (λ s. s ≤ top_key) seps.now }
+    ensures { page.new ≡ fill page.old index_kind 1 (named 2 seps.now) }
 {
     let mut h = Header::unused(pages::INDEX, 1);
-    let mut i = 0;
-    while i < n {
-        h = name_page(page, h, seps[i], i + 2);
-        i += 1;
+    for (i, sep) in seps.iter().enumerate() {
+        h = name_page(page, h, *sep, i + 2);
     }
     h.write(page);
 }

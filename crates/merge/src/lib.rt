@@ -55,8 +55,10 @@ fn store_leaves(first: &[u8], second: &[u8], out: &mut [u8], leaves: usize) -> A
         return Answer::Refused(Refusal::of(Refusal::PAGES_OUT));
     }
     put_blank(out);
-    let seps = fill_leaves(out, first, second, leaves);
-    fill_index(&mut out[1024..2048], seps, leaves);
+    let mut seps = [0u64; 28];
+    let seps = &mut seps[..leaves];
+    fill_leaves(out, seps, first, second);
+    fill_index(&mut out[1024..2048], seps);
     Answer::Accepted
 }
 

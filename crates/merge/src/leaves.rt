@@ -11,36 +11,33 @@ ghost use Rattle.merge.specs.Tables.{merged, apart};
 ghost use Rattle.merge.specs.Leaves.{leaves_of};
 ghost use Rattle.merge.specs.Cursors.{takes, Ready, apart_at, LeafFilled};
 
-use crate::books::{append_next, begin, next_size, smaller_key, step, takes_next};
+use crate::books::Books;
 use crate::{Counted, Cursors};
 use image::pages;
 use page::header::Header;
 use page_edit::append_new;
 
 // Whether a leaf with n records of s bytes takes one of z bytes: "28 records and 960 bytes".
+#[tactic(auto, unfolding(crate::specs::Cursors::takes))]
 pub(crate) fn takes(n: usize, s: usize, z: usize) -> bool
     requires { (s < page_size) × (z < page_size) }
     ensures { result ≡ takes n s z }
 {
-    if 28 <= n {
-        return false;
-    }
-    s + z <= 960
+    n < 28 && s + z <= 960
 }
 
 // How many leaves the records of both fill: the last has n records of s bytes so far. The loop counts no index: it goes from record to record
 // of two books.
-pub(crate) fn count_leaves(first: &[u8], second: &[u8]) -> Counted
-    requires { (sound first.now ≡ true) × (sound second.now ≡ true) }
-    ensures { result ≡ pick (apart (table first.now) (table second.now)) (Counted.Leaves (length (leaves_of (merged (table first.now) (table second.now))))) Counted.InBoth }
+pub(crate) fn count_leaves(books: &Books<'_>) -> Counted
+    ensures { result ≡ pick (apart (table books.now.first.image.now) (table books.now.second.image.now)) (Counted.Leaves (length (leaves_of (merged (table books.now.first.image.now) (table books.now.second.image.now))))) Counted.InBoth }
 {
-    let mut at = begin(first, second);
+    let mut at = books.begin();
     let mut leaves = 1;
     let mut n = 0;
     let mut s = 0;
     while at.first.key != at.second.key {
-        let z = next_size(first, second, at);
-        at = step(first, second, at);
+        let z = books.next_size(at);
+        at = books.step(at);
         if takes(n, s, z) {
             n += 1;
             s += z;
@@ -58,41 +55,35 @@ pub(crate) fn count_leaves(first: &[u8], second: &[u8]) -> Counted
 
 // Fills a leaf with the records that come next, as many as it takes, and gives the place after them. The loop counts no index: it ends where a
 // record does not fit.
-pub(crate) fn fill_leaf(
-    page: &mut [u8],
-    own: usize,
-    first: &[u8],
-    second: &[u8],
-    from: Cursors,
-) -> Cursors
-    requires { (length page.old ≡ page_size) × Ready first.now second.now from × (apart_at first.now second.now from ≡ true) }
-    ensures { LeafFilled first.now second.now own from page.old result page.new }
+pub(crate) fn fill_leaf(page: &mut [u8], own: usize, books: &Books<'_>, from: Cursors) -> Cursors
+    requires { (length page.old ≡ page_size) × Ready books.now.first.image.now books.now.second.image.now from × (apart_at books.now.first.image.now books.now.second.image.now from ≡ true) }
+    ensures { LeafFilled books.now.first.image.now books.now.second.image.now own from page.old result page.new }
 {
     let mut h = Header::unused(pages::LEAF, own);
     let mut at = from;
-    while takes_next(first, second, at, h.count, 1024 - h.start) {
-        h = append_next(page, h, first, second, at);
-        at = step(first, second, at);
+    while books.takes_next(at, h.count, 1024 - h.start) {
+        h = books.append_next(at, page, h);
+        at = books.step(at);
     }
     h.write(page);
     at
 }
 
 // Fills the leaves into the pages from 2 on, one for each separator, and gives the separators: the first is 0, the others are smallest keys.
-pub(crate) fn fill_leaves(out: &mut [u8], seps: &mut [u64], first: &[u8], second: &[u8])
-    requires first_value { (sound first.now ≡ true) × (sound second.now ≡ true) × (length seps.old ≤ 28) × (page_size * (length seps.old + 2) ≤ length out.old) }
-    requires second_value { (apart (table first.now) (table second.now) ≡ true) × (length seps.old ≡ length (leaves_of (merged (table first.now) (table second.now)))) }
-    ensures out_after { out.new ≡ put_leaves out.old 2 (leaves_of (merged (table first.now) (table second.now))) }
-    ensures seps_after { seps.new ≡ separators (leaves_of (merged (table first.now) (table second.now))) }
+pub(crate) fn fill_leaves(out: &mut [u8], seps: &mut [u64], books: &Books<'_>)
+    requires first_value { (length seps.old ≤ 28) × (page_size * (length seps.old + 2) ≤ length out.old) }
+    requires second_value { (apart (table books.now.first.image.now) (table books.now.second.image.now) ≡ true) × (length seps.old ≡ length (leaves_of (merged (table books.now.first.image.now) (table books.now.second.image.now)))) }
+    ensures out_after { out.new ≡ put_leaves out.old 2 (leaves_of (merged (table books.now.first.image.now) (table books.now.second.image.now))) }
+    ensures seps_after { seps.new ≡ separators (leaves_of (merged (table books.now.first.image.now) (table books.now.second.image.now))) }
 {
-    let mut at = begin(first, second);
+    let mut at = books.begin();
     let mut next = 0;
     for (i, sep) in seps.iter_mut().enumerate() {
         *sep = next;
         let a = pages::PAGE_SIZE * (i + 2);
         let e = a + pages::PAGE_SIZE;
-        at = fill_leaf(&mut out[a..e], i + 2, first, second, at);
-        next = smaller_key(at);
+        at = fill_leaf(&mut out[a..e], i + 2, books, at);
+        next = at.first.key.min(at.second.key);
     }
 }
 

@@ -9,6 +9,7 @@ ghost use Rattle.merge.specs.Tables.{merged, apart};
 ghost use Rattle.merge.specs.Leaves.{leaves_of};
 ghost use Rattle.merge.specs.Calls.{store_leaves, merge_tables, merge_call};
 
+use crate::books::{Book, Books};
 use crate::leaves::{count_leaves, fill_index, fill_leaves};
 use device::{Answer, Refusal, is_image_size};
 use image::calls::check;
@@ -42,11 +43,11 @@ pub enum Counted {
 }
 
 // Writes the leaves and the index over them, if there is room for so many.
-fn store_leaves(first: &[u8], second: &[u8], out: &mut [u8], leaves: usize) -> Answer
-    requires first_value { (sound first.now ≡ true) × (sound second.now ≡ true) × (is_image_size (length out.old) ≡ true) }
-    requires second_value { (apart (table first.now) (table second.now) ≡ true) × (leaves ≡ length (leaves_of (merged (table first.now) (table second.now)))) }
-    ensures value { result ≡ (store_leaves (leaves_of (merged (table first.now) (table second.now))) out.old).answer }
-    ensures out_after { out.new ≡ (store_leaves (leaves_of (merged (table first.now) (table second.now))) out.old).work }
+fn store_leaves(books: &Books<'_>, out: &mut [u8], leaves: usize) -> Answer
+    requires first_value { is_image_size (length out.old) ≡ true }
+    requires second_value { (apart (table books.now.first.image.now) (table books.now.second.image.now) ≡ true) × (leaves ≡ length (leaves_of (merged (table books.now.first.image.now) (table books.now.second.image.now)))) }
+    ensures value { result ≡ (store_leaves (leaves_of (merged (table books.now.first.image.now) (table books.now.second.image.now))) out.old).answer }
+    ensures out_after { out.new ≡ (store_leaves (leaves_of (merged (table books.now.first.image.now) (table books.now.second.image.now))) out.old).work }
 {
     if 28 < leaves {
         return Answer::Refused(Refusal::of(Refusal::INDEX_FULL));
@@ -57,20 +58,24 @@ fn store_leaves(first: &[u8], second: &[u8], out: &mut [u8], leaves: usize) -> A
     put_blank(out);
     let mut seps = [0u64; 28];
     let seps = &mut seps[..leaves];
-    fill_leaves(out, seps, first, second);
+    fill_leaves(out, seps, books);
     fill_index(&mut out[1024..2048], seps);
     Answer::Accepted
 }
 
 // Merges two sound books.
-fn merge_sound(first: &[u8], second: &[u8], out: &mut [u8]) -> Answer
+fn merge_sound<'a>(first: &'a [u8], second: &'a [u8], out: &mut [u8]) -> Answer
     requires { (sound first.now ≡ true) × (sound second.now ≡ true) × (is_image_size (length out.old) ≡ true) }
     ensures value { result ≡ (merge_tables (table first.now) (table second.now) out.old).answer }
     ensures out_after { out.new ≡ (merge_tables (table first.now) (table second.now) out.old).work }
 {
-    match count_leaves(first, second) {
+    let books = Books {
+        first: Book { image: first },
+        second: Book { image: second },
+    };
+    match count_leaves(&books) {
         Counted::InBoth => Answer::Refused(Refusal::of(Refusal::KEY_IN_BOTH)),
-        Counted::Leaves(n) => store_leaves(first, second, out, n),
+        Counted::Leaves(n) => store_leaves(&books, out, n),
     }
 }
 

@@ -19,9 +19,6 @@ the-leaves : (c : In-Leaves) → let a = c.args in
     (apart (table a.first.now) (table a.second.now) ≡ true) × (c.in-Leaves.n ≡ length (leaves_of (merged (table a.first.now) (table a.second.now))))
 the-leaves c = counted-leaves _ _ _ (sym c.count_leaves.ensures ∙ c.in-Leaves.is)
 
-pub store_leaves-requires : goal.store_leaves-requires
-store_leaves-requires c = record { first_value = c.requires; second_value = the-leaves (goal.at.store_leaves-requires c).In-Leaves }
-
 pub returns-in-InBoth : goal.returns-in-InBoth
 unfolding merge_tables
 returns-in-InBoth c =

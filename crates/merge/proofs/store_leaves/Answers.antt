@@ -26,18 +26,18 @@ use Rattle.merge.proofs.store_leaves.Goals.{After-fill_leaves, Else-leaves-gt28}
 
 pub returns-then-leaves-gt28 : goal.returns-then-leaves-gt28
 returns-then-leaves-gt28 c =
-    let done = said (store_leaves (leaves_of (merged (table c.args.first.now) (table c.args.second.now))) c.args.out.now) (refused 10 c.args.out.now) (store_many _ _ (omega (arith, c.if-leaves-gt28.true, c.requires.second_value.1))) in
+    let done = said (store_leaves (leaves_of (merged (table c.args.books.now.first.image.now) (table c.args.books.now.second.image.now))) c.args.out.now) (refused 10 c.args.out.now) (store_many _ _ (omega (arith, c.if-leaves-gt28.true, c.requires.second_value.1))) in
     record { value = ap Refused c.of.ensures ∙ done.0; out_after = done.1 }
 
 pub returns-then-out-leaves : goal.returns-then-out-leaves
 returns-then-out-leaves c =
-    let done = said (store_leaves (leaves_of (merged (table c.args.first.now) (table c.args.second.now))) c.args.out.now) (refused 11 c.args.out.now) (store-short _ _ (omega (arith, c.if-leaves-gt28.false, c.requires.second_value.1)) (omega (arith, c.if-out-leaves.true, c.requires.second_value.1))) in
+    let done = said (store_leaves (leaves_of (merged (table c.args.books.now.first.image.now) (table c.args.books.now.second.image.now))) c.args.out.now) (refused 11 c.args.out.now) (store-short _ _ (omega (arith, c.if-leaves-gt28.false, c.requires.second_value.1)) (omega (arith, c.if-out-leaves.true, c.requires.second_value.1))) in
     record { value = ap Refused c.of-then-out-leaves.ensures ∙ done.0; out_after = done.1 }
 
 -- a store can be made of the leaves
-storable : (c : Else-leaves-gt28) → Storable (leaves_of (merged (table c.args.first.now) (table c.args.second.now)))
+storable : (c : Else-leaves-gt28) → Storable (leaves_of (merged (table c.args.books.now.first.image.now) (table c.args.books.now.second.image.now)))
 storable c =
-    both-storable _ _ c.requires.first_value.0 c.requires.first_value.1 c.requires.second_value.0 (omega (arith, c.if-leaves-gt28.false, c.requires.second_value.1))
+    both-storable _ _ c.args.books.now.first.is_sound c.args.books.now.second.is_sound c.requires.second_value.0 (omega (arith, c.if-leaves-gt28.false, c.requires.second_value.1))
 
 -- page 1 lies in the image
 page-one : (c : After-fill_leaves) → page_size * 1 + page_size ≤ length c.fill_leaves.new.out
@@ -53,7 +53,7 @@ fill_index-requires c =
 
 pub returns : goal.returns
 returns c =
-    let ls = leaves_of (merged (table c.args.first.now) (table c.args.second.now)) in
+    let ls = leaves_of (merged (table c.args.books.now.first.image.now) (table c.args.books.now.second.image.now)) in
     let n = page_count c.args.out.now in
     let room : length ls + 2 ≤ n = omega (arith, c.if-out-leaves.false, c.requires.second_value.1) in
     let done = said (store_leaves ls c.args.out.now) (accepted (stored n ls)) (store-fits ls c.args.out.now (omega (arith, c.if-leaves-gt28.false, c.requires.second_value.1)) room) in record {

@@ -15,12 +15,7 @@ loop-i-init c = put-starts c.requires.second_value c.begin-at.ensures
 
 -- the next page lies in the image
 inside : (c : In-loop-i) → page_size * (c.loop-i.i + 2) + page_size ≤ length c.loop-i.out
-inside c = omega (arith, c.loop-i-test.true, c.loop-i.invariant.long, c.requires.first_value.3)
-
-pub fill_leaf-at-requires : goal.fill_leaf-at-requires
-fill_leaf-at-requires c =
-    let l = c.loop-i in
-    (length-lent l.out (l.i + 2) (inside (goal.at.fill_leaf-at-requires c).In-loop-i), l.invariant.ready, l.invariant.still)
+inside c = omega (arith, c.loop-i-test.true, c.loop-i.invariant.long, c.requires.first_value.1)
 
 pub loop-i-preserved : goal.loop-i-preserved
 loop-i-preserved c =
@@ -29,10 +24,7 @@ loop-i-preserved c =
     let page = c.fill_leaf-at.new.page in
     let fits = inside (goal.at.loop-i-preserved c).In-loop-i in
     let long = c.fill_leaf-at.auto.page in
-    put_next l.invariant (omega (arith, l.auto.seps)) fits (lent l.out n) c.fill_leaf-at.ensures _ _ (back l.out n page page fits long refl) (long ∙ length-lent l.out n fits) c.smaller_key-next.ensures
+    put_next l.invariant (omega (arith, l.auto.seps)) fits (lent l.out n) c.fill_leaf-at.ensures _ _ (back l.out n page page fits long refl) (long ∙ length-lent l.out n fits) c.min-next.ensures
 
 pub returns-clause-out_after : goal.returns-clause-out_after
 returns-clause-out_after c = (put-ends c.loop-i.invariant (omega (arith, c.loop-i.auto.seps))).0
-
-pub returns-clause-seps_after : goal.returns-clause-seps_after
-returns-clause-seps_after c = (put-ends c.loop-i.invariant (omega (arith, c.loop-i.auto.seps))).1

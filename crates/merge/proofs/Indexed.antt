@@ -5,8 +5,8 @@ use mathlib.Core.Path.{◌≡◌, sym, ap, ◌∙◌}
 use mathlib.Core.List.{List, [], ◌∷◌, map}
 use native.Mathlib.Omega.{arith}
 use native.Mathlib.Numerals.{add-one}
-use lib.ListN.{length, get_or, take, drop, length-take, drop_of_length-le}
-use lib.Seq.{drop-cons, get_or-take}
+use lib.ListN.{length, get_or, drop, drop_of_length-le}
+use lib.Seq.{drop-cons}
 use Rattle.codec.specs.Lists.{splice, All}
 use Rattle.codec.specs.Numbers.{bytes_of}
 use Rattle.codec.proofs.Lists.{splice-over}
@@ -22,7 +22,6 @@ use Rattle.image.specs.Fresh.{separators, named, index_over, stored, Storable, b
 use Rattle.image.proofs.IndexRecords.{sizes-entries}
 use Rattle.image.proofs.FilledPages.{length-named, named-entries}
 use Rattle.image.proofs.Stored.{stored-made}
-use Rattle.image.proofs.CodePages.{All-at}
 
 -- the record of the page k
 pub named-rec : (sep k : ℕ) (v w : List ℕ) → length v ≡ 2 → w ≡ splice v 0 (bytes_of 2 k) → rec_of sep w ≡ index_rec sep k
@@ -30,32 +29,22 @@ unfolding index_rec
 named-rec sep k v w l e = ap (rec_of sep) (e ∙ splice-over v (bytes_of 2 k) (length-bytes_of 2 k ∙ sym l))
 
 -- one record more
-named-next : (ss : List ℕ) (i : ℕ) → i < length ss → named (i + 2) (drop i ss) ≡ index_rec (get_or ss i 0) (i + 2) ∷ named (i + 1 + 2) (drop (i + 1) ss)
+pub named-next : (ss : List ℕ) (i : ℕ) → i < length ss → named (i + 2) (drop i ss) ≡ index_rec (get_or ss i 0) (i + 2) ∷ named (i + 1 + 2) (drop (i + 1) ss)
 unfolding named
 named-next ss i h = let e : suc (i + 2) ≡ suc i + 2 = omega arith in rw (drop-cons ss i 0 h, add-one, e)
 
--- the n of the 28 separators that are used
-module _ (seps : List ℕ) (n : ℕ) (long : length seps ≡ slot_count) (few : n ≤ slot_count) where
-  length-used : length (take n seps) ≡ n
-  length-used = omega (arith, length-take n seps)
+pub named-none : (ss : List ℕ) (i : ℕ) → length ss ≤ i → named (i + 2) (drop i ss) ≡ []
+unfolding named
+named-none ss i h = ap (named (i + 2)) (drop_of_length-le ss {i = i} h)
 
-  pub used-next : (i : ℕ) → i < n → named (i + 2) (drop i (take n seps)) ≡ index_rec (get_or seps i 0) (i + 2) ∷ named (i + 1 + 2) (drop (i + 1) (take n seps))
-  used-next i h =
-      named-next (take n seps) i (omega (arith, length-used)) ∙ ap (λ (s : ℕ). index_rec s (i + 2) ∷ named (i + 1 + 2) (drop (i + 1) (take n seps))) (get_or-take n seps i 0 h)
-
-  pub used_low : All (λ (s : ℕ). s ≤ top_key) (take n seps) → (i : ℕ) → i < n → get_or seps i 0 ≤ top_key
-  used_low a i h = omega (arith, get_or-take n seps i 0 h, All-at (λ (s : ℕ). s ≤ top_key) (take n seps) i 0 a (omega (arith, length-used)))
-
-  pub used-none : (i : ℕ) → n ≤ i → named (i + 2) (drop i (take n seps)) ≡ []
-  unfolding named
-  used-none i h = ap (named (i + 2)) (drop_of_length-le (take n seps) {i = i} (omega (arith, length-used)))
-
+-- at most 28 separators
+module _ (seps : List ℕ) (few : length seps ≤ slot_count) where
   -- 28 records of 24 bytes fit
-  pub index-room : (h : Header) → h ≡ header_of (unused_head index_kind 1) → Room h (named 2 (take n seps))
+  pub index-room : (h : Header) → h ≡ header_of (unused_head index_kind 1) → Room h (named 2 seps)
   index-room h e =
-      let k = length-named 2 (take n seps) in
-      room-unused index_kind 1 h (named 2 (take n seps)) e (omega (arith, k, length-used))
-      (omega (arith, k, length-used, sizes-entries (named 2 (take n seps)) (named-entries 2 (take n seps))))
+      let k = length-named 2 seps in
+      room-unused index_kind 1 h (named 2 seps) e (omega (arith, k))
+      (omega (arith, k, sizes-entries (named 2 seps) (named-entries 2 seps)))
 
 -- ---- the index over leaves
 

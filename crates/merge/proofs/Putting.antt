@@ -8,9 +8,9 @@ use mathlib.Core.List.{List, [], ◌∷◌, ◌++◌, map, append_assoc, append-
 use native.Mathlib.Omega.{arith}
 use native.Mathlib.Numerals.{add-one}
 use lib.ListN.{length, take, set, length-set, drop_of_length-le}
-use lib.Seq.{take-suc-set}
+use lib.Seq.{take-suc-set, take_all}
 use Rattle.codec.specs.Lists.{All}
-use Rattle.page.specs.Layout.{page_size, slot_count, leaf_kind, top_key, Rec}
+use Rattle.page.specs.Layout.{page_size, leaf_kind, top_key, Rec}
 use Rattle.page.specs.Page.{RecOk}
 use Rattle.page.specs.Operations.{fill, page_of, put_page}
 use Rattle.page.proofs.Images.{put-length}
@@ -63,21 +63,20 @@ abbrev all_leaves : List ℕ → List ℕ → List (List Rec)
 all_leaves a b = leaves_of (merged (table a) (table b))
 
 -- i leaves are put, and the leaves ls are left, from the place `at` on; `sep` is the separator of the next
-pub record Putting (a b out₀ : List ℕ) (leaves : ℕ) (out seps : List ℕ) (at : Cursors) (sep i : ℕ) : Type 0 where
+pub record Putting (a b out₀ out seps : List ℕ) (at : Cursors) (sep i : ℕ) : Type 0 where
   pub ready : Ready a b at
   pub still : apart_at a b at ≡ true
   pub ls : List (List Rec)
   pub come : (ls ≡ packed [] (left_of a b at)) ⊎ (ls ≡ [])
-  pub count : i + length ls ≡ leaves
+  pub count : i + length ls ≡ length seps
   pub long : length out ≡ length out₀
-  pub slots : length seps ≡ slot_count
   pub whole : put_leaves out (i + 2) ls ≡ put_leaves out₀ 2 (leaves_of (merged (table a) (table b)))
   pub names : take i seps ++ seps_from sep ls ≡ separators (leaves_of (merged (table a) (table b)))
 
-pub put-starts : {a b out : List ℕ} {leaves : ℕ} {seps : List ℕ} {at : Cursors} → (apart (table a) (table b) ≡ true) × (leaves ≡ length (leaves_of (merged (table a) (table b)))) →
-    length seps ≡ slot_count → Ready a b at × (left_of a b at ≡ merged (table a) (table b)) × (apart_at a b at ≡ apart (table a) (table b)) → Putting a b out leaves out seps at 0 0
+pub put-starts : {a b out seps : List ℕ} {at : Cursors} → (apart (table a) (table b) ≡ true) × (length seps ≡ length (leaves_of (merged (table a) (table b)))) →
+    Ready a b at × (left_of a b at ≡ merged (table a) (table b)) × (apart_at a b at ≡ apart (table a) (table b)) → Putting a b out out seps at 0 0
 unfolding leaves_of
-put-starts {a = a} {b = b} h l k =
+put-starts {a = a} {b = b} h k =
     record {
       ready = k.0;
       still = k.2 ∙ h.0;
@@ -85,14 +84,13 @@ put-starts {a = a} {b = b} h l k =
       come = inl (ap (packed []) (sym k.1));
       count = omega (arith, h.1);
       long = refl;
-      slots = l;
       whole = refl;
       names = seps-all (all_leaves a b);
     }
 
-module _ {a b out₀ : List ℕ} {leaves : ℕ} {out seps : List ℕ} {at : Cursors} {sep i : ℕ} (k : Putting a b out₀ leaves out seps at sep i) where
+module _ {a b out₀ out seps : List ℕ} {at : Cursors} {sep i : ℕ} (k : Putting a b out₀ out seps at sep i) where
   -- one leaf more
-  module _ (less : i < leaves) (few : i < slot_count) (fits : page_size * (i + 2) + page_size ≤ length out) {to : Cursors} {p q : List ℕ} (same : p ≡ page_of out (i + 2)) (f : LeafFilled a b (i + 2) at p to q) where
+  module _ (less : i < length seps) (fits : page_size * (i + 2) + page_size ≤ length out) {to : Cursors} {p q : List ℕ} (same : p ≡ page_of out (i + 2)) (f : LeafFilled a b (i + 2) at p to q) where
     leaves-left : k.ls ≡ f.leaf ∷ onward (left_of a b to)
     leaves-left = go k.come
       where
@@ -101,7 +99,7 @@ module _ {a b out₀ : List ℕ} {leaves : ℕ} {out seps : List ℕ} {at : Curs
         go (inr e) = absurd (omega (arith, less, k.count, ap length e))
 
     pub put_next : (out' : List ℕ) (sep' : ℕ) → out' ≡ put_page out (i + 2) q → length q ≡ page_size → sep' ≡ min to.first.key to.second.key →
-        Putting a b out₀ leaves out' (set seps i sep) to sep' (i + 1)
+        Putting a b out₀ out' (set seps i sep) to sep' (i + 1)
     unfolding put_leaves
     put_next out' sep' e l m =
         let rest = onward (left_of a b to) in
@@ -115,9 +113,8 @@ module _ {a b out₀ : List ℕ} {leaves : ℕ} {out seps : List ℕ} {at : Curs
           still = f.still;
           ls = rest;
           come = onward-is (left_of a b to);
-          count = omega (arith, k.count, ap length leaves-left);
+          count = omega (arith, k.count, ap length leaves-left, length-set seps i sep);
           long = ap length e ∙ put-length out q (i + 2) l fits ∙ k.long;
-          slots = length-set seps i sep ∙ k.slots;
           whole =
               ap (λ (n : ℕ). put_leaves out' n rest) on
               ∙ ap (λ (x : List ℕ). put_leaves x (suc (i + 2)) rest) put
@@ -125,7 +122,7 @@ module _ {a b out₀ : List ℕ} {leaves : ℕ} {out seps : List ℕ} {at : Curs
               ∙ k.whole;
           names =
               ap (λ (n : ℕ). take n (set seps i sep) ++ seps_from sep' rest) (add-one i)
-              ∙ ap (λ (x : List ℕ). x ++ seps_from sep' rest) (take-suc-set seps i sep (omega (arith, few, k.slots)))
+              ∙ ap (λ (x : List ℕ). x ++ seps_from sep' rest) (take-suc-set seps i sep less)
               ∙ append_assoc (take i seps) (sep ∷ []) (seps_from sep' rest)
               ∙ ap (λ (x : List ℕ). take i seps ++ (sep ∷ x)) (sym named)
               ∙ sym (ap (λ (x : List (List Rec)). take i seps ++ seps_from sep x) leaves-left)
@@ -133,11 +130,10 @@ module _ {a b out₀ : List ℕ} {leaves : ℕ} {out seps : List ℕ} {at : Curs
         }
 
   -- all are put
-  pub put-ends : leaves ≤ i → (out ≡ put_leaves out₀ 2 (leaves_of (merged (table a) (table b)))) × (take leaves seps ≡ separators (leaves_of (merged (table a) (table b))))
+  pub put-ends : length seps ≤ i → (out ≡ put_leaves out₀ 2 (leaves_of (merged (table a) (table b)))) × (seps ≡ separators (leaves_of (merged (table a) (table b))))
   unfolding put_leaves
   put-ends h =
-      let none : k.ls ≡ [] = drop_of_length-le k.ls {i = 0} (omega (arith, h, k.count)) in
-      let same : leaves ≡ i = omega (arith, h, k.count) in (
+      let none : k.ls ≡ [] = drop_of_length-le k.ls {i = 0} (omega (arith, h, k.count)) in (
         sym (ap (put_leaves out (i + 2)) none) ∙ k.whole,
-        ap (λ (n : ℕ). take n seps) same ∙ sym (append-nil (take i seps)) ∙ sym (ap (λ (x : List (List Rec)). take i seps ++ seps_from sep x) none) ∙ k.names,
+        sym (take_all i seps h) ∙ sym (append-nil (take i seps)) ∙ sym (ap (λ (x : List (List Rec)). take i seps ++ seps_from sep x) none) ∙ k.names,
       )

@@ -45,6 +45,9 @@ pub record IsLeaf (img : List ℕ) (i q : ℕ) : Type 0 where
   pub less : i < length (children img (root_of img))
   pub page : q ≡ child_of (get_or (children img (root_of img)) i (rec_of 0 []))
 
+pub leaf-asked : (img : List ℕ) (i q : ℕ) → sound img ≡ true → (i < length (children img (root_of img))) × (q ≡ child_of (get_or (children img (root_of img)) i (rec_of 0 []))) → IsLeaf img i q
+leaf-asked img i q h k = record { is_sound = h; less = k.0; page = k.1 }
+
 module _ (img : List ℕ) (h : sound img ≡ true) where
   pub root-read : 16 ≤ length img
   root-read = omega (arith, (size-true (length img) (sound-facts img h).size).low)

@@ -1,6 +1,6 @@
 -- Places in both books: the book with the smaller key has the record that comes next.
 -- Assumes nothing.
-use Prim.Native.Nat.{ℕ, suc, ◌≤◌, ◌<◌}
+use Prim.Native.Nat.{ℕ, ◌≤◌, ◌<◌}
 use mathlib.Core.Path.{◌≡◌, refl, sym, ap, ap₂, ◌∙◌}
 use mathlib.Core.Bool.{true, false}
 use mathlib.Core.List.{List, [], ◌∷◌}
@@ -10,12 +10,12 @@ use native.Mathlib.Nat.{not-suc-le-zero}
 use lib.ListN.{length, get_or, take, drop}
 use lib.Seq.{get_or-take}
 use Rattle.codec.specs.Lists.{All}
-use Rattle.page.specs.Layout.{page_size, top_key, Rec, rec_of, size}
+use Rattle.page.specs.Layout.{page_size, Rec, rec_of, size}
 use Rattle.page.specs.Page.{RecOk}
 use Rattle.page.proofs.Totals.{size-most}
 use Rattle.image.specs.Table.{table}
 use Rattle.merge.specs.Tables.{merged, apart}
-use Rattle.merge.specs.Cursors.{left_at, Stands, Ready, left_of, apart_at, Passed, takes, takes_next}
+use Rattle.merge.specs.Cursors.{Comes, left_at, Stands, Ready, left_of, apart_at, Passed, takes, takes_next}
 use Rattle.merge.specs.declared.Cursor.{Cursor}
 use Rattle.merge.specs.declared.Cursors.{Cursors}
 use Rattle.merge.proofs.Tables.{next-first, next-second, keys-equal, All-merged}
@@ -48,12 +48,6 @@ pub ready-begun : {a b : List ℕ} {c d : Cursor} → Stands a c × (left_at a c
     Ready a b at × (left_of a b at ≡ merged (table a) (table b)) × (apart_at a b at ≡ apart (table a) (table b))
 unfolding left_of apart_at
 ready-begun p q = (record { first = p.0; second = q.0 }, ap₂ merged p.1 q.1, ap₂ apart p.1 q.1)
-
--- the record that comes next is that of the place c of the book img
-pub record Comes (a b : List ℕ) (at : Cursors) (img : List ℕ) (c : Cursor) : Type 0 where
-  pub stands : Stands img c
-  pub some : c.key < suc top_key
-  pub one : take 1 (left_of a b at) ≡ take 1 (left_at img c)
 
 module _ {a b : List ℕ} {at : Cursors} (R : Ready a b at) where
   abbrev t : List Rec
@@ -97,9 +91,6 @@ module _ {a b : List ℕ} {at : Cursors} (R : Ready a b at) where
         }
 
 -- ---- its size, and whether a leaf takes it
-
-pub comes-size : {a b : List ℕ} {at : Cursors} {img : List ℕ} {c : Cursor} → Comes a b at img c → size (get_or (left_at img c) 0 (rec_of 0 [])) ≡ size (get_or (left_of a b at) 0 (rec_of 0 []))
-comes-size {a} {b} {at} {img} {c} k = ap size (sym (first_of (left_of a b at) (left_at img c) (rec_of 0 []) k.one))
 
 comes-some : {a b : List ℕ} {at : Cursors} {img : List ℕ} {c : Cursor} → Comes a b at img c → 0 < length (left_of a b at)
 comes-some {a} {b} {at} {img} {c} k = first_some (left_of a b at) (left_at img c) k.one (omega (arith, ap length (left-next k.stands k.some 0)))

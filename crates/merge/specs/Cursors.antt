@@ -1,6 +1,6 @@
 -- Places in two books, as the code goes through both in key order: what is left of each, and what its functions ask for and hand on.
 -- Assumes nothing.
-use Rattle.std.specs.Prelude.{ℕ, suc, ◌+◌, ◌-◌, ◌<◌, ◌≡◌, ◌⊎◌, Bool, true, false, ◌&&◌, List, [], ◌∷◌, ◌++◌, length, get_or, drop, ltb, leb}
+use Rattle.std.specs.Prelude.{ℕ, suc, ◌+◌, ◌-◌, ◌<◌, ◌≡◌, ◌⊎◌, Bool, true, false, ◌&&◌, List, [], ◌∷◌, ◌++◌, length, get_or, take, drop, ltb, leb}
 use Rattle.page.specs.Layout.{page_size, line_size, slot_count, leaf_kind, top_key, Rec, rec_of, size}
 use Rattle.page.specs.Page.{records}
 use Rattle.page.specs.Operations.{fill, page_of}
@@ -39,6 +39,12 @@ left_of a b at = merged (left_at a at.first) (left_at b at.second)
 
 unfoldable pub apart_at : List ℕ → List ℕ → Cursors → Bool
 apart_at a b at = apart (left_at a at.first) (left_at b at.second)
+
+-- the record that comes next is that of the place c of the book img
+pub record Comes (a b : List ℕ) (at : Cursors) (img : List ℕ) (c : Cursor) : Type 0 where
+  pub stands : Stands img c
+  pub some : c.key < suc top_key
+  pub one : take 1 (left_of a b at) ≡ take 1 (left_at img c)
 
 -- from the place `at` one record was passed
 pub record Passed (a b : List ℕ) (at to : Cursors) : Type 0 where

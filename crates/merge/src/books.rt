@@ -1,12 +1,12 @@
 // Two books, record by record, in key order.
-ghost use Rattle.std.specs.Prelude.{◌≡◌, true, [], suc, ◌<◌, min, length, get_or, take, drop};
+ghost use Rattle.std.specs.Prelude.{◌≡◌, true, [], suc, ◌<◌, length, get_or, take, drop};
 ghost use Rattle.page.specs.Layout.{page_size, top_key, rec_of, size};
 ghost use Rattle.page_edit.specs.Filling.{Room, Filled};
 ghost use Rattle.image.specs.PageZero.{root_of};
 ghost use Rattle.image.specs.Image.{child_of, children, sound};
 ghost use Rattle.image.specs.Table.{leaf_records, table};
 ghost use Rattle.merge.specs.Tables.{merged, apart};
-ghost use Rattle.merge.specs.Cursors.{left_at, Stands, Ready, left_of, apart_at, Passed, takes_next};
+ghost use Rattle.merge.specs.Cursors.{left_at, Stands, Ready, left_of, apart_at, Comes, Passed, takes_next};
 
 use crate::leaves::takes;
 use crate::{Cursor, Cursors};
@@ -17,170 +17,151 @@ use page_edit::append_copy;
 
 // ---- one book
 
-// Before the first record of a leaf.
-pub(crate) fn on_leaf(image: &[u8], leaf: usize, page: usize) -> Cursor
-    requires { (sound image.now ≡ true) × (leaf < length (children image.now (root_of image.now))) × (page ≡ child_of (get_or (children image.now (root_of image.now)) leaf (rec_of 0 []))) }
-    ensures { Stands image.now result × (left_at image.now result ≡ leaf_records image.now (drop leaf (children image.now (root_of image.now)))) }
-{
-    let p = pages::page_of(image, page);
-    if pages::count(p) == 0 {
-        return Cursor {
+// A sound image, read as a book. The places in it are no part of it: what says that a place is one has two cases (`Stands`), and a ghost field of
+// that needs a law in specs/, where no laws stand.
+#[derive(Clone, Copy)]
+pub(crate) struct Book<'a> {
+    pub(crate) image: &'a [u8],
+    ghost is_sound: { sound image.now ≡ true },
+}
+
+impl Book<'_> {
+    // Before the first record of a leaf.
+    fn on_leaf(&self, leaf: usize, page: usize) -> Cursor
+        requires { (leaf < length (children self.now.image.now (root_of self.now.image.now))) × (page ≡ child_of (get_or (children self.now.image.now (root_of self.now.image.now)) leaf (rec_of 0 []))) }
+        ensures { Stands self.now.image.now result × (left_at self.now.image.now result ≡ leaf_records self.now.image.now (drop leaf (children self.now.image.now (root_of self.now.image.now)))) }
+    {
+        let p = pages::page_of(self.image, page);
+        let key = if pages::count(p) == 0 {
+            pages::KEYS_END
+        } else {
+            pages::key_at(p, 0)
+        };
+        Cursor {
             leaf,
             page,
             slot: 0,
-            key: pages::KEYS_END,
-        };
+            key,
+        }
     }
-    Cursor {
-        leaf,
-        page,
-        slot: 0,
-        key: pages::key_at(p, 0),
+
+    // Before the first record.
+    fn begin(&self) -> Cursor
+        ensures { Stands self.now.image.now result × (left_at self.now.image.now result ≡ table self.now.image.now) }
+    {
+        let index = pages::page_of(self.image, root_of(self.image));
+        self.on_leaf(0, pages::child_at(index, 0))
     }
-}
 
-// Before the first record of a book.
-pub(crate) fn begin_book(image: &[u8]) -> Cursor
-    requires { sound image.now ≡ true }
-    ensures { Stands image.now result × (left_at image.now result ≡ table image.now) }
-{
-    let index = pages::page_of(image, root_of(image));
-    on_leaf(image, 0, pages::child_at(index, 0))
-}
-
-// Past the record that comes next. No leaf after another is empty.
-pub(crate) fn advance(image: &[u8], at: Cursor) -> Cursor
-    requires { Stands image.now at × (at.key < suc top_key) }
-    ensures { Stands image.now result × (left_at image.now result ≡ drop 1 (left_at image.now at)) }
-{
-    let p = pages::page_of(image, at.page);
-    let slot = at.slot + 1;
-    if slot < pages::count(p) {
-        return Cursor {
-            leaf: at.leaf,
-            page: at.page,
+    // Past the record that comes next. No leaf after another is empty.
+    fn advance(&self, at: Cursor) -> Cursor
+        requires { Stands self.now.image.now at × (at.key < suc top_key) }
+        ensures { Stands self.now.image.now result × (left_at self.now.image.now result ≡ drop 1 (left_at self.now.image.now at)) }
+    {
+        let p = pages::page_of(self.image, at.page);
+        let slot = at.slot + 1;
+        if slot < pages::count(p) {
+            let key = pages::key_at(p, slot);
+            return Cursor { slot, key, ..at };
+        }
+        let index = pages::page_of(self.image, root_of(self.image));
+        let leaf = at.leaf + 1;
+        if leaf < pages::count(index) {
+            return self.on_leaf(leaf, pages::child_at(index, leaf));
+        }
+        Cursor {
             slot,
-            key: pages::key_at(p, slot),
-        };
+            key: pages::KEYS_END,
+            ..at
+        }
     }
-    let index = pages::page_of(image, root_of(image));
-    let leaf = at.leaf + 1;
-    if leaf < pages::count(index) {
-        return on_leaf(image, leaf, pages::child_at(index, leaf));
-    }
-    Cursor {
-        leaf: at.leaf,
-        page: at.page,
-        slot,
-        key: pages::KEYS_END,
-    }
-}
 
-// The size of the record that comes next.
-pub(crate) fn size_in(image: &[u8], at: Cursor) -> usize
-    requires { Stands image.now at × (at.key < suc top_key) }
-    ensures { result ≡ size (get_or (left_at image.now at) 0 (rec_of 0 [])) }
-{
-    pages::size_at(pages::page_of(image, at.page), at.slot)
-}
+    // The size of the record that comes next.
+    fn size_at(&self, at: Cursor) -> usize
+        requires { Stands self.now.image.now at × (at.key < suc top_key) }
+        ensures { result ≡ size (get_or (left_at self.now.image.now at) 0 (rec_of 0 [])) }
+    {
+        pages::size_at(pages::page_of(self.image, at.page), at.slot)
+    }
 
-// Copies the record that comes next to a page that is being filled.
-pub(crate) fn append_in(page: &mut [u8], h: Header, image: &[u8], at: Cursor) -> Header
-    requires { (length page.old ≡ page_size) × Stands image.now at × (at.key < suc top_key) × Room h (take 1 (left_at image.now at)) }
-    ensures { Filled h page.old (take 1 (left_at image.now at)) result page.new }
-{
-    let p = pages::page_of(image, at.page);
-    append_copy(page, h, p, pages::slot_at(p, at.slot))
+    // Copies the record that comes next to a page that is being filled.
+    fn append_at(&self, at: Cursor, page: &mut [u8], h: Header) -> Header
+        requires { (length page.old ≡ page_size) × Stands self.now.image.now at × (at.key < suc top_key) × Room h (take 1 (left_at self.now.image.now at)) }
+        ensures { Filled h page.old (take 1 (left_at self.now.image.now at)) result page.new }
+    {
+        let p = pages::page_of(self.image, at.page);
+        append_copy(page, h, p, pages::slot_at(p, at.slot))
+    }
 }
 
 // ---- both: of two different keys the smaller comes next; that of a book without a next record is past all others
 
-// Before the first record of each.
-pub(crate) fn begin(first: &[u8], second: &[u8]) -> Cursors
-    requires { (sound first.now ≡ true) × (sound second.now ≡ true) }
-    ensures { Ready first.now second.now result × (left_of first.now second.now result ≡ merged (table first.now) (table second.now)) × (apart_at first.now second.now result ≡ apart (table first.now) (table second.now)) }
-{
-    let a = begin_book(first);
-    let b = begin_book(second);
-    Cursors {
-        first: a,
-        second: b,
-    }
+#[derive(Clone, Copy)]
+pub(crate) struct Books<'a> {
+    pub(crate) first: Book<'a>,
+    pub(crate) second: Book<'a>,
 }
 
-// Past the record that comes next.
-pub(crate) fn step(first: &[u8], second: &[u8], at: Cursors) -> Cursors
-    requires { Ready first.now second.now at × (at.first.key ≡ at.second.key → ⊥) }
-    ensures { Passed first.now second.now at result }
-{
-    let a = at.first;
-    let b = at.second;
-    if a.key < b.key {
-        let next = advance(first, a);
-        return Cursors {
-            first: next,
-            second: b,
-        };
+impl<'a> Books<'a> {
+    // Before the first record of each.
+    pub(crate) fn begin(&self) -> Cursors
+        ensures { Ready self.now.first.image.now self.now.second.image.now result × (left_of self.now.first.image.now self.now.second.image.now result ≡ merged (table self.now.first.image.now) (table self.now.second.image.now)) × (apart_at self.now.first.image.now self.now.second.image.now result ≡ apart (table self.now.first.image.now) (table self.now.second.image.now)) }
+    {
+        Cursors {
+            first: self.first.begin(),
+            second: self.second.begin(),
+        }
     }
-    let next = advance(second, b);
-    Cursors {
-        first: a,
-        second: next,
-    }
-}
 
-// The size of the record that comes next.
-pub(crate) fn next_size(first: &[u8], second: &[u8], at: Cursors) -> usize
-    requires { Ready first.now second.now at × (at.first.key ≡ at.second.key → ⊥) }
-    ensures { result ≡ size (get_or (left_of first.now second.now at) 0 (rec_of 0 [])) }
-{
-    let a = at.first;
-    let b = at.second;
-    if a.key < b.key {
-        return size_in(first, a);
+    // The book that has the record that comes next, and the place in it.
+    fn coming(&self, at: Cursors) -> (Book<'a>, Cursor)
+        requires { Ready self.now.first.image.now self.now.second.image.now at × (at.first.key ≡ at.second.key → ⊥) }
+        ensures { Comes self.now.first.image.now self.now.second.image.now at result.0.image.now result.1 }
+    {
+        if at.first.key < at.second.key {
+            (self.first, at.first)
+        } else {
+            (self.second, at.second)
+        }
     }
-    size_in(second, b)
-}
 
-// Copies the record that comes next to a page that is being filled.
-pub(crate) fn append_next(
-    page: &mut [u8],
-    h: Header,
-    first: &[u8],
-    second: &[u8],
-    at: Cursors,
-) -> Header
-    requires ready { Ready first.now second.now at × (at.first.key ≡ at.second.key → ⊥) }
-    requires page_len { (length page.old ≡ page_size) × Room h (take 1 (left_of first.now second.now at)) }
-    ensures { Filled h page.old (take 1 (left_of first.now second.now at)) result page.new }
-{
-    let a = at.first;
-    let b = at.second;
-    if a.key < b.key {
-        return append_in(page, h, first, a);
+    // Past the record that comes next.
+    pub(crate) fn step(&self, at: Cursors) -> Cursors
+        requires { Ready self.now.first.image.now self.now.second.image.now at × (at.first.key ≡ at.second.key → ⊥) }
+        ensures { Passed self.now.first.image.now self.now.second.image.now at result }
+    {
+        if at.first.key < at.second.key {
+            let first = self.first.advance(at.first);
+            return Cursors { first, ..at };
+        }
+        let second = self.second.advance(at.second);
+        Cursors { second, ..at }
     }
-    append_in(page, h, second, b)
-}
 
-// Whether a leaf with n records of s bytes takes the record that comes next, if one comes.
-pub(crate) fn takes_next(first: &[u8], second: &[u8], at: Cursors, n: usize, s: usize) -> bool
-    requires { Ready first.now second.now at × (apart_at first.now second.now at ≡ true) × (s < page_size) }
-    ensures { result ≡ takes_next n s (left_of first.now second.now at) }
-{
-    if at.first.key == at.second.key {
-        return false;
+    // The size of the record that comes next.
+    pub(crate) fn next_size(&self, at: Cursors) -> usize
+        requires { Ready self.now.first.image.now self.now.second.image.now at × (at.first.key ≡ at.second.key → ⊥) }
+        ensures { result ≡ size (get_or (left_of self.now.first.image.now self.now.second.image.now at) 0 (rec_of 0 [])) }
+    {
+        let (book, place) = self.coming(at);
+        book.size_at(place)
     }
-    takes(n, s, next_size(first, second, at))
-}
 
-// The key of the record that comes next, or the end of all keys.
-pub(crate) fn smaller_key(at: Cursors) -> u64
-    ensures { result ≡ min at.first.key at.second.key }
-{
-    let a = at.first.key;
-    let b = at.second.key;
-    if a < b {
-        return a;
+    // Copies the record that comes next to a page that is being filled.
+    pub(crate) fn append_next(&self, at: Cursors, page: &mut [u8], h: Header) -> Header
+        requires ready { Ready self.now.first.image.now self.now.second.image.now at × (at.first.key ≡ at.second.key → ⊥) }
+        requires page_len { (length page.old ≡ page_size) × Room h (take 1 (left_of self.now.first.image.now self.now.second.image.now at)) }
+        ensures { Filled h page.old (take 1 (left_of self.now.first.image.now self.now.second.image.now at)) result page.new }
+    {
+        let (book, place) = self.coming(at);
+        book.append_at(place, page, h)
     }
-    b
+
+    // Whether a leaf with n records of s bytes takes the record that comes next, if one comes.
+    pub(crate) fn takes_next(&self, at: Cursors, n: usize, s: usize) -> bool
+        requires { Ready self.now.first.image.now self.now.second.image.now at × (apart_at self.now.first.image.now self.now.second.image.now at ≡ true) × (s < page_size) }
+        ensures { result ≡ takes_next n s (left_of self.now.first.image.now self.now.second.image.now at) }
+    {
+        at.first.key != at.second.key && takes(n, s, self.next_size(at))
+    }
 }

@@ -9,6 +9,7 @@ ghost use Rattle.merge.specs.Tables.{merged, apart};
 ghost use Rattle.merge.specs.Leaves.{leaves_of};
 ghost use Rattle.merge.specs.Calls.{store_leaves, merge_tables, merge_call};
 
+use crate::books::{Book, Books};
 use crate::leaves::{count_leaves, fill_index, fill_leaves};
 use device::{Cause, Refusal, is_image_size};
 use image::calls::check;
@@ -35,11 +36,11 @@ pub struct Cursors {
 }
 
 // Writes the leaves and the index over them, if there is room for so many.
-fn store_leaves(first: &[u8], second: &[u8], out: &mut [u8], leaves: usize) -> Result<(), Refusal>
-    requires first_value { (sound first.now ≡ true) × (sound second.now ≡ true) × (is_image_size (length out.old) ≡ true) }
-    requires second_value { (apart (table first.now) (table second.now) ≡ true) × (leaves ≡ length (leaves_of (merged (table first.now) (table second.now)))) }
-    ensures value { result ≡ (store_leaves (leaves_of (merged (table first.now) (table second.now))) out.old).answer }
-    ensures out_after { out.new ≡ (store_leaves (leaves_of (merged (table first.now) (table second.now))) out.old).work }
+fn store_leaves(books: &Books<'_>, out: &mut [u8], leaves: usize) -> Result<(), Refusal>
+    requires first_value { is_image_size (length out.old) ≡ true }
+    requires second_value { (apart (table books.now.first.image.now) (table books.now.second.image.now) ≡ true) × (leaves ≡ length (leaves_of (merged (table books.now.first.image.now) (table books.now.second.image.now)))) }
+    ensures value { result ≡ (store_leaves (leaves_of (merged (table books.now.first.image.now) (table books.now.second.image.now))) out.old).answer }
+    ensures out_after { out.new ≡ (store_leaves (leaves_of (merged (table books.now.first.image.now) (table books.now.second.image.now))) out.old).work }
 {
     if 28 < leaves {
         return Err(Refusal::of(Cause::IndexFull));
@@ -48,19 +49,25 @@ fn store_leaves(first: &[u8], second: &[u8], out: &mut [u8], leaves: usize) -> R
         return Err(Refusal::of(Cause::PagesOut));
     }
     put_blank(out);
-    let seps = fill_leaves(out, first, second, leaves);
-    fill_index(&mut out[1024..2048], seps, leaves);
+    let mut seps = [0u64; 28];
+    let seps = &mut seps[..leaves];
+    fill_leaves(out, seps, books);
+    fill_index(&mut out[1024..2048], seps);
     Ok(())
 }
 
 // Merges two sound books.
-fn merge_sound(first: &[u8], second: &[u8], out: &mut [u8]) -> Result<(), Refusal>
+fn merge_sound<'a>(first: &'a [u8], second: &'a [u8], out: &mut [u8]) -> Result<(), Refusal>
     requires { (sound first.now ≡ true) × (sound second.now ≡ true) × (is_image_size (length out.old) ≡ true) }
     ensures value { result ≡ (merge_tables (table first.now) (table second.now) out.old).answer }
     ensures out_after { out.new ≡ (merge_tables (table first.now) (table second.now) out.old).work }
 {
-    let leaves = count_leaves(first, second)?;
-    store_leaves(first, second, out, leaves)
+    let books = Books {
+        first: Book { image: first },
+        second: Book { image: second },
+    };
+    let leaves = count_leaves(&books)?;
+    store_leaves(&books, out, leaves)
 }
 
 // Writes the records of two images as one store into a third buffer, whatever it held.

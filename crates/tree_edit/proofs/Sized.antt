@@ -38,9 +38,6 @@ module _ {p : List ℕ} {new : Put} {v : List ℕ} (can : CanPut p new v) where
   pub made-few : length (made_by new v p) ≤ suc slot_count
   made-few = omega (arith, made-most new.ins new.at (rec_by new v) (records p), few-listed p can.ok)
 
-  pub value-small : length v ≤ value_most
-  value-small = can.good.few
-
   -- at most a record more than a page holds
   pub made-small : sizes (made_by new v p) ≤ page_size - line_size + size_most
   made-small =

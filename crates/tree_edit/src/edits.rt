@@ -152,7 +152,8 @@ pub fn edit(
     }
 }
 
-// Makes the edits of a well-formed list: "Each edit sees those before it". A value is lent as a part of the list.
+// Makes the edits of a well-formed list: "Each edit sees those before it". A value is lent as a part of the list. The loop counts no index: each
+// edit has a size of its own.
 pub fn edit_list(work: &mut [u8], before: &[u8; 64], t: Tree, list: &[u8]) -> Result<Tree, Refusal>
     requires { Good (page_count work.old) (state_of before.now work.old t) × (t.top ≤ 64) × (edit_list list.now ≡ listed (edits_of (edit_list list.now))) }
     ensures { outcome_of before.now work.new result ≡ edits_from 0 (edits_of (edit_list list.now)) (state_of before.now work.old t) }

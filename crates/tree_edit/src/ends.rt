@@ -17,14 +17,11 @@ pub fn marks_of(image: &[u8], root: usize) -> [u8; 64]
     ensures by_index { ((p : ℕ) → get_or result p 0 ≤ 1) × (length result ≡ 64) }
 {
     let page = page_of(image, root);
-    let n = count(page);
     let mut marks = [0u8; 64];
     marks[root] = 1;
-    let mut i = 0;
-    while i < n {
+    for i in 0..count(page) {
         let leaf = child_at(page, i);
         marks[leaf] = 1;
-        i += 1;
     }
     marks
 }
@@ -41,16 +38,9 @@ pub(crate) fn put_back(
     requires { CanPutBack image.now work.old × Spared before.now image.now work.old top }
     ensures { work.new ≡ pages_from (λ (p : ℕ). eqb p 0 || is_marked marks.now p) image.now work.old (page_count image.now) 0 }
 {
-    let n = image.len() / 1024;
-    let mut p = 1;
-    while p < n {
-        if marks[p] != 0 {
-            p += 1;
-        } else if before[p] == 0 && p < top {
-            p += 1;
-        } else {
+    for p in 1..image.len() / 1024 {
+        if marks[p] == 0 && (before[p] != 0 || top <= p) {
             codec::copy(work, 1024 * p, image, 1024 * p, 1024);
-            p += 1;
         }
     }
 }

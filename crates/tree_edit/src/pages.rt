@@ -20,9 +20,7 @@ pub(crate) fn free_below(before: &[u8; 64], top: usize) -> usize
     requires { top ≤ 64 }
     ensures { (unmarked before.now (top - 1) ≡ pick (eqb result 0) [] (result ∷ unmarked before.now (result - 1))) × (result ≤ top) }
 {
-    let mut p = top;
-    while 1 < p {
-        p -= 1;
+    for p in (1..top).rev() {
         if before[p] == 0 {
             return p;
         }

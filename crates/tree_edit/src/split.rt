@@ -32,12 +32,9 @@ pub(crate) fn total_made(page: &[u8], new: Put, value: &[u8]) -> usize
     requires { CanPut page.now new value.now }
     ensures { result ≡ sizes (made_by new value.now page.now) }
 {
-    let n = made_count(page, new.ins);
     let mut sum = 0;
-    let mut k = 0;
-    while k < n {
+    for k in 0..made_count(page, new.ins) {
         sum += size_made(page, new, value, k);
-        k += 1;
     }
     sum
 }
@@ -53,7 +50,8 @@ pub(crate) fn fits_one(page: &[u8], new: Put, value: &[u8]) -> bool
     total_made(page, new, value) <= 960
 }
 
-// How many records the left page takes: "m smallest with twice their bytes at least the total".
+// How many records the left page takes: "m smallest with twice their bytes at least the total". The loop has no last index: it ends where half of
+// the bytes is reached, so a range would be no plainer.
 pub(crate) fn split_point(page: &[u8], new: Put, value: &[u8]) -> usize
     requires { CanPut page.now new value.now }
     ensures { result ≡ split_point (made_by new value.now page.now) }

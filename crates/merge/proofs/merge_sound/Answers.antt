@@ -20,9 +20,6 @@ the-leaves : (c : In_ok-leaves) → let a = c.args in
     (apart (table a.first.now) (table a.second.now) ≡ true) × (c.in_ok-leaves.leaves ≡ length (leaves_of (merged (table a.first.now) (table a.second.now))))
 the-leaves c = counted-leaves _ _ _ (sym c.count_leaves.ensures ∙ c.in_ok-leaves.was)
 
-pub store_leaves-requires : goal.store_leaves-requires
-store_leaves-requires c = record { first_value = c.requires; second_value = the-leaves (goal.at.store_leaves-requires c).In_ok-leaves }
-
 pub returns-in_err-leaves : goal.returns-in_err-leaves
 unfolding merge_tables
 returns-in_err-leaves c =

@@ -7,25 +7,13 @@ use Rattle.merge.proofs.Coming.{passed-less}
 use Rattle.merge.proofs.Counting.{count-starts, small, next_small, count-takes, count-closes, count-twice, count-ends}
 use Rattle.merge.proofs.leaves.count_leaves.Goals as goal
 
-pub begin-at-requires : goal.begin-at-requires
-begin-at-requires c = c.requires
-
 pub loop-at-init : goal.loop-at-init
-loop-at-init c = count-starts c.requires c.begin-at.ensures
-
-pub next_size-z-requires : goal.next_size-z-requires
-next_size-z-requires c = (c.loop-at.invariant.ready, c.loop-at-test.true)
-
-pub step-at-requires : goal.step-at-requires
-step-at-requires c = (c.loop-at.invariant.ready, c.loop-at-test.true)
+loop-at-init c = count-starts (c.args.books.now.first.is_sound, c.args.books.now.second.is_sound) c.begin-at.ensures
 
 pub takes-requires : goal.takes-requires
 takes-requires c =
     let inv = c.loop-at.invariant in
     (omega (arith, small inv), omega (arith, next_small inv c.loop-at-test.true c.next_size-z.ensures))
-
-pub overflow_add-n : goal.overflow_add-n
-overflow_add-n c = let inv = c.loop-at.invariant in omega (arith, inv.count, inv.one.few)
 
 pub overflow_add-s : goal.overflow_add-s
 overflow_add-s c =
@@ -39,9 +27,6 @@ pub loop-at-preserved-then-takes : goal.loop-at-preserved-then-takes
 loop-at-preserved-then-takes c =
     count-takes c.loop-at.invariant c.loop-at-test.true c.next_size-z.ensures c.step-at.ensures
     (sym c.takes.ensures ∙ c.if-takes.true)
-
-pub overflow_add-leaves : goal.overflow_add-leaves
-overflow_add-leaves c = omega (arith, c.loop-at.invariant.few)
 
 pub loop-at-smaller : goal.loop-at-smaller
 loop-at-smaller c = passed-less c.loop-at.invariant.ready c.loop-at-test.true c.step-at.ensures

@@ -6,7 +6,7 @@ use Rattle.merge.proofs.Counting.{Counting}
 use Rattle.merge.proofs.leaves.count_leaves.Given as goal
 
 abbrev pub invariant-loop-at : goal.invariant-loop-at
-invariant-loop-at l = Counting l.first l.second l.at l.leaves l.n l.s
+invariant-loop-at l = Counting l.books.first.image.now l.books.second.image.now l.at l.leaves l.n l.s
 
 abbrev pub decreases-loop-at : goal.decreases-loop-at
-decreases-loop-at l = length (left_of l.first l.second l.at)
+decreases-loop-at l = length (left_of l.books.first.image.now l.books.second.image.now l.at)

@@ -1,15 +1,13 @@
 -- `fill_index`: what is left to be filled in, filled in over what is there, is the whole.
 -- Assumes nothing.
-use Prim.Native.Nat.{◌+◌, ◌-◌, ◌≤◌}
+use Prim.Native.Nat.{◌+◌}
 use mathlib.Core.Path.{◌≡◌}
-use lib.ListN.{length, take, drop}
+use lib.ListN.{length, drop}
 use Rattle.page.specs.Layout.{page_size}
 use Rattle.page_edit.proofs.Filled.{Left}
 use Rattle.image.specs.Fresh.{named}
 use Rattle.merge.proofs.leaves.fill_index.Given as goal
 
 abbrev pub invariant-loop-i : goal.invariant-loop-i
-invariant-loop-i l = (l.i ≤ l.n) × (length l.page ≡ page_size) × Left l.initial.h l.initial.page (named 2 (take l.n l.seps)) l.h l.page (named (l.i + 2) (drop l.i (take l.n l.seps)))
-
-abbrev pub decreases-loop-i : goal.decreases-loop-i
-decreases-loop-i l = l.n - l.i
+invariant-loop-i l =
+    record { long : length l.page ≡ page_size; left : Left l.initial.h l.initial.page (named 2 l.seps) l.h l.page (named (l.i + 2) (drop l.i l.seps)) }

@@ -3,16 +3,12 @@
 use Prim.Native.Nat.{◌-◌}
 use mathlib.Core.Path.{◌≡◌, sym, ◌∙◌}
 use mathlib.Core.Bool.{true}
-use native.Mathlib.Omega.{arith}
 use Rattle.page.specs.Layout.{page_size}
 use Rattle.merge.specs.Cursors.{left_of, takes_next}
 use Rattle.merge.proofs.Coming.{passed-less}
 use Rattle.merge.proofs.Filling.{leaf-starts, leaf-high, takes-differ, leaf_room, leaf-next, leaf-ends}
 use Rattle.merge.proofs.leaves.fill_leaf.Goals as goal
 use Rattle.merge.proofs.leaves.fill_leaf.Goals.{In-loop-page}
-
-pub unused-h-requires : goal.unused-h-requires
-unused-h-requires c = tt
 
 pub loop-page-init : goal.loop-page-init
 loop-page-init c = leaf-starts c.requires c.unused-h.ensures
@@ -27,7 +23,7 @@ takes_next-requires c = let inv = c.loop-page.invariant in (inv.ready, inv.still
 taken : (c : In-loop-page) →
     let l = c.loop-page in
     let a = c.args in
-    takes_next l.h.count (page_size - l.h.start) (left_of a.first.now a.second.now l.at) ≡ true
+    takes_next l.h.count (page_size - l.h.start) (left_of a.books.now.first.image.now a.books.now.second.image.now l.at) ≡ true
 taken c = sym c.takes_next.ensures ∙ c.loop-page-test.true
 
 pub append_next-h-requires : goal.append_next-h-requires
@@ -45,12 +41,6 @@ loop-page-smaller c = let inv = c.loop-page.invariant in passed-less inv.ready (
 pub loop-page-preserved : goal.loop-page-preserved
 loop-page-preserved c =
     leaf-next c.loop-page.invariant (taken (goal.at.loop-page-preserved c).In-loop-page) c.step-at.ensures c.append_next-h.auto.page c.append_next-h.ensures
-
-pub write-requires : goal.write-requires
-write-requires c = omega (arith, c.loop-page.invariant.long)
-
-pub shape_of-page : goal.shape_of-page
-shape_of-page c = c.write.auto.page ∙ c.loop-page.invariant.long ∙ sym c.requires.0
 
 pub returns : goal.returns
 returns c =

@@ -1,37 +1,29 @@
 -- `total_made`: the sum, with the sizes that are left, is the whole.
 -- Assumes nothing.
-use mathlib.Core.Path.{sym, ◌∙◌}
+use Prim.Native.Nat.{◌<◌}
 use native.Mathlib.Omega.{arith}
+use lib.ListN.{length}
 use Rattle.tree_edit.specs.Steps.{made_by}
 use Rattle.tree_edit.proofs.Sized.{made-listed, made-small, sizes-next, sizes-none}
 use Rattle.tree_edit.proofs.split.total_made.Goals as goal
+use Rattle.tree_edit.proofs.split.total_made.Goals.{In-loop-k}
 
-pub made_count-n-requires : goal.made_count-n-requires
-made_count-n-requires c = c.requires.ok
-
-pub loop-k-init : goal.loop-k-init
-loop-k-init c = (omega arith, c.made_count-n.ensures ∙ sym (made-listed c.requires), omega arith)
+-- one record more is left
+left : (c : In-loop-k) → let a = c.args in c.loop-k.k < length (made_by a.new a.value.now a.page.now)
+left c = omega (arith, c.loop-k-test.true, c.made_count-k-end.ensures, made-listed c.requires)
 
 pub size_made-sum-requires : goal.size_made-sum-requires
-size_made-sum-requires c = (c.requires, omega (arith, c.loop-k.invariant.1))
+size_made-sum-requires c = (c.requires, left (goal.at.size_made-sum-requires c).In-loop-k)
 
 pub overflow_add-sum : goal.overflow_add-sum
 overflow_add-sum c =
-    let l = c.loop-k in
-    omega (arith, sizes-next c.requires l.k (omega (arith, l.invariant.1)), made-small c.requires)
-
-pub overflow_add-k : goal.overflow_add-k
-overflow_add-k c = omega arith
-
-pub loop-k-smaller : goal.loop-k-smaller
-loop-k-smaller c = omega arith
+    omega (arith, c.loop-k.invariant, c.size_made-sum.ensures, sizes-next c.requires c.loop-k.k (left (goal.at.overflow_add-sum c).In-loop-k), made-small c.requires)
 
 pub loop-k-preserved : goal.loop-k-preserved
 loop-k-preserved c =
-    let l = c.loop-k in
-    (omega arith, l.invariant.1, omega (arith, c.size_made-sum.ensures, sizes-next c.requires l.k (omega (arith, l.invariant.1))))
+    omega (arith, c.loop-k.invariant, c.size_made-sum.ensures, sizes-next c.requires c.loop-k.k (left (goal.at.loop-k-preserved c).In-loop-k))
 
 pub returns : goal.returns
 returns c =
     let l = c.loop-k in
-    omega (arith, l.invariant.1, l.invariant.2, sizes-none (made_by c.args.new c.args.value.now c.args.page.now) l.k (omega (arith, l.invariant.1)))
+    omega (arith, l.invariant, sizes-none (made_by c.args.new c.args.value.now c.args.page.now) l.k (omega (arith, c.loop-k-test.false, c.made_count-k-end.ensures, made-listed c.requires)))

@@ -1,8 +1,8 @@
--- `size_in`: the record that comes next stands in the leaf's page.
+-- `size_at`: the record that comes next stands in the leaf's page.
 -- Assumes nothing.
 use mathlib.Core.Path.{◌∙◌}
 use Rattle.merge.proofs.Standing.{stands-leaf, leaf-fits, page-laid, slot-less, next-size}
-use Rattle.merge.proofs.books.size_in.Goals as goal
+use Rattle.merge.proofs.books.Book.size_at.Goals as goal
 
 pub page_of-requires : goal.page_of-requires
 page_of-requires c = leaf-fits (stands-leaf c.requires.0)

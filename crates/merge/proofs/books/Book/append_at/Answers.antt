@@ -1,4 +1,4 @@
--- `append_in`: the record that comes next stands in the leaf's page, where its slot says.
+-- `append_at`: the record that comes next stands in the leaf's page, where its slot says.
 -- Assumes nothing.
 use mathlib.Core.Path.{◌≡◌, subst}
 use mathlib.Core.List.{[], ◌∷◌}
@@ -7,8 +7,8 @@ use Rattle.page.specs.Layout.{record_at}
 use Rattle.page_edit.specs.Filling.{Room}
 use Rattle.merge.specs.Cursors.{left_at}
 use Rattle.merge.proofs.Standing.{stands-leaf, leaf-fits, page-laid, page-whole, slot-less, next-stands, next_one}
-use Rattle.merge.proofs.books.append_in.Goals as goal
-use Rattle.merge.proofs.books.append_in.Goals.{After-slot_at}
+use Rattle.merge.proofs.books.Book.append_at.Goals as goal
+use Rattle.merge.proofs.books.Book.append_at.Goals.{After-slot_at}
 
 pub page_of-p-requires : goal.page_of-p-requires
 page_of-p-requires c = leaf-fits (stands-leaf c.requires.1)
@@ -19,7 +19,7 @@ slot_at-requires c =
 
 -- the one record
 one : (c : After-slot_at) →
-    take 1 (left_at c.args.image.now c.args.at) ≡ record_at c.page_of-p.result.now c.slot_at.result ∷ []
+    take 1 (left_at c.args.self.now.image.now c.args.at) ≡ record_at c.page_of-p.result.now c.slot_at.result ∷ []
 one c = next_one c.requires.1 c.requires.2 _ c.page_of-p.ensures _ c.slot_at.ensures
 
 pub append_copy-requires : goal.append_copy-requires

@@ -1,7 +1,7 @@
 -- `begin`: each book from its first record on.
 -- Assumes nothing.
 use Rattle.merge.proofs.Stepping.{ready-begun}
-use Rattle.merge.proofs.books.begin.Goals as goal
+use Rattle.merge.proofs.books.Books.begin.Goals as goal
 
 pub returns : goal.returns
-returns c = ready-begun c.begin_book-a.ensures c.begin_book-b.ensures
+returns c = ready-begun c.begin.ensures c.begin-2.ensures

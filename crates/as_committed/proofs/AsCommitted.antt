@@ -106,10 +106,10 @@ module _ (a work tape bytes : List ℕ) (k : ℕ) (low : 1 ≤ k) (high : k ≤ 
   size-alike : is_image_size (length a) ≡ false → preview_call a bytes k ≡ Err (refusal 1)
   size-alike z = answers-preview a bytes k _ (bad-image (refusal 1) (bad-size z))
 
-  image-alike : (r : Refusal) → check_call a ≡ Err r → ((number_in r) ≡ 4 → NotOpened a r) → preview_call a bytes k ≡ Err r
+  image-alike : (r : Refusal) → check_call a ≡ Err r → (number_in r ≡ 4 → NotOpened a r) → preview_call a bytes k ≡ Err r
   image-alike r c other = go (check-refused a r c)
     where
-      go : NotOpened a r ⊎ ((refusal_at 4 0) ≡ r) → preview_call a bytes k ≡ Err r
+      go : NotOpened a r ⊎ (refusal_at 4 0 ≡ r) → preview_call a bytes k ≡ Err r
       go (inl n) = answers-preview a bytes k _ (bad-image r n)
       go (inr e) = answers-preview a bytes k _ (bad-image r (other (ap (λ (x : Refusal). number_in x) (sym e))))
 
@@ -124,7 +124,7 @@ module _ (a work tape bytes : List ℕ) (k : ℕ) (low : 1 ≤ k) (high : k ≤ 
   edit-most : check_call a ≡ Ok tt → (es : List Edit) → edit_list bytes ≡ listed es → (n i : ℕ) → 8 ≤ n → Grounds a es n i → n ≤ 11
   edit-most c es reads n i eight G = (edits-numbered a es n i (grounds-refuse a (check_sound a c) es (list-proper bytes es reads) n i G (λ z. omega arith))).1
 
-  alike : (way : Way) (r : Refusal) → (10 ≤ (number_in r) → 13 < (number_in r)) → ((number_in r) ≡ 2 → ⊥) → ((number_in r) ≡ 4 → NotOpened a r) → (x : Called) → transactions.Answers way a work tape bytes x → x.answer ≡ Err r → preview_call a bytes k ≡ Err r
+  alike : (way : Way) (r : Refusal) → (10 ≤ number_in r → 13 < number_in r) → (number_in r ≡ 2 → ⊥) → (number_in r ≡ 4 → NotOpened a r) → (x : Called) → transactions.Answers way a work tape bytes x → x.answer ≡ Err r → preview_call a bytes k ≡ Err r
   unfolding accepted_with
   alike way r room other opens _ (transactions.bad-size z) q = size-alike z ∙ ap Err (refused-is 1 0 work tape r q)
   alike way r room other opens _ (transactions.bad-work _ _) q = absurd (other (ap (λ (x : Refusal). number_in x) (sym (refused-is 2 0 work tape r q))))

@@ -21,13 +21,13 @@ AsCommitted =
 -- of a key in range, with the same number and edit number
 abbrev pub RefusedAlike : Type 0
 RefusedAlike =
-    (way : Way) (a work tape bytes : List ℕ) (r : Refusal) → (transaction_call way a work tape bytes).answer ≡ Err r → (10 ≤ (number_in r) → 13 < (number_in r)) → ((number_in r) ≡ 2 → ⊥) → ((number_in r) ≡ 4 → NotOpened a r) →
+    (way : Way) (a work tape bytes : List ℕ) (r : Refusal) → (transaction_call way a work tape bytes).answer ≡ Err r → (10 ≤ number_in r → 13 < number_in r) → (number_in r ≡ 2 → ⊥) → (number_in r ≡ 4 → NotOpened a r) →
     (k : ℕ) → 1 ≤ k → k ≤ 999999999999 → preview_call a bytes k ≡ Err r
 
 -- the transaction's answer is a refusal: the preview's refusal r; or that an edit before that of r has too little room (10 or 11), which a preview does not ask for; or that the image is
 -- unsound (4), where the preview is refused for a list or a key that it comes to first
 abbrev pub RefusedSo : List ℕ → Refusal → Result Commit Refusal → Type 0
-RefusedSo a r answer = (s : Refusal) × (answer ≡ Err s) × ((s ≡ r) ⊎ (((10 ≤ (number_in s)) × ((number_in s) ≤ 11) × (s.edit < r.edit)) ⊎ (((number_in s) ≡ 4) × (check_call a ≡ Err s))))
+RefusedSo a r answer = (s : Refusal) × (answer ≡ Err s) × ((s ≡ r) ⊎ (((10 ≤ number_in s) × (number_in s ≤ 11) × (s.edit < r.edit)) ⊎ ((number_in s ≡ 4) × (check_call a ≡ Err s))))
 
 -- and the other way: where the preview of a key in range is refused, the transaction with a work buffer of the image's length is refused so
 abbrev pub RefusedToo : Type 0

@@ -94,7 +94,7 @@ tape-used way a work tape bytes c e =
     omega (arith, used, tape-most way a w (was-sound way a work tape bytes c e) (target-edited way a work tape bytes c e) (acceptance way a work tape bytes c e).few)
 
 -- the refusals before it have other numbers
-check-other : (a : List ℕ) (r : Refusal) → NotOpened a r ⊎ ((refusal_at 4 0) ≡ r) → (number_in r) ≡ 13 → ⊥
+check-other : (a : List ℕ) (r : Refusal) → NotOpened a r ⊎ (refusal_at 4 0 ≡ r) → number_in r ≡ 13 → ⊥
 check-other a _ (inl (image.bad-size s)) e = omega arith
 check-other a _ (inl (image.wrong-zero s z)) e = omega arith
 check-other a _ (inl (image.mark-waits s k root z)) e = omega arith
@@ -175,7 +175,7 @@ redo-used way a work tape c =
 pub redo-suffices : RedoSuffices
 unfolding recoveries.refused_with recoveries.accepted_with
 redo-suffices way a work tape long r =
-    recover-all way a work tape (λ (x : recoveries.Called). x.answer ≡ Err r → (number_in r) ≡ 13 → ⊥)
+    recover-all way a work tape (λ (x : recoveries.Called). x.answer ≡ Err r → number_in r ≡ 13 → ⊥)
     (λ n l h e thirteen. let z : (refusal_at n 0) ≡ r = cc in omega (arith, (number-same n 0 r l (omega arith) z).0))
     (λ short e thirteen. omega (arith, redo-most way a (page_zero a) refl))
     (λ e thirteen. let z : ◌≡◌ {A = ℕ} 0 1 = cc in omega arith)

@@ -20,7 +20,7 @@ TapeUsed = (way : Way) (a work tape bytes : List ℕ) (c : Commit) → (transact
 
 abbrev pub TapeSuffices : Type 0
 TapeSuffices =
-    (way : Way) (a work tape bytes : List ℕ) → tape_most a ≤ length tape → (r : Refusal) → (transaction_call way a work tape bytes).answer ≡ Err r → (number_in r) ≡ 13 → ⊥
+    (way : Way) (a work tape bytes : List ℕ) → tape_most a ≤ length tape → (r : Refusal) → (transaction_call way a work tape bytes).answer ≡ Err r → number_in r ≡ 13 → ⊥
 
 -- a recovery: 15 logged headers, the root word and the mark's clearing, with two barriers
 abbrev pub redo_most : Way → ℕ
@@ -32,4 +32,4 @@ RedoUsed = (way : Way) (a work tape : List ℕ) (c : Redone) → (recover_call w
 
 abbrev pub RedoSuffices : Type 0
 RedoSuffices =
-    (way : Way) (a work tape : List ℕ) → redo_most way ≤ length tape → (r : Refusal) → (recover_call way a work tape).answer ≡ Err r → (number_in r) ≡ 13 → ⊥
+    (way : Way) (a work tape : List ℕ) → redo_most way ≤ length tape → (r : Refusal) → (recover_call way a work tape).answer ≡ Err r → number_in r ≡ 13 → ⊥

@@ -65,6 +65,6 @@ unfolding cut_by
 attempted-refused img x r q = ap (λ (y : Result Redone Refusal). cut_by img y (recover_call x.way img x.work x.tape).tape x.stop x.choices) q
 
 -- "refused but with 2 or 13"
-pub allowed-numbers : (r : Refusal) → Allowed (Err r) → ((number_in r) ≡ 2) ⊎ ((number_in r) ≡ 13)
+pub allowed-numbers : (r : Refusal) → Allowed (Err r) → (number_in r ≡ 2) ⊎ (number_in r ≡ 13)
 unfolding Allowed
 allowed-numbers r h = h

@@ -139,7 +139,7 @@ attempted_all a (x ∷ xs) = attempted_all (attempted a x) xs
 -- "no recovery in the list is refused but with 2 or 13"
 unfoldable pub Allowed : Result Redone Refusal → Type 0
 Allowed (Ok d) = Unit {0}
-Allowed (Err r) = ((number_in r) ≡ work_size) ⊎ ((number_in r) ≡ tape_short)
+Allowed (Err r) = (number_in r ≡ work_size) ⊎ (number_in r ≡ tape_short)
 
 unfoldable pub AllAllowed : List ℕ → List Attempt → Type 0
 AllAllowed a [] = Unit {0}

@@ -62,7 +62,7 @@ recovery_says (Err r) = Err r
 -- accepted, or refused with 13: what is asked before the tape holds
 unfoldable pub AtTape : Answer → Type 0
 AtTape (Ok done) = Unit {0}
-AtTape (Err r) = (number_in r) ≡ tape_short
+AtTape (Err r) = number_in r ≡ tape_short
 
 -- Two calls that say x and y and leave the work m and n. "Refused: as in the present calls": the same refusal and the same work; or each is
 -- accepted or refused with 13, and where both are accepted, what they leave is so related.

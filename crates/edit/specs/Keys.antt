@@ -50,7 +50,7 @@ made_all (e ∷ es) s = made_all es (made e s)
 -- what is said of edit i, by what is read for its key: "a leaf's 4 comes just before the 8 or 9" (document 02 (b)) and has no edit number
 unfoldable pub key_fault : ℕ → Edit → Option (List Rec) → Answer
 key_fault i e None = Err (refusal unsound)
-key_fault i e (Some t) = pick (eqb (key_rule e t) 0) (Ok tt) (Err ((refusal_at (key_rule e t) i)))
+key_fault i e (Some t) = pick (eqb (key_rule e t) 0) (Ok tt) (Err (refusal_at (key_rule e t) i))
 
 -- the first, or where it is good the second
 abbrev pub or_fault : Answer → Answer → Answer

@@ -283,6 +283,6 @@ module _ (img : List ℕ) (s : sound img ≡ true) (k : ℕ) where
   found-leaf =
       let root = root_of img in
       found-seek k (listing img)
-      ∙ seek-leaf (λ (e : Entry). e.rec) (λ (e : Entry). Ok (Some (record { offset = (e.at + 16); length = (length e.rec.value) }))) (Ok None) img (λ x. page_entries img x) (λ x. recs-page img x) k (height_of img root) (top_place root)
+      ∙ seek-leaf (λ (e : Entry). e.rec) (λ (e : Entry). Ok (Some (record { offset = e.at + 16; length = length e.rec.value }))) (Ok None) img (λ x. page_entries img x) (λ x. recs-page img x) k (height_of img root) (top_place root)
       (sound-tree_in img s).under (omega arith)
       ∙ sym (found-seek k (page_entries img (leaf_for img root k).page))

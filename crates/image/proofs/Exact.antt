@@ -45,7 +45,7 @@ tells img k (e ∷ es) h = go (eqb e.rec.key k) refl (tells img k es h.1)
     on (Err r) d t = t
 
     go : (t : Bool) → eqb e.rec.key k ≡ t → Told img k (recs es) (found_in k es) →
-        Told img k (recs (e ∷ es)) (pick t (Ok (Some (record { offset = (e.at + 16); length = (length e.rec.value) }))) (found_in k es))
+        Told img k (recs (e ∷ es)) (pick t (Ok (Some (record { offset = e.at + 16; length = length e.rec.value }))) (found_in k es))
     go true d t = (rw d (ap Some (sym h.0.value)), ap length h.0.value, h.0.inside)
     go false d t = on (found_in k es) d t
 

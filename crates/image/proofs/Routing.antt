@@ -120,10 +120,10 @@ unfolding find
 find-seek k [] = refl
 find-seek k (r ∷ l) = ap (pick (eqb r.key k) (Some r.value)) (find-seek k l)
 
-pub found-seek : (k : ℕ) (es : List Entry) → found_in k es ≡ seek (λ (e : Entry). e.rec.key) (λ (e : Entry). Ok (Some (record { offset = (e.at + 16); length = (length e.rec.value) }))) (Ok None) k es
+pub found-seek : (k : ℕ) (es : List Entry) → found_in k es ≡ seek (λ (e : Entry). e.rec.key) (λ (e : Entry). Ok (Some (record { offset = e.at + 16; length = length e.rec.value }))) (Ok None) k es
 unfolding found_in
 found-seek k [] = refl
-found-seek k (e ∷ es) = ap (pick (eqb e.rec.key k) (Ok (Some (record { offset = (e.at + 16); length = (length e.rec.value) })))) (found-seek k es)
+found-seek k (e ∷ es) = ap (pick (eqb e.rec.key k) (Ok (Some (record { offset = e.at + 16; length = length e.rec.value })))) (found-seek k es)
 
 -- ---- a next key
 

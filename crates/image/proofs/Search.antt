@@ -102,7 +102,7 @@ module _ (kind own q : ℕ) (p : List ℕ) (ok : page_ok kind own p ≡ true) (k
   z = in_image q (entry_at p 0)
 
   abbrev found : Entry → Result (Option Part) Refusal
-  found e = Ok (Some (record { offset = (e.at + 16); length = (length e.rec.value) }))
+  found e = Ok (Some (record { offset = e.at + 16; length = length e.rec.value }))
 
   listed : recs es ≡ records p
   listed = recs-in_image q (entries p) ∙ recs-entries p

@@ -32,7 +32,7 @@ use Rattle.image.proofs.Says.{lookup-says, start-past, next-says, next-not-read,
 
 -- ---- check's refusals
 
-pub check-refused : (img : List ℕ) (r : Refusal) → check_call img ≡ Err r → NotOpened img r ⊎ ((refusal_at 4 0) ≡ r)
+pub check-refused : (img : List ℕ) (r : Refusal) → check_call img ≡ Err r → NotOpened img r ⊎ (refusal_at 4 0 ≡ r)
 unfolding check_call check_from root_call root_from
 check-refused img r e = go (is_image_size (length img)) refl (page_zero img) refl e
   where
@@ -41,7 +41,7 @@ check-refused img r e = go (is_image_size (length img)) refl (page_zero img) ref
     tree false f = cc
 
     go : (a : Bool) → is_image_size (length img) ≡ a → (z : PageZero) → page_zero img ≡ z → check_from img (pick a (root_from z) (Err (refusal 1))) ≡ Err r →
-        NotOpened img r ⊎ ((refusal_at 4 0) ≡ r)
+        NotOpened img r ⊎ (refusal_at 4 0 ≡ r)
     go false s z q f = let same : refusal 1 ≡ r = cc in inl (subst (NotOpened img) same (bad-size s))
     go true s Wrong q f = let same : refusal 4 ≡ r = cc in inl (subst (NotOpened img) same (wrong-zero s q))
     go true s (Waiting k root) q f = let same : refusal 3 ≡ r = cc in inl (subst (NotOpened img) same (mark-waits s k root q))
@@ -66,10 +66,10 @@ module _ (img : List ℕ) (root : ℕ) (o : Opened img root) (before : List Rec)
 
 -- ---- a refusal of a reading call is check's
 
-pub lookup-refused : (img : List ℕ) (k : ℕ) (r : Refusal) → lookup_call img k ≡ Err r → (check_call img ≡ Err r) ⊎ (((refusal_at 6 0) ≡ r) × ((k < 1) ⊎ (999999999999 < k)))
+pub lookup-refused : (img : List ℕ) (k : ℕ) (r : Refusal) → lookup_call img k ≡ Err r → (check_call img ≡ Err r) ⊎ ((refusal_at 6 0 ≡ r) × ((k < 1) ⊎ (999999999999 < k)))
 lookup-refused img k r e = go (lookup_call img k) (lookup-says img k) e
   where
-    go : (a : Result (Option Part) Refusal) → LookupSays img k a → a ≡ Err r → (check_call img ≡ Err r) ⊎ (((refusal_at 6 0) ≡ r) × ((k < 1) ⊎ (999999999999 < k)))
+    go : (a : Result (Option Part) Refusal) → LookupSays img k a → a ≡ Err r → (check_call img ≡ Err r) ⊎ ((refusal_at 6 0 ≡ r) × ((k < 1) ⊎ (999999999999 < k)))
     go _ (not_opened s n) f = let same : s ≡ r = cc in inl (not-opened-check img s n ∙ ap Err same)
     go _ (bad-leaf root u) f =
         let same : refusal 4 ≡ r = cc in

@@ -46,7 +46,7 @@ find k (r ∷ rs) = pick (eqb r.key k) (Some r.value) (find k rs)
 -- "Lookup answers the value's offset in the image and its length, or missing."
 unfoldable pub found_in : ℕ → List Entry → Result (Option Part) Refusal
 found_in k [] = Ok None
-found_in k (e ∷ es) = pick (eqb e.rec.key k) (Ok (Some (record { offset = (e.at + 16); length = (length e.rec.value) }))) (found_in k es)
+found_in k (e ∷ es) = pick (eqb e.rec.key k) (Ok (Some (record { offset = e.at + 16; length = length e.rec.value }))) (found_in k es)
 
 -- "the smallest key above it, or none": the first of a rising list
 unfoldable pub above : ℕ → List Rec → Result (Option ℕ) Refusal

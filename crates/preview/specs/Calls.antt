@@ -22,8 +22,8 @@ in_image (Err r) = Err r
 
 -- what an edit makes of its own key, where it stands in the list from offset `at` on: the part of the list that is its value, or nothing
 unfoldable pub brings : ℕ → Edit → Result (Option Preview) Refusal
-brings at (insert k v) = Ok (Some (InList (record { offset = (at + head_size); length = (length v) })))
-brings at (update k v) = Ok (Some (InList (record { offset = (at + head_size); length = (length v) })))
+brings at (insert k v) = Ok (Some (InList (record { offset = at + head_size; length = length v })))
+brings at (update k v) = Ok (Some (InList (record { offset = at + head_size; length = length v })))
 brings at (delete k) = Ok None
 
 -- "as the last edit of that key decides": the edits es stand in the list from offset `at` on, and `answer` is what is seen of the key k before them

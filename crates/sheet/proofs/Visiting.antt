@@ -63,7 +63,7 @@ pub record First (k hi : ℕ) (e : Entry) (rest es : List Entry) : Type 0 where
   pub over : k < e.rec.key
   pub below : e.rec.key < hi
   pub next : later e.rec.key es ≡ rest
-  pub found : found_in e.rec.key es ≡ Ok (Some (record { offset = (e.at + 16); length = (length e.rec.value) }))
+  pub found : found_in e.rec.key es ≡ Ok (Some (record { offset = e.at + 16; length = length e.rec.value }))
 
 pub later_first : (k lo : ℕ) (es : List Entry) (hi : ℕ) (e : Entry) (rest : List Entry) → Rising lo (recs es) hi → later k es ≡ e ∷ rest → First k hi e rest es
 unfolding later found_in
@@ -160,7 +160,7 @@ module _ (img : List ℕ) (h : sound img ≡ true) where
       pub rest : List Entry
       pub is : later k (listing img) ≡ entry ∷ rest
       pub key : entry.rec.key ≡ j
-      pub found : lookup_call img j ≡ Ok (Some (record { offset = (entry.at + 16); length = (length entry.rec.value) }))
+      pub found : lookup_call img j ≡ Ok (Some (record { offset = entry.at + 16; length = length entry.rec.value }))
 
     pub looked : (j : ℕ) → next_call img k ≡ Ok (Some j) → Looked j
     unfolding key_ok

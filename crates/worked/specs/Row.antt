@@ -50,7 +50,7 @@ pub data Probe : Type 0 where
 
 unfoldable pub refusal_in : Result Commit Refusal → ℕ
 refusal_in (Ok c) = 0
-refusal_in (Err r) = (number_in r)
+refusal_in (Err r) = number_in r
 
 unfoldable pub edit_number_in : Result Commit Refusal → ℕ
 edit_number_in (Ok c) = 0

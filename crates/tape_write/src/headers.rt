@@ -95,7 +95,7 @@ pub fn emit_headers(way: Way, tape: &mut [u8], at: usize, log: Log, own: bool)
     }
 }
 
-// Writes their flushes.
+// Writes their flushes. Not one function with `emit_headers`: it would take what is written at a line as a closure over the tape, and its contract.
 pub fn flush_headers(tape: &mut [u8], at: usize, log: Log, own: bool)
     requires { at + 4 * log.count ≤ length tape.old }
     ensures { tape.new ≡ sets tape.old at (tape_bytes (line_flushes own 1 (logged log.entry.count log.entry.src.now))) }

@@ -3,7 +3,7 @@
 use Prim.Native.Nat.{ℕ, suc, ◌+◌, ◌-◌, ◌*◌, ◌≤◌, ◌<◌}
 use mathlib.Core.Path.{◌≡◌, refl, sym, ap, ap₂, ◌∙◌}
 use mathlib.Core.Bool.{Bool, true, false, ◌&&◌, and-false}
-use mathlib.Core.List.{List, [], ◌∷◌, ◌++◌}
+use mathlib.Core.List.{List, [], ◌∷◌, ◌++◌, append_assoc}
 use native.Mathlib.Omega.{arith}
 use native.Mathlib.Numerals.{add-one}
 use lib.ListN.{length, get_or, take, drop, length-map, drop_of_length-le}
@@ -11,6 +11,7 @@ use lib.Seq.{sets, take_at}
 use lib.Bits.{bit_or, bit_xor, or_zero_r, xor_self, xor_add_and, and_le_l, and_le_r}
 use lib.Dec.{eqb}
 use borrow.Author.Tests.{ne_eqb, eqb-true, eqb-false}
+use Rattle.std.specs.List.{copy_within}
 use Rattle.codec.specs.Lists.{pick, part, splice, eqs, All}
 use Rattle.codec.proofs.Tests.{eqs-same, eqs-differ, eqs-append}
 use Rattle.codec.proofs.Lists.{length_part, part-drop, drop-splice, splice-sets, sets-append}
@@ -149,6 +150,13 @@ header-past w v p e one =
     ∙ ap (λ (l : List ℕ). part l (page_size * p - page_size) line_size) e
     ∙ part-drop w page_size (page_size * p - page_size) line_size
     ∙ ap (λ (o : ℕ). part w o line_size) f
+
+-- what is copied within a list is a part of it written over another
+pub copied : (s : List ℕ) (to from n : ℕ) → from + n ≤ length s → copy_within s from (from + n) to ≡ splice s to (part s from n)
+unfolding splice part
+copied s to from n fits =
+    let size : from + n - from ≡ n = omega arith in
+    rw (size, length_part s from n fits) (append_assoc (take to s) (part s from n) (drop (to + n) s))
 
 -- one header more, from the i-th of the pages ps on
 module _ (w v v' ps : List ℕ) (i : ℕ) where

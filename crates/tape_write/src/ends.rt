@@ -91,21 +91,17 @@ pub fn emit_header(tape: &mut [u8], at: usize, work: &[u8], page: usize)
 }
 
 // Writes a commit by the log, of the headers of the pages: work takes them in its log lines, and the tape goes by these.
-pub fn emit_by_log(
-    way: Way,
-    work: &mut [u8],
-    tape: &mut [u8],
-    at: usize,
-    pages: &[u8],
-    same: bool,
-)
+pub fn emit_by_log(way: Way, work: &mut [u8], tape: &mut [u8], at: usize, pages: &[u8], same: bool)
     requires { (at + log_bytes way (length pages.now) same ≤ length tape.old) × (length pages.now ≤ 15) × (page_size ≤ length work.old) × All (PageIn work.old) pages.now }
     ensures work_after { work.new ≡ (by_log way [] work.old same (new_headers work.old pages.now)).work }
     ensures tape_after { tape.new ≡ sets tape.old at (tape_bytes (by_log way [] work.old same (new_headers work.old pages.now)).tape) }
 {
     let root = codec::long_at(work, 8);
     log_headers(work, pages);
-    let log = Log { src: work, count: pages.len() };
+    let log = Log {
+        src: work,
+        count: pages.len(),
+    };
     emit_log(way, tape, at, log, same, root);
 }
 

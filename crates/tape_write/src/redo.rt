@@ -72,7 +72,10 @@ pub fn redo(
         return Err(Cause::TapeShort);
     }
     replay(image, work, headers, root);
-    let log = Log { src: image, count: headers };
+    let log = Log {
+        src: image,
+        count: headers,
+    };
     emit_replay(way, tape, 0, log, same, root as u64);
     Ok(Redone {
         bytes,

@@ -103,7 +103,7 @@ pub fn emit_words(tape: &mut [u8], at: usize, work: &[u8], words: &[u16])
     }
 }
 
-// Writes the flushes of the lines that the words lie in.
+// Writes the flushes of the lines that the words lie in. Not one walk with `count_lines`: it would take a closure over the tape, and its contract.
 pub fn emit_flushes(tape: &mut [u8], at: usize, words: &[u16])
     requires { at + 4 * length (lines_past 0 words.now) ≤ length tape.old }
     ensures { tape.new ≡ sets tape.old at (tape_bytes (map flush (lines_past 0 words.now))) }

@@ -24,16 +24,16 @@ loop-p-preserved c =
     let loop = c.loop-p in
     let low : loop.p < 64 = omega (arith, c.requires.0.images.high) in
     elim c.if-before-p-ne0.branch [
-      then-before-p-ne0+then-after-p-ne0+then-not-same_words w ↦ (
+      | then-before-p-ne0+then-after-p-ne0+then-not-same_words w ↦ (
         omega arith,
         rw (w.pages-is, w.k-is) (collects-one (collects-as (changed-page (reached_in a) (reached_in v) a v (length a / page_size) loop.p c.loop-p-test.true (mark-some c.requires.0.was loop.p low w.if-before-p-ne0.true) (mark-some c.requires.0.stays loop.p low w.if-after-p-ne0.true) (sym w.same_words.ensures ∙ w.if-not-same_words.true)) loop.invariant.1)),
       )
-    | else-before-p-ne0 w ↦ (
+      | else-before-p-ne0 w ↦ (
         omega arith,
         rw (w.pages-is, w.k-is) (elim w.else-before-p-ne0.branch [
-          else-before-p-ne0-via-then-before-p-ne0+then-after-p-ne0+else-not-same_words u ↦ collects-as (changed-same (reached_in a) (reached_in v) a v (length a / page_size) loop.p c.loop-p-test.true (sym u.same_words.ensures ∙ u.if-not-same_words.false)) loop.invariant.1
-        | else-before-p-ne0-via-then-before-p-ne0+else-after-p-ne0 u ↦ collects-as (changed-after (reached_in a) (reached_in v) a v (length a / page_size) loop.p c.loop-p-test.true (mark-none c.requires.0.stays loop.p low u.if-after-p-ne0.false)) loop.invariant.1
-        | else-before-p-ne0-via-else-before-p-ne0 u ↦ collects-as (changed-before (reached_in a) (reached_in v) a v (length a / page_size) loop.p c.loop-p-test.true (mark-none c.requires.0.was loop.p low u.if-before-p-ne0.false)) loop.invariant.1
+          | else-before-p-ne0-via-then-before-p-ne0+then-after-p-ne0+else-not-same_words u ↦ collects-as (changed-same (reached_in a) (reached_in v) a v (length a / page_size) loop.p c.loop-p-test.true (sym u.same_words.ensures ∙ u.if-not-same_words.false)) loop.invariant.1
+          | else-before-p-ne0-via-then-before-p-ne0+else-after-p-ne0 u ↦ collects-as (changed-after (reached_in a) (reached_in v) a v (length a / page_size) loop.p c.loop-p-test.true (mark-none c.requires.0.stays loop.p low u.if-after-p-ne0.false)) loop.invariant.1
+          | else-before-p-ne0-via-else-before-p-ne0 u ↦ collects-as (changed-before (reached_in a) (reached_in v) a v (length a / page_size) loop.p c.loop-p-test.true (mark-none c.requires.0.was loop.p low u.if-before-p-ne0.false)) loop.invariant.1
         ]),
       )
     ]

@@ -15,8 +15,8 @@ loop-i-preserved c =
     let loop = c.loop-i in
     let o = c.args.at + 8 * loop.i in
     compare-joined c.args.a.now c.args.b.now c.args.at c.args.n loop.i c.loop-i-test.true (omega arith) (omega arith) loop.differ c.long_at.result c.long_at-in-loop-i.result
-        (λ e. word_same c.args.a.now c.args.b.now (λ i. omega (arith, c.type_inv.a i)) (λ i. omega (arith, c.type_inv.b i)) o (omega arith) (omega arith) (sym c.long_at.ensures ∙ e ∙ c.long_at-in-loop-i.ensures))
-        (λ e. c.long_at.ensures ∙ ap number e ∙ sym c.long_at-in-loop-i.ensures) ∙ loop.invariant
+    (λ e. word_same c.args.a.now c.args.b.now (λ i. omega (arith, c.type_inv.a i)) (λ i. omega (arith, c.type_inv.b i)) o (omega arith) (omega arith) (sym c.long_at.ensures ∙ e ∙ c.long_at-in-loop-i.ensures))
+    (λ e. c.long_at.ensures ∙ ap number e ∙ sym c.long_at-in-loop-i.ensures) ∙ loop.invariant
 
 pub returns : goal.returns
 returns c =

@@ -24,8 +24,8 @@ returns-then-n-page c =
     let loop = c.loop-i in
     let next = ap (claims n loop.marks) (owns-next c.args.image.now c.args.headers loop.i c.number_at-page.result c.loop-i-test.true c.number_at-page.ensures.0) in
     elim c.then-n-page.branch [
-      then-n-page-via-then-n-page w ↦ sym (next ∙ claims-past n loop.marks c.number_at-page.result _ w.if-n-page.true) ∙ loop.invariant
-    | then-n-page-via-else-n-page+then-marks-page-ne0 w ↦ sym (next ∙ claims-twice n loop.marks c.number_at-page.result _ w.if-n-page.false w.if-marks-page-ne0.true) ∙ loop.invariant
+      | then-n-page-via-then-n-page w ↦ sym (next ∙ claims-past n loop.marks c.number_at-page.result _ w.if-n-page.true) ∙ loop.invariant
+      | then-n-page-via-else-n-page+then-marks-page-ne0 w ↦ sym (next ∙ claims-twice n loop.marks c.number_at-page.result _ w.if-n-page.false w.if-marks-page-ne0.true) ∙ loop.invariant
     ]
 
 pub loop-i-preserved : goal.loop-i-preserved

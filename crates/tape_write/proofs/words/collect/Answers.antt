@@ -16,14 +16,14 @@ loop-k-preserved c =
     let loop = c.loop-k in
     let more = c.loop-k-test.true in
     elim c.if-long_at.branch [
-      then-long_at w ↦
-        rw (w.words-is, w.n-is) (
-          simp length-set (omega arith),
-          collects-one (collects-as (differ-other a v loop.k c.args.to more (λ e. w.if-long_at.true (c.long_at.ensures ∙ ap number e ∙ sym c.long_at-in-loop-k.ensures))) loop.invariant.1),
-        )
-    | else-long_at w ↦
-        let same = word_same a v (λ i. omega (arith, c.type_inv.image i)) (λ i. omega (arith, c.type_inv.work i)) (8 * loop.k) (omega arith) (omega arith) (sym c.long_at.ensures ∙ w.if-long_at.false ∙ c.long_at-in-loop-k.ensures) in
-        rw (w.words-is, w.n-is) (omega arith, collects-as (differ_same a v loop.k c.args.to more same) loop.invariant.1)
+      | then-long_at w ↦
+          rw (w.words-is, w.n-is) (
+            simp length-set (omega arith),
+            collects-one (collects-as (differ-other a v loop.k c.args.to more (λ e. w.if-long_at.true (c.long_at.ensures ∙ ap number e ∙ sym c.long_at-in-loop-k.ensures))) loop.invariant.1),
+          )
+      | else-long_at w ↦
+          let same = word_same a v (λ i. omega (arith, c.type_inv.image i)) (λ i. omega (arith, c.type_inv.work i)) (8 * loop.k) (omega arith) (omega arith) (sym c.long_at.ensures ∙ w.if-long_at.false ∙ c.long_at-in-loop-k.ensures) in
+          rw (w.words-is, w.n-is) (omega arith, collects-as (differ_same a v loop.k c.args.to more same) loop.invariant.1)
     ]
 
 pub returns : goal.returns

@@ -12,8 +12,8 @@ loop-k-preserved c =
     let ks = c.args.words.now in
     let loop = c.loop-k in
     elim c.if-line-last.branch [
-      then-line-last w ↦ rw (w.lines-is, w.last-is) (omega arith, omega (arith, ap length (line_other ks loop.k-index c.wide16-line.result c.loop-k-test.true c.wide16-line.ensures.0 loop.last w.if-line-last.true)))
-    | else-line-last w ↦ rw (w.lines-is, w.last-is) (omega arith, omega (arith, ap length (line_same ks loop.k-index c.wide16-line.result c.loop-k-test.true c.wide16-line.ensures.0 loop.last w.if-line-last.false)))
+      | then-line-last w ↦ rw (w.lines-is, w.last-is) (omega arith, omega (arith, ap length (line_other ks loop.k-index c.wide16-line.result c.loop-k-test.true c.wide16-line.ensures.0 loop.last w.if-line-last.true)))
+      | else-line-last w ↦ rw (w.lines-is, w.last-is) (omega arith, omega (arith, ap length (line_same ks loop.k-index c.wide16-line.result c.loop-k-test.true c.wide16-line.ensures.0 loop.last w.if-line-last.false)))
     ]
 
 pub returns : goal.returns

@@ -21,19 +21,19 @@ loop-k-preserved c =
     let ks = c.args.words.now in
     let loop = c.loop-k in
     elim c.if-line-last.branch [
-      then-line-last w ↦
-        let e = line_other ks loop.k-index c.wide16-line.result c.loop-k-test.true c.wide16-line.ensures.0 loop.last w.if-line-last.true in
-        rw (w.tape-is, w.to-is, w.last-is) (
-          omega (arith, ap length e),
-          flush-next loop.tape _ loop.to (loop.to + 4) _ (c.wide16-line.result / 8) w.emit_flush.ensures refl (omega (arith, ap length e))
-              ∙ ap (λ (ls : List ℕ). sets loop.tape loop.to (tape_bytes (map flush ls))) (sym e) ∙ loop.invariant.1,
-        )
-    | else-line-last w ↦
-        let e = line_same ks loop.k-index c.wide16-line.result c.loop-k-test.true c.wide16-line.ensures.0 loop.last w.if-line-last.false in
-        rw (w.tape-is, w.to-is, w.last-is) (
-          omega (arith, ap length e),
-          ap (λ (ls : List ℕ). sets loop.tape loop.to (tape_bytes (map flush ls))) (sym e) ∙ loop.invariant.1,
-        )
+      | then-line-last w ↦
+          let e = line_other ks loop.k-index c.wide16-line.result c.loop-k-test.true c.wide16-line.ensures.0 loop.last w.if-line-last.true in
+          rw (w.tape-is, w.to-is, w.last-is) (
+            omega (arith, ap length e),
+            flush-next loop.tape _ loop.to (loop.to + 4) _ (c.wide16-line.result / 8) w.emit_flush.ensures refl (omega (arith, ap length e))
+                ∙ ap (λ (ls : List ℕ). sets loop.tape loop.to (tape_bytes (map flush ls))) (sym e) ∙ loop.invariant.1,
+          )
+      | else-line-last w ↦
+          let e = line_same ks loop.k-index c.wide16-line.result c.loop-k-test.true c.wide16-line.ensures.0 loop.last w.if-line-last.false in
+          rw (w.tape-is, w.to-is, w.last-is) (
+            omega (arith, ap length e),
+            ap (λ (ls : List ℕ). sets loop.tape loop.to (tape_bytes (map flush ls))) (sym e) ∙ loop.invariant.1,
+          )
     ]
 
 pub returns : goal.returns

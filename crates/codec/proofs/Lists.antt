@@ -228,20 +228,6 @@ module _ {ℓ} {A : Type ℓ} where
   inserted-high d (suc i) zero a (x ∷ l) h k = absurd (not-suc-le-zero h)
   inserted-high d (suc i) (suc j) a (x ∷ l) h k = inserted-high d i j a l (omega arith) (omega arith)
 
-  pub removed-low : (d : A) (i j : ℕ) (l : List A) → j < i → get_or (remove_at i l) j d ≡ get_or l j d
-  unfolding remove_at
-  removed-low d i j [] h = refl
-  removed-low d zero j (x ∷ l) h = absurd (not-suc-le-zero h)
-  removed-low d (suc i) zero (x ∷ l) h = refl
-  removed-low d (suc i) (suc j) (x ∷ l) h = removed-low d i j l (omega arith)
-
-  pub removed-high : (d : A) (i j : ℕ) (l : List A) → i ≤ j → get_or (remove_at i l) j d ≡ get_or l (suc j) d
-  unfolding remove_at
-  removed-high d i j [] h = refl
-  removed-high d zero j (x ∷ l) h = refl
-  removed-high d (suc i) zero (x ∷ l) h = absurd (not-suc-le-zero h)
-  removed-high d (suc i) (suc j) (x ∷ l) h = removed-high d i j l (omega arith)
-
 module _ {ℓ ℓ'} {A : Type ℓ} {B : Type ℓ'} (f : A → B) where
   pub map-insert_at : (i : ℕ) (a : A) (l : List A) → map f (insert_at i a l) ≡ insert_at i (f a) (map f l)
   unfolding insert_at

@@ -7,9 +7,10 @@ use mathlib.Core.Logic.{◌⊎◌, inl, inr}
 use native.Mathlib.Omega.{arith}
 use native.Mathlib.Decide.{dec_lt}
 use native.Mathlib.Numerals.{add-one}
-use native.Mathlib.Nat.{add-zero, add-suc, not-suc-le-zero}
+use native.Mathlib.Nat.{add-zero, not-suc-le-zero}
 use lib.ListN.{length, get_or, take, drop, set, length-append, length-take, length-drop, length-set, take-append-drop, drop_of_length-le, get_or-eq_default}
-use lib.Seq.{sets, sets-eq, take_at, drop_at, take-append-le, drop-append-le, drop-append-add, take-take, drop-drop, take-length, drop-cons, get_or-take, get_or-drop, get_or-set_same, get_or-set_other, set_comm}
+use lib.Seq.{sets, sets-eq, take_at, drop_at, take-append-le, drop-append-le, drop-append-add, drop-drop, take-length, drop-cons, get_or-take, get_or-drop, get_or-set_same, get_or-set_other, set_comm}
+use borrow.Rule.Slice.PartMut.{put_mid}
 use Rattle.codec.specs.Lists.{part, splice, insert_at, remove_at}
 
 -- ---- a part
@@ -61,12 +62,6 @@ module _ (l : List ℕ) (o : ℕ) (new : List ℕ) (fits : o + length new ≤ le
       let h : length (take o l) ≡ o = simp length-take (omega arith) in
       rw (drop_at (take o l) (new ++ drop (o + length new) l) o h) (take_at new (drop (o + length new) l) n e)
 
-  pub take-splice : (a : ℕ) → a ≤ o → take a (splice l o new) ≡ take a l
-  unfolding splice
-  take-splice a h =
-      let k : a ≤ length (take o l) = simp length-take (omega arith) in
-      take-append-le a (take o l) (new ++ drop (o + length new) l) k ∙ take-take a o l h
-
   pub drop-splice : (a : ℕ) → o + length new ≤ a → drop a (splice l o new) ≡ drop a l
   unfolding splice
   drop-splice a h =
@@ -90,6 +85,11 @@ module _ (l : List ℕ) (o : ℕ) (new : List ℕ) (fits : o + length new ≤ le
       part-append-left (take o l) (new ++ drop (o + length new) l) a n k
       ∙ sym (part-append-left (take o l) (drop o l) a n k)
       ∙ ap (λ (x : List ℕ). part x a n) (take-append-drop o l)
+
+-- what a slice is once the part of it from o on, n elements long, was written
+pub put_mid-splice : (l new : List ℕ) (o n : ℕ) → length new ≡ n → put_mid o n l new ≡ splice l o new
+unfolding splice
+put_mid-splice l new o n e = rw (← e, drop-drop) refl
 
 -- what is written at the front of a list is read back from there
 pub part-front : (z x l : List ℕ) (n : ℕ) → l ≡ splice z 0 x → length x ≡ n → n ≤ length z → part l 0 n ≡ x
@@ -187,41 +187,6 @@ sets-next l T j v h e = rw (drop-cons T j 0 h, e, add-one)
 pub sets-done : (l T : List ℕ) (j : ℕ) → length T ≤ j → sets l j (drop j T) ≡ l
 sets-done l T j h = rw (drop_of_length-le T {i = j} h)
 
--- the same from place `at` on
-pub sets-on : (l T : List ℕ) (at i v : ℕ) → i < length T → v ≡ get_or T i 0 → sets l (at + i) (drop i T) ≡ sets (set l (at + i) v) (at + (i + 1)) (drop (i + 1) T)
-sets-on l T at i v h e = rw (drop-cons T i 0 h, e, add-one, add-suc)
-
--- once all is stored, T is written over what was there
-pub sets-whole : (l l₀ T : List ℕ) (at i : ℕ) → length T ≤ i → at + length T ≤ length l₀ → sets l (at + i) (drop i T) ≡ sets l₀ at T → l ≡ splice l₀ at T
-sets-whole l l₀ T at i h fits e =
-    sym (ap (sets l (at + i)) (drop_of_length-le T {i = i} h)) ∙ e ∙ sym (splice-sets l₀ at T fits)
-
--- ---- eight elements, one by one
-
-pub splice-eight : (l : List ℕ) (at b0 b1 b2 b3 b4 b5 b6 b7 : ℕ) → at + 8 ≤ length l →
-    set (set (set (set (set (set (set (set l at b0) (at + 1) b1) (at + 2) b2) (at + 3) b3) (at + 4) b4) (at + 5) b5) (at + 6) b6) (at + 7) b7 ≡ splice l at (b0 ∷ b1 ∷ b2 ∷ b3 ∷ b4 ∷ b5 ∷ b6 ∷ b7 ∷ [])
-splice-eight l at b0 b1 b2 b3 b4 b5 b6 b7 fits =
-    let e1 : at + 1 ≡ suc at = omega arith in
-    let e2 : at + 2 ≡ suc (suc at) = omega arith in
-    let e3 : at + 3 ≡ suc (suc (suc at)) = omega arith in
-    let e4 : at + 4 ≡ suc (suc (suc (suc at))) = omega arith in
-    let e5 : at + 5 ≡ suc (suc (suc (suc (suc at)))) = omega arith in
-    let e6 : at + 6 ≡ suc (suc (suc (suc (suc (suc at))))) = omega arith in
-    let e7 : at + 7 ≡ suc (suc (suc (suc (suc (suc (suc at)))))) = omega arith in
-    rw (e1, e2, e3, e4, e5, e6, e7) (sym (splice-sets l at (b0 ∷ b1 ∷ b2 ∷ b3 ∷ b4 ∷ b5 ∷ b6 ∷ b7 ∷ []) fits))
-
-pub part-eight : (l : List ℕ) (o : ℕ) → o + 8 ≤ length l → part l o 8 ≡ get_or l o 0 ∷ get_or l (o + 1) 0 ∷ get_or l (o + 2) 0 ∷ get_or l (o + 3) 0 ∷ get_or l (o + 4) 0 ∷ get_or l (o + 5) 0 ∷ get_or l (o + 6) 0 ∷ get_or l (o + 7) 0 ∷ []
-unfolding part
-part-eight l o h =
-    let e1 : o + 1 ≡ suc o = omega arith in
-    let e2 : o + 2 ≡ suc (suc o) = omega arith in
-    let e3 : o + 3 ≡ suc (suc (suc o)) = omega arith in
-    let e4 : o + 4 ≡ suc (suc (suc (suc o))) = omega arith in
-    let e5 : o + 5 ≡ suc (suc (suc (suc (suc o)))) = omega arith in
-    let e6 : o + 6 ≡ suc (suc (suc (suc (suc (suc o))))) = omega arith in
-    let e7 : o + 7 ≡ suc (suc (suc (suc (suc (suc (suc o)))))) = omega arith in
-    rw (e1, e2, e3, e4, e5, e6, e7, drop-cons l o 0 (omega arith), drop-cons l (suc o) 0 (omega arith), drop-cons l (suc (suc o)) 0 (omega arith), drop-cons l (suc (suc (suc o))) 0 (omega arith), drop-cons l (suc (suc (suc (suc o)))) 0 (omega arith), drop-cons l (suc (suc (suc (suc (suc o))))) 0 (omega arith), drop-cons l (suc (suc (suc (suc (suc (suc o)))))) 0 (omega arith), drop-cons l (suc (suc (suc (suc (suc (suc (suc o))))))) 0 (omega arith))
-
 -- ---- one element put in or taken out
 
 module _ {ℓ} {A : Type ℓ} where
@@ -262,20 +227,6 @@ module _ {ℓ} {A : Type ℓ} where
   inserted-high d (suc i) j a [] h k = absurd (not-suc-le-zero k)
   inserted-high d (suc i) zero a (x ∷ l) h k = absurd (not-suc-le-zero h)
   inserted-high d (suc i) (suc j) a (x ∷ l) h k = inserted-high d i j a l (omega arith) (omega arith)
-
-  pub removed-low : (d : A) (i j : ℕ) (l : List A) → j < i → get_or (remove_at i l) j d ≡ get_or l j d
-  unfolding remove_at
-  removed-low d i j [] h = refl
-  removed-low d zero j (x ∷ l) h = absurd (not-suc-le-zero h)
-  removed-low d (suc i) zero (x ∷ l) h = refl
-  removed-low d (suc i) (suc j) (x ∷ l) h = removed-low d i j l (omega arith)
-
-  pub removed-high : (d : A) (i j : ℕ) (l : List A) → i ≤ j → get_or (remove_at i l) j d ≡ get_or l (suc j) d
-  unfolding remove_at
-  removed-high d i j [] h = refl
-  removed-high d zero j (x ∷ l) h = refl
-  removed-high d (suc i) zero (x ∷ l) h = absurd (not-suc-le-zero h)
-  removed-high d (suc i) (suc j) (x ∷ l) h = removed-high d i j l (omega arith)
 
 module _ {ℓ ℓ'} {A : Type ℓ} {B : Type ℓ'} (f : A → B) where
   pub map-insert_at : (i : ℕ) (a : A) (l : List A) → map f (insert_at i a l) ≡ insert_at i (f a) (map f l)

@@ -1,18 +1,17 @@
 -- The laws of `number` and `bytes_of`: one law for every width.
 -- Assumes nothing.
 use Prim.Native.Nat.{ℕ, zero, suc, ◌+◌, ◌*◌, ◌/◌, ◌%◌, ◌^◌, ◌≤◌, ◌<◌}
-use mathlib.Core.Path.{◌≡◌, refl, sym, ap, ◌∙◌}
-use mathlib.Core.Bool.{false}
-use mathlib.Core.List.{List, [], ◌∷◌, ◌++◌}
+use mathlib.Core.Path.{◌≡◌, refl, sym, ap, ap₂, ◌∙◌}
+use mathlib.Core.List.{List, [], ◌∷◌}
 use native.Mathlib.Omega.{arith}
 use native.Mathlib.Numerals.{add-one}
-use native.Mathlib.Nat.{pow-suc}
-use lib.ListN.{length, get_or, take, drop}
-use lib.Seq.{drop-cons}
-use Rattle.codec.specs.Lists.{part, splice, eqs, All}
+use native.Mathlib.Nat.{pow-suc, div-div-eq-div-mul, mul_assoc, mul_comm}
+use lib.ListN.{length, get_or, take}
+use lib.Seq.{drop-cons, take-length}
+use Rattle.std.specs.Int.{byte_at, byte_worth, bytes_low_first, sum_through}
+use Rattle.codec.specs.Lists.{part, splice, All}
 use Rattle.codec.specs.Numbers.{number, bytes_of}
-use Rattle.codec.proofs.Tests.{All-take, All-drop, All-get_or, eqs-append, eqs-differ}
-use Rattle.codec.proofs.Lists.{length_part, part-rest, part-splice-same}
+use Rattle.codec.proofs.Lists.{part-splice-same}
 
 pub length-bytes_of : (n v : ℕ) → length (bytes_of n v) ≡ n
 unfolding bytes_of
@@ -47,46 +46,58 @@ number-back l o n v fits small =
     let long : o + length (bytes_of n v) ≤ length l = omega (arith, length-bytes_of n v) in
     ap number (part-splice-same l o (bytes_of n v) long n (length-bytes_of n v)) ∙ number-bytes_of n v small
 
--- equally many bytes that hold the same number are the same
-number_same : (x y : List ℕ) → All (λ (b : ℕ). b < 256) x → All (λ (b : ℕ). b < 256) y → length x ≡ length y → number x ≡ number y → x ≡ y
-number_same x y hx hy e f = sym (bytes_of-number x hx) ∙ ap (λ (n : ℕ). bytes_of n (number x)) e ∙ ap (bytes_of (length y)) f ∙ bytes_of-number y hy
+-- ---- the library's words for a number's bytes
 
--- n bytes more are compared, by the numbers that they hold
-module _ (a b : List ℕ) (ha : (i : ℕ) → get_or a i 0 < 256) (hb : (i : ℕ) → get_or b i 0 < 256) (o n : ℕ) (fa : o + n ≤ length a) (fb : o + n ≤ length b) where
-  all-part : (l : List ℕ) → ((i : ℕ) → get_or l i 0 < 256) → All (λ (b : ℕ). b < 256) (part l o n)
-  unfolding part
-  all-part l h = All-take (λ (b : ℕ). b < 256) n (drop o l) (All-drop (λ (b : ℕ). b < 256) o l (All-get_or (λ (b : ℕ). b < 256) 0 l h))
+number-more : (l : List ℕ) (k : ℕ) → k < length l → number (take (suc k) l) ≡ number (take k l) + get_or l k 0 * 256 ^ k
+unfolding number
+number-more [] k h = absurd (omega arith)
+number-more (b ∷ l) zero h = omega arith
+number-more (b ∷ l) (suc k) h =
+    let g = get_or l k 0 in
+    let e : g * 256 ^ suc k ≡ 256 * (g * 256 ^ k) = ap (λ (m : ℕ). g * m) (pow-suc 256 k) ∙ sym (mul_assoc g (256 ^ k) 256) ∙ mul_comm (g * 256 ^ k) 256 in
+    omega (arith, e, number-more l k (omega arith))
 
-  pub eqs-same-part : number (part a o n) ≡ number (part b o n) → eqs (drop o a) (drop o b) ≡ eqs (drop (o + n) a) (drop (o + n) b)
-  eqs-same-part e =
-      let same : part a o n ≡ part b o n = number_same (part a o n) (part b o n) (all-part a ha) (all-part b hb) (length_part a o n fa ∙ sym (length_part b o n fb)) e in
-      ap (λ (x : List ℕ). eqs x (drop o b)) (part-rest a o n ∙ ap (λ (x : List ℕ). x ++ drop (o + n) a) same)
-      ∙ ap (eqs (part b o n ++ drop (o + n) a)) (part-rest b o n)
-      ∙ eqs-append (part b o n) (drop (o + n) a) (drop (o + n) b)
+-- a byte and its place, as `from_le_bytes` has them
+worth : (i b : ℕ) → byte_worth i b ≡ b * 256 ^ i
+worth zero b = omega arith
+worth (suc i) b = refl
 
-  pub eqs-other-part : (number (part a o n) ≡ number (part b o n) → ⊥) → eqs (drop o a) (drop o b) ≡ false
-  unfolding part
-  eqs-other-part d = eqs-differ (drop o a) (drop o b) (λ e. d (ap (λ (x : List ℕ). number (take n x)) e))
+sum-number : (l : List ℕ) (k : ℕ) → k < length l → sum_through (λ i. byte_worth i (get_or l i 0)) k ≡ number (take (suc k) l)
+unfolding number
+sum-number [] k h = absurd (omega arith)
+sum-number (b ∷ l) zero h = omega arith
+sum-number (b ∷ l) (suc k) h =
+    rw (sum-number (b ∷ l) k (omega arith)) (sym (number-more (b ∷ l) (suc k) h))
+
+-- what `from_le_bytes` gives
+pub from_le-number : (l : List ℕ) (k : ℕ) → length l ≡ suc k → sum_through (λ i. byte_worth i (get_or l i 0)) k ≡ number l
+from_le-number l k e = sum-number l k (omega arith) ∙ ap (λ (n : ℕ). number (take n l)) (sym e) ∙ ap number (take-length l)
+
+low : (i v : ℕ) → byte_at i v ≡ v / 256 ^ i % 256
+low zero v = omega arith
+low (suc i) v = refl
+
+low-first : (k i v : ℕ) → bytes_low_first i k v ≡ bytes_of k (v / 256 ^ i)
+unfolding bytes_of
+low-first zero i v = refl
+low-first (suc k) i v =
+    let e : v / 256 ^ suc i ≡ v / 256 ^ i / 256 = ap (λ (m : ℕ). v / m) (pow-suc 256 i) ∙ sym (div-div-eq-div-mul v (256 ^ i) 256) in
+    ap₂ (λ (b : ℕ) (bs : List ℕ). b ∷ bs) (low i v) (low-first k (suc i) v ∙ ap (bytes_of k) e)
+
+-- what `to_le_bytes` gives
+pub to_le-bytes_of : (n v : ℕ) → bytes_low_first 0 n v ≡ bytes_of n v
+to_le-bytes_of n v = low-first n 0 v ∙ ap (bytes_of n) (omega arith)
+
+-- two bytes of a number are those of its two low bytes
+pub bytes_of-two : (v : ℕ) → bytes_of 2 (v % 65536) ≡ bytes_of 2 v
+unfolding bytes_of
+bytes_of-two v =
+    let e : v % 65536 % 256 ≡ v % 256 = omega arith in
+    let f : v % 65536 / 256 % 256 ≡ v / 256 % 256 = omega arith in
+    rw (e, f)
 
 -- ---- a number read in pieces
 
 pub number-two : (l : List ℕ) (o : ℕ) → o + 2 ≤ length l → number (part l o 2) ≡ get_or l o 0 + 256 * get_or l (o + 1) 0
 unfolding number part
 number-two l o h = rw (drop-cons l o 0 (omega arith), drop-cons l (suc o) 0 (omega arith), add-one) (omega arith)
-
--- the two low bytes, and the rest
-number-split : (l : List ℕ) (o n : ℕ) → o + 2 ≤ length l → number (part l o (suc (suc n))) ≡ number (part l o 2) + 65536 * number (part l (o + 2) n)
-unfolding number part
-number-split l o n h =
-    let e : o + 2 ≡ suc (suc o) = omega arith in
-    rw (drop-cons l o 0 (omega arith), drop-cons l (suc o) 0 (omega arith), e) (omega arith)
-
-pub number-eight : (l : List ℕ) (o : ℕ) → o + 8 ≤ length l →
-    number (part l o 8) ≡ number (part l o 2) + 65536 * (number (part l (o + 2) 2) + 65536 * (number (part l (o + 4) 2) + 65536 * number (part l (o + 6) 2)))
-number-eight l o h =
-    let e : o + 2 + 2 ≡ o + 4 = omega arith in
-    let f : o + 4 + 2 ≡ o + 6 = omega arith in
-    let a = number-split l o 6 (omega arith) in
-    let b = rw e at (number-split l (o + 2) 4 (omega arith)) in
-    let c = rw f at (number-split l (o + 4) 2 (omega arith)) in
-    omega arith

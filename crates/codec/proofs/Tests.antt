@@ -1,14 +1,13 @@
 -- The laws of the tests of `specs/Lists.antt`: what a test that holds says, and how one is made.
 -- Assumes nothing.
-use Prim.Native.Nat.{ℕ, zero, suc, ◌+◌, ◌≤◌, ◌<◌}
-use mathlib.Core.Path.{◌≡◌, refl}
+use Prim.Native.Nat.{ℕ, zero, suc}
+use mathlib.Core.Path.{◌≡◌, refl, ap}
 use mathlib.Core.Bool.{Bool, true, false, ◌&&◌, false≢true}
 use mathlib.Core.List.{List, [], ◌∷◌, ◌++◌}
-use native.Mathlib.Numerals.{add-one}
-use lib.ListN.{length, get_or, take, drop, set, drop_of_length-le}
-use lib.Seq.{drop-cons}
+use lib.ListN.{get_or, take, drop, set}
 use lib.Dec.{eqb}
-use borrow.Author.Tests.{eqb-true, eq-eqb, ne_eqb}
+use lib.Pointwise.{pointwise}
+use borrow.Author.Tests.{eqb-true, eq-eqb}
 use Rattle.codec.specs.Lists.{eqs, every, all_b, All, insert_at, remove_at}
 
 -- ---- two tests, and a list of tests
@@ -106,6 +105,14 @@ unfolding eqs
 eqs-same [] = refl
 eqs-same (x ∷ a) = both (eq-eqb x x refl) (eqs-same a)
 
+-- what `==` of two slices says
+pub eqs-pointwise : (a b : List ℕ) → pointwise eqb a b ≡ eqs a b
+unfolding eqs
+eqs-pointwise [] [] = refl
+eqs-pointwise [] (y ∷ b) = refl
+eqs-pointwise (x ∷ a) [] = refl
+eqs-pointwise (x ∷ a) (y ∷ b) = ap (λ (r : Bool). eqb x y && r) (eqs-pointwise a b)
+
 -- the same in front makes no difference
 pub eqs-append : (x a b : List ℕ) → eqs (x ++ a) (x ++ b) ≡ eqs a b
 unfolding eqs
@@ -114,17 +121,3 @@ eqs-append (y ∷ x) a b = rw (eq-eqb y y refl) (eqs-append x a b)
 
 pub eqs-differ : (a b : List ℕ) → (a ≡ b → ⊥) → eqs a b ≡ false
 eqs-differ a b h = not-true (eqs a b) (λ e. h (eqs-true a b e))
-
--- one element more is compared
-module _ (a b : List ℕ) (i : ℕ) (ha : i < length a) (hb : i < length b) where
-  pub eqs-same-next : get_or a i 0 ≡ get_or b i 0 → eqs (drop i a) (drop i b) ≡ eqs (drop (i + 1) a) (drop (i + 1) b)
-  unfolding eqs
-  eqs-same-next e = rw (drop-cons a i 0 ha, drop-cons b i 0 hb, eq-eqb (get_or a i 0) (get_or b i 0) e, add-one)
-
-  pub eqs-other-next : (get_or a i 0 ≡ get_or b i 0 → ⊥) → eqs (drop i a) (drop i b) ≡ false
-  unfolding eqs
-  eqs-other-next e = rw (drop-cons a i 0 ha, drop-cons b i 0 hb, ne_eqb (get_or a i 0) (get_or b i 0) e)
-
-pub eqs-end : (a b : List ℕ) (i : ℕ) → length a ≤ i → length b ≤ i → eqs (drop i a) (drop i b) ≡ true
-unfolding eqs
-eqs-end a b i ha hb = rw (drop_of_length-le a {i = i} ha, drop_of_length-le b {i = i} hb)

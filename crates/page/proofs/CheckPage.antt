@@ -1,19 +1,19 @@
 -- What a pass over the listed records keeps: the least key that may come next and the units taken, with what is left to be shown of the rest.
 -- Assumes nothing.
-use Rattle.std.proofs.Common.{◌≡◌, ℕ, suc, ◌+◌, ◌-◌, ◌*◌, ◌/◌, ◌^◌, ◌<◌, ◌≤◌, Bool, true, false, eqb, leb, ◌⊎◌, List, [], ◌∷◌, length, drop, sym, refl, ap, ◌∙◌, inl, inr, arith, drop_of_length-le, le-leb, leb-true}
+use Rattle.std.proofs.Common.{◌≡◌, ℕ, suc, ◌+◌, ◌-◌, ◌*◌, ◌/◌, ◌^◌, ◌<◌, ◌≤◌, Bool, true, false, eqb, leb, ◌⊎◌, List, [], ◌∷◌, length, drop, sym, refl, ap, ◌∙◌, inl, inr, arith, drop_of_length-le, le-leb, leb-true, eq-eqb, eqb-true}
 use mathlib.Core.Bool.{false≢true}
 use lib.Bits.{bit_and, bit_or, and_comm}
 use Rattle.codec.specs.Lists.{part, All, pick}
 use Rattle.codec.specs.Numbers.{number}
 use Rattle.codec.proofs.Tests.{first, second, both, All-map}
-use Rattle.page.specs.Layout.{leaf_kind, Rec, up8, size, record_at, read_head}
+use Rattle.page.specs.Layout.{page_size, leaf_kind, Rec, up8, size, record_at, read_head}
 use Rattle.page.specs.Page.{Entry, entry_at, recs, entries, records, form_ok, starts_at, keys_rise, page_ok, Held, Off, Apart}
 use Rattle.page.specs.PageFormat.{PageOk}
 use Rattle.page.proofs.Records.{size-even, size-least}
 use Rattle.page.proofs.Listed.{entries_next}
 use Rattle.page.proofs.Facts.{length-entries, length-records, at-entries, recs-entries, is_ok, ok-is, true-page_ok, not-page_ok}
-use Rattle.page.proofs.CheckRecord.{fitting}
-use Rattle.page.proofs.CheckHeader.{Headed, head_b, headed-head}
+use Rattle.page.proofs.CheckRecord.{fitting, Numbers, held-numbers, record_b, record-held, record-fits, held-record}
+use Rattle.page.proofs.CheckHeader.{start_is, Headed, head_b, headed-head}
 use Rattle.page.proofs.CheckBits.{run, run-before, run-off, free-first, free-second, free-both}
 
 -- ---- the units of a record
@@ -215,3 +215,44 @@ module _ (kind own : ℕ) (p : List ℕ) (low marks i : ℕ) (pass : Pass kind p
           there = λ k. left-rest kind p low marks (entry_at p o) rest (rw next at (pass.there k));
           back = λ k. pass.back (rw next (next-left kind p low marks (entry_at p o) rest n k));
         })
+
+-- ---- the test of a record, in the pass
+
+-- the record at o passed it
+pub record Tested (kind : ℕ) (p : List ℕ) (o : ℕ) : Type 0 where
+  pub held : Held p (read_head p).start (entry_at p o)
+  pub fits : fitting kind (length (record_at p o).value) ≡ true
+  pub numbers : Numbers p o
+
+module _ (kind : ℕ) (p : List ℕ) (start o : ℕ) (r : Bool) (from : start ≡ number (part p 2 2)) (test : r ≡ record_b kind p start o) where
+  test_is : r ≡ record_b kind p (read_head p).start o
+  test_is = test ∙ ap (λ (n : ℕ). record_b kind p n o) (from ∙ sym (start_is p))
+
+  pub tested : length p ≡ page_size → r ≡ true → Tested kind p o
+  tested whole t =
+      let b = sym test_is ∙ t in
+      let k = record-held kind p _ o b in
+      record { held = k; fits = record-fits kind p _ o b; numbers = held-numbers p _ o whole k }
+
+  -- it failed, so the record may not come next
+  pub not-next : (low marks : ℕ) → r ≡ false → Next kind p low marks (entry_at p o) → ⊥
+  not-next low marks f n = false≢true (sym f ∙ test_is ∙ held-record kind p _ o n.held (form-fitting kind _ n.form))
+
+module _ (kind : ℕ) (p : List ℕ) (low marks o u : ℕ) (r : Bool) (t : Tested kind p o) (mine : u ≡ units (entry_at p o)) (test : r ≡ eqb (bit_and marks u) 0) where
+  clear_is : r ≡ eqb (bit_and marks (units (entry_at p o))) 0
+  clear_is = test ∙ ap (λ (n : ℕ). eqb (bit_and marks n) 0) mine
+
+  -- the key is not too low and the units are free, so the record may come next
+  pub may-next : least kind ≤ low → low ≤ number (part p o 8) → r ≡ true → Next kind p low marks (entry_at p o)
+  may-next h k c =
+      let key = t.numbers.key in
+      record {
+        held = t.held;
+        form = fitting-form kind _ (omega arith) t.fits;
+        above = omega arith;
+        clear = eqb-true _ 0 (sym clear_is ∙ c);
+      }
+
+  -- a unit is taken, so it may not
+  pub taken : r ≡ false → Next kind p low marks (entry_at p o) → ⊥
+  taken f n = false≢true (sym f ∙ clear_is ∙ eq-eqb _ 0 n.clear)

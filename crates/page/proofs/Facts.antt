@@ -81,9 +81,6 @@ module _ (p : List ℕ) (start : ℕ) (e : Entry) where
   true-held k =
       all-every _ (le-leb _ _ k.low, (eq-eqb _ _ k.even, (le-leb _ _ k.high, (true-rec_ok _ k.ok, (rw k.bytes (eqs-same _), tt)))))
 
-  pub not-held : (Held p start e → ⊥) → held_b p start e ≡ false
-  not-held h = not-true (held_b p start e) (λ t. h (held-true t))
-
 -- ---- records apart
 
 pub off-true : (e f : Entry) → off_b e f ≡ true → Off e f

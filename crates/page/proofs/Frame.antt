@@ -1,8 +1,8 @@
 -- The frame: a page is its header line and the bytes of its listed records, and no other byte matters. An edit leaves the bytes of
 -- every record that was listed before it.
 -- Assumes nothing.
-use Rattle.std.proofs.Common.{◌≡◌, ℕ, ◌+◌, ◌-◌, ◌<◌, ◌≤◌, true, List, [], ◌∷◌, length, take, drop, sym, refl, ap, ◌∙◌, arith, drop-drop}
-use Rattle.codec.specs.Lists.{part, All}
+use Rattle.std.proofs.Common.{◌≡◌, ℕ, ◌+◌, ◌<◌, ◌≤◌, true, List, [], ◌∷◌, length, take, sym, refl, ◌∙◌, arith}
+use Rattle.codec.specs.Lists.{All}
 use Rattle.codec.proofs.Tests.{All-map}
 use Rattle.page.specs.Layout.{line_size, slot_count, Rec, size, Head, read_head}
 use Rattle.page.specs.Page.{Entry, records, laid_out, page_ok, RecOk, HeadOk, Held, Body, Is}
@@ -50,22 +50,6 @@ module _ (p q : List ℕ) (ok : laid_out p ≡ true) (l : length q ≡ length p)
       let h = is-head _ q _ j in
       let r : records q ≡ records p = is-records _ q _ j ∙ sym (is-records _ p _ i) in
       record { ok = o; head = h; entries = is-entries _ q _ j; recs = r; sound = λ kind own. rw (o, ok, h, r) }
-
-  agree-from : (s : ℕ) → drop s q ≡ drop s p → (e : Entry) → Held p s e → Agree p q e
-  unfolding part
-  agree-from s d e k =
-      let f : s + (e.at - s) ≡ e.at = omega (arith, k.low) in
-      ap (take (size e.rec))
-      (ap (λ (m : ℕ). drop m q) (sym f)
-      ∙ sym (drop-drop (e.at - s) s q)
-      ∙ ap (drop (e.at - s)) d
-      ∙ drop-drop (e.at - s) s p
-      ∙ ap (λ (m : ℕ). drop m p) f)
-
-  -- what lies below start is free
-  pub page-agree-from : drop (read_head p).start q ≡ drop (read_head p).start p → Same p q
-  page-agree-from d =
-      page-agree (All-map (Held p (read_head p).start) (Agree p q) (agree-from (read_head p).start d) (page.entries p) (ok-is p ok).body.held)
 
 -- ---- no edit overwrites a listed record
 

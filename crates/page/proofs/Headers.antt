@@ -1,6 +1,6 @@
 -- The header line: its length, and that a header is read back from it; as the definitions' header and as the code's.
 -- Assumes nothing.
-use Rattle.std.proofs.Common.{◌≡◌, ℕ, zero, suc, ◌+◌, ◌-◌, ◌*◌, ◌/◌, ◌%◌, ◌<◌, ◌≤◌, List, [], ◌∷◌, ◌++◌, length, take, drop, set, replicate, sym, refl, ap, ◌∙◌, append-nil, not-suc-le-zero, arith, length-append, length-set, take_at}
+use Rattle.std.proofs.Common.{◌≡◌, ℕ, zero, suc, ◌+◌, ◌-◌, ◌*◌, ◌/◌, ◌%◌, ◌<◌, ◌≤◌, List, [], ◌∷◌, ◌++◌, length, take, drop, set, replicate, sym, refl, ap, ◌∙◌, append-nil, arith, length-append, length-set, take_at}
 use lib.ListN.{length-replicate}
 use lib.Seq.{sets, length-sets, set-append_left}
 use Rattle.codec.specs.Lists.{part, splice, All}
@@ -35,12 +35,6 @@ slots-back [] ys t h = refl
 slots-back (x ∷ xs) ys t h =
     let e : x % 256 + 256 * (x / 256 + 256 * 0) ≡ x = omega arith in
     rw (e, slots-back xs ys t h.1)
-
-pub take-slots_in : (n m : ℕ) (bs : List ℕ) → n ≤ m → take n (slots_in m bs) ≡ slots_in n bs
-unfolding slots_in
-take-slots_in zero m bs h = refl
-take-slots_in (suc n) zero bs h = absurd (not-suc-le-zero h)
-take-slots_in (suc n) (suc m) bs h = ap (λ (l : List ℕ). number (take 2 bs) ∷ l) (take-slots_in n m (drop 2 bs) (omega arith))
 
 pub length-padded : (os : List ℕ) → length os ≤ slot_count → length (padded os) ≡ slot_count
 unfolding padded
@@ -124,26 +118,6 @@ module _ (h : Header) (clean : h ≡ header_of (head_of h)) where
   pub clean-slots : h.slots ≡ padded (take h.count h.slots)
   unfolding header_of head_of
   clean-slots = ap (λ (x : Header). x.slots) clean
-
-  pub clean-wide : h.count ≤ slot_count → length h.slots ≡ slot_count
-  clean-wide few = ap length clean-slots ∙ length-padded (take h.count h.slots) (omega (arith, clean-count))
-
--- what the code reads, of any page
-pub head-raw : (p : List ℕ) → (raw_header p).count ≤ slot_count → head_of (raw_header p) ≡ read_head p
-unfolding head_of raw_header read_head
-head-raw p h = rw (take-slots_in (number (part p 0 2)) slot_count (drop 8 p) h)
-
-pub raw-wide : (p : List ℕ) → length (raw_header p).slots ≡ slot_count
-unfolding raw_header
-raw-wide p = length-slots_in slot_count (drop 8 p)
-
-pub raw-count : (p : List ℕ) → (raw_header p).count ≡ length (read_head p).slots
-unfolding raw_header read_head
-raw-count p = sym (length-slots_in (number (part p 0 2)) (drop 8 p))
-
-pub raw-start : (p : List ℕ) → (raw_header p).start ≡ (read_head p).start
-unfolding raw_header read_head
-raw-start p = refl
 
 -- ---- the line written in pieces
 

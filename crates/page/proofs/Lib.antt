@@ -16,6 +16,7 @@ pub mod Format1
 pub mod Images
 pub mod CheckBytes
 pub mod CheckBits
+pub mod CheckBlank
 pub mod CheckRecord
 pub mod CheckHeader
 pub mod CheckPage

@@ -2,6 +2,7 @@
 -- Assumes nothing.
 use Rattle.std.proofs.Common.{◌≡◌, ℕ, zero, suc, ◌+◌, ◌*◌, ◌<◌, ◌≤◌, true, List, [], ◌∷◌, map, length, get_or, take, drop, sym, refl, ap, ◌∙◌, not-suc-le-zero, add-one, arith, drop-cons, drop-drop}
 use lib.ListN.{length-map, get_or-map}
+use lib.Seq.{ext_get_or}
 use Rattle.codec.specs.Lists.{part, All}
 use Rattle.codec.specs.Numbers.{number}
 use Rattle.page.specs.Layout.{slot_count, record_at, slots_in, read_head}
@@ -32,9 +33,20 @@ get_or-slots_in (suc n) (suc i) bs h =
     let e : 2 + 2 * i ≡ 2 * suc i = omega arith in
     get_or-slots_in n i (drop 2 bs) (omega arith) ∙ ap (λ (b : List ℕ). number (take 2 b)) (drop-drop (2 * i) 2 bs ∙ ap (λ (m : ℕ). drop m bs) e)
 
+-- numbers that stand one after the other from o on are slots
+pub slots-read : (p xs : List ℕ) (n o : ℕ) → length xs ≡ n → ((i : ℕ) → i < n → get_or xs i 0 ≡ number (part p (o + 2 * i) 2)) → xs ≡ slots_in n (drop o p)
+unfolding part
+slots-read p xs n o e h =
+    ext_get_or 0 xs (slots_in n (drop o p)) (e ∙ sym (length-slots_in n (drop o p)))
+    (λ i k. h i (omega arith) ∙ ap (λ (b : List ℕ). number (take 2 b)) (sym (drop-drop (2 * i) o p)) ∙ sym (get_or-slots_in n i (drop o p) (omega arith)))
+
 pub count_at : (p : List ℕ) → number (part p 0 2) ≡ length (records p)
 unfolding read_head
 count_at p = sym (length-records p ∙ length-slots_in (number (part p 0 2)) (drop 8 p))
+
+-- one below the count n is the number of a listed record
+pub below_count : (p : List ℕ) (i n : ℕ) → i < n → n ≡ number (part p 0 2) → i < length (records p)
+below_count p i n h e = omega (arith, e, count_at p)
 
 module _ (p : List ℕ) (i : ℕ) (less : i < length (records p)) where
   pub slot_at : number (part p (8 + 2 * i) 2) ≡ get_or (read_head p).slots i 0

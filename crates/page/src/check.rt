@@ -81,10 +81,8 @@ fn blank(page: &[u8], at: usize, end: usize) -> bool
     }
     let k = at % 8;
     let mut joined = codec::long_at(page, at - k) >> (8 * k);
-    let mut a = at - k + 8;
-    while a < end {
-        joined = joined | codec::long_at(page, a);
-        a += 8;
+    for a in (at - k + 8..end).step_by(8) {
+        joined |= codec::long_at(page, a);
     }
     joined == 0
 }
@@ -124,24 +122,15 @@ fn head_ok(page: &[u8], kind: u8, own: usize) -> bool
     blank(page, 8 + 2 * count, LINE)
 }
 
-// The first of two numbers for a leaf, the second for an index.
-fn by_kind(kind: u8, leaf: u64, index: u64) -> u64
-    ensures { result ≡ pick (kind == leaf_kind) leaf index }
-{
-    if kind == LEAF {
-        return leaf;
-    }
-    index
-}
-
 // Whether a value of n bytes may stand in a page of this kind: "values 0 to 200 bytes", in an index "a 2-byte page number".
-// The difference wraps, so that one test is for both ends.
 fn length_ok(kind: u8, n: u64) -> bool
     ensures { result ≡ pick (kind == leaf_kind) (nat_le n value_most) (n == 2) }
 {
-    let fewest = by_kind(kind, 0, 2);
-    let most = by_kind(kind, VALUE_MOST, 2);
-    std::num::wrapping_sub_u64(n, fewest) <= most - fewest
+    if kind == LEAF {
+        n <= VALUE_MOST
+    } else {
+        n == 2
+    }
 }
 
 // Whether a record stands at `at`, not below start, laid out as it must be and as long as its kind has it.
@@ -185,10 +174,9 @@ pub fn page_ok(page: &[u8], kind: u8, own: usize) -> bool
     let count = codec::number_at(page, 0);
     let start = codec::number_at(page, 2);
     // The least key that may come next, "1 to .." in a leaf and "0 to .." in an index, and the units that are taken.
-    let mut low = by_kind(kind, 1, 0);
+    let mut low = if kind == LEAF { 1 } else { 0 };
     let mut marks = Marks::none();
-    let mut i = 0;
-    while i < count {
+    for i in 0..count {
         let at = codec::number_at(page, 8 + 2 * i);
         if !record_ok(page, kind, start, at) {
             return false;
@@ -204,7 +192,6 @@ pub fn page_ok(page: &[u8], kind: u8, own: usize) -> bool
         }
         marks = marks.with(units);
         low = key + 1;
-        i += 1;
     }
     true
 }

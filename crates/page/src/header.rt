@@ -20,13 +20,7 @@ fn slots_at(page: &[u8]) -> [u16; 28]
     requires { line_size ≤ length page.now }
     ensures { result ≡ slots_in slot_count (drop 8 page.now) }
 {
-    let mut slots = [0u16; 28];
-    let mut i = 0;
-    while i < 28 {
-        slots[i] = codec::number_at(page, 8 + 2 * i) as u16;
-        i += 1;
-    }
-    slots
+    std::array::from_fn(|i| codec::number_at(page, 8 + 2 * i) as u16)
 }
 
 // Writes the 28 slots of a header line.
@@ -34,10 +28,8 @@ fn put_slots(page: &mut [u8], slots: [u16; 28])
     requires { line_size ≤ length page.old }
     ensures { (page.new ≡ splice page.old 8 (slot_bytes slots)) × (length slots ≡ slot_count) }
 {
-    let mut i = 0;
-    while i < 28 {
-        codec::put_number(page, 8 + 2 * i, codec::wide16(slots[i]));
-        i += 1;
+    for (i, slot) in slots.iter().enumerate() {
+        codec::put_number(page, 8 + 2 * i, usize::from(*slot));
     }
 }
 
@@ -55,10 +47,11 @@ impl Header {
     pub fn unused(kind: u8, own: usize) -> Header
         ensures { result ≡ header_of (unused_head kind own) }
     {
-        let mut h = Header::UNUSED;
-        h.kind = kind;
-        h.own = own;
-        h
+        Header {
+            kind,
+            own,
+            ..Header::UNUSED
+        }
     }
 
     // The header line of a page, whatever it holds.
@@ -98,18 +91,13 @@ impl Header {
         let at = self.start - s;
         let count = self.count;
         let mut slots = self.slots;
-        let mut j = count;
-        while i < j {
-            slots[j] = slots[j - 1];
-            j -= 1;
-        }
-        slots[j] = at as u16;
+        slots.copy_within(i..count, i + 1);
+        slots[i] = at as u16;
         Header {
             count: count + 1,
             start: at,
-            kind: self.kind,
-            own: self.own,
             slots,
+            ..self
         }
     }
 
@@ -132,18 +120,12 @@ impl Header {
     {
         let last = self.count - 1;
         let mut slots = self.slots;
-        let mut j = i;
-        while j < last {
-            slots[j] = slots[j + 1];
-            j += 1;
-        }
-        slots[j] = 0;
+        slots.copy_within(i + 1..last + 1, i);
+        slots[last] = 0;
         Header {
             count: last,
-            start: self.start,
-            kind: self.kind,
-            own: self.own,
             slots,
+            ..self
         }
     }
 }

@@ -15,8 +15,7 @@ pub fn find(page: &[u8], key: u64) -> Result<usize, usize>
     ensures { result ≡ searched key 0 (records page.now) }
 {
     let count = codec::number_at(page, 0);
-    let mut i = 0;
-    while i < count {
+    for i in 0..count {
         let at = codec::number_at(page, 8 + 2 * i);
         let k = codec::long_at(page, at);
         if key <= k {
@@ -25,7 +24,6 @@ pub fn find(page: &[u8], key: u64) -> Result<usize, usize>
             }
             return Err(i);
         }
-        i += 1;
     }
-    Err(i)
+    Err(count)
 }

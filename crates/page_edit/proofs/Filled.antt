@@ -16,7 +16,7 @@ use Rattle.page.proofs.Records.{length_at}
 use Rattle.page.proofs.Headers.{head-of, count_of, seal-raw}
 use Rattle.page.proofs.Facts.{ok-is}
 use Rattle.page.proofs.Operations.{fill_start, fill-slots, fill-head-append, fill-bytes-append}
-use Rattle.page.proofs.Listed.{record-listed, slot_held}
+use Rattle.page.proofs.Listed.{record-listed, slot_held, few-listed}
 use Rattle.page.proofs.Made.{old_slot, made-less, made-new-next, made-old-next, between_next}
 use Rattle.page_edit.specs.Filling.{Room, Stands, Filled, CanFill}
 
@@ -130,8 +130,11 @@ module _ {old : List ℕ} {ins : Bool} {i : ℕ} {r : Rec} {a b : ℕ} (can : Ca
 
   -- not the new one: the record of its old slot
   module _ (other : k ≡ i → ⊥) (j : ℕ) (slot : j ≡ old_slot ins i k) where
-    pub old-listed : j < length (records old)
+    old-listed : j < length (records old)
     old-listed = rw slot (made-less r r ins i k (records old) can.place (omega (arith, can.within)) other)
+
+    pub old-few : j < slot_count
+    old-few = omega (arith, few-listed old can.ok, old-listed)
 
     module _ (o : ℕ) (e : o ≡ number (part old (8 + 2 * j) 2)) where
       pub old-next : between (made ins i r (records old)) k b ≡ record_at old o ∷ between (made ins i r (records old)) (k + 1) b

@@ -108,38 +108,8 @@ pub(crate) fn old_slot(ins: bool, i: usize, k: usize) -> usize
     k
 }
 
-// Fills in the records `from` to `to` of another page as they are once the edit is made: a record put in as the i-th, or in place of it.
-pub(crate) fn append_made(
-    page: &mut [u8],
-    h: Header,
-    old: &[u8],
-    ins: bool,
-    i: usize,
-    key: u64,
-    value: &[u8],
-    from: usize,
-    to: usize,
-) -> Header
-    requires page_len { (length page.old ≡ page_size) × CanFill old.now ins i (rec_of key value.now) from to }
-    requires room { Room h (between (made ins i (rec_of key value.now) (records old.now)) from to) }
-    ensures { Filled h page.old (between (made ins i (rec_of key value.now) (records old.now)) from to) result page.new }
-{
-    let mut new = h;
-    let mut k = from;
-    while k < to {
-        if k == i {
-            new = append_new(page, new, key, value);
-            k += 1;
-        } else {
-            let at = codec::number_at(old, 8 + 2 * old_slot(ins, i, k));
-            new = append_copy(page, new, old, at);
-            k += 1;
-        }
-    }
-    new
-}
-
-// Fills a new page, whatever it held, with the records `from` to `to` of another page as they are once the edit is made.
+// Fills a new page, whatever it held, with the records `from` to `to` of another page as they are once the edit is made: a record put in
+// as the i-th, or in place of it.
 pub fn fill_made(
     page: &mut [u8],
     kind: u8,
@@ -155,16 +125,14 @@ pub fn fill_made(
     requires { (length page.old ≡ page_size) × CanFill old.now ins i (rec_of key value.now) from to }
     ensures { page.new ≡ fill page.old kind own (between (made ins i (rec_of key value.now) (records old.now)) from to) }
 {
-    let h = append_made(
-        page,
-        Header::unused(kind, own),
-        old,
-        ins,
-        i,
-        key,
-        value,
-        from,
-        to,
-    );
+    let mut h = Header::unused(kind, own);
+    for k in from..to {
+        if k == i {
+            h = append_new(page, h, key, value);
+        } else {
+            let at = codec::number_at(old, 8 + 2 * old_slot(ins, i, k));
+            h = append_copy(page, h, old, at);
+        }
+    }
     h.write(page);
 }

@@ -1,9 +1,14 @@
--- `long_at`: four numbers of two bytes are the number of eight.
+-- `long_at`: what `from_le_bytes` gives is the number of the part.
 -- Assumes nothing.
-use native.Mathlib.Omega.{arith}
-use Rattle.codec.proofs.Numbers.{number-eight}
+use lib.ListN.{length}
+use mathlib.Core.Path.{ap, ◌∙◌}
+use Rattle.codec.specs.Numbers.{number}
+use Rattle.codec.proofs.Lists.{length_part}
+use Rattle.codec.proofs.Numbers.{from_le-number}
 use Rattle.codec.proofs.long_at.Goals as goal
 
 pub returns : goal.returns
 returns c =
-    omega (arith, number-eight c.args.s.now c.args.at c.requires)
+    let a = c.args in
+    let n = ap length c.bytes_at.ensures ∙ length_part a.s.now a.at 8 c.requires in
+    c.from_le_bytes.ensures ∙ from_le-number c.bytes_at.result 7 n ∙ ap number c.bytes_at.ensures

@@ -1,35 +1,11 @@
--- `put_long`: eight stores are eight bytes written over.
+-- `put_long`: what `to_le_bytes` gives are the number's bytes.
 -- Assumes nothing.
-use native.Mathlib.Omega.{arith}
-use lib.ListN.{length-set}
-use Rattle.codec.specs.Numbers.{bytes_of}
-use Rattle.codec.proofs.Lists.{splice-eight}
+use mathlib.Core.Path.{ap, ◌∙◌}
+use Rattle.codec.specs.Lists.{splice}
+use Rattle.codec.proofs.Numbers.{to_le-bytes_of}
 use Rattle.codec.proofs.put_long.Goals as goal
 
-pub bounds-s-at-2 : goal.bounds-s-at-2
-bounds-s-at-2 c = simp length-set (omega arith)
-
-pub bounds-s-at-3 : goal.bounds-s-at-3
-bounds-s-at-3 c = simp length-set (omega arith)
-
-pub bounds-s-at-4 : goal.bounds-s-at-4
-bounds-s-at-4 c = simp length-set (omega arith)
-
-pub bounds-s-at-5 : goal.bounds-s-at-5
-bounds-s-at-5 c = simp length-set (omega arith)
-
-pub bounds-s-at-6 : goal.bounds-s-at-6
-bounds-s-at-6 c = simp length-set (omega arith)
-
-pub bounds-s-at-7 : goal.bounds-s-at-7
-bounds-s-at-7 c = simp length-set (omega arith)
-
-pub bounds-s-at-8 : goal.bounds-s-at-8
-bounds-s-at-8 c = simp length-set (omega arith)
-
-pub shape_of-s : goal.shape_of-s
-shape_of-s c = simp length-set
-
 pub returns : goal.returns
-unfolding bytes_of
-returns c = splice-eight c.args.s.now c.args.at _ _ _ _ _ _ _ _ c.requires
+returns c =
+    let a = c.args in
+    c.put_bytes.ensures ∙ ap (splice a.s.now a.at) (c.to_le_bytes.ensures ∙ to_le-bytes_of 8 a.v)

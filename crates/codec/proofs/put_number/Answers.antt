@@ -1,18 +1,12 @@
--- `put_number`: two stores are two bytes written over.
+-- `put_number`: what `to_le_bytes` gives are the number's two low bytes.
 -- Assumes nothing.
-use mathlib.Core.Path.{sym}
-use native.Mathlib.Omega.{arith}
-use native.Mathlib.Numerals.{add-one}
-use lib.ListN.{length-set}
-use Rattle.codec.specs.Numbers.{bytes_of}
-use Rattle.codec.proofs.Lists.{splice-sets}
+use Prim.Native.Nat.{◌%◌}
+use mathlib.Core.Path.{ap, ◌∙◌}
+use Rattle.codec.specs.Lists.{splice}
+use Rattle.codec.proofs.Numbers.{to_le-bytes_of, bytes_of-two}
 use Rattle.codec.proofs.put_number.Goals as goal
 
-pub bounds-s-at-2 : goal.bounds-s-at-2
-bounds-s-at-2 c = simp length-set (omega arith)
-
 pub returns : goal.returns
-unfolding bytes_of
 returns c =
     let a = c.args in
-    rw add-one (sym (splice-sets a.s.now a.at (bytes_of 2 a.v) c.requires))
+    c.put_bytes.ensures ∙ ap (splice a.s.now a.at) (c.to_le_bytes.ensures ∙ to_le-bytes_of 2 (a.v % 65536) ∙ bytes_of-two a.v)

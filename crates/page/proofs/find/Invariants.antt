@@ -1,12 +1,9 @@
 -- `find`: the search from the i-th record on is the whole search.
 -- Assumes nothing.
-use Rattle.std.proofs.Common.{◌≡◌, ◌-◌, ◌≤◌, drop}
+use Rattle.std.proofs.Common.{◌≡◌, drop}
 use Rattle.page.specs.Page.{records}
 use Rattle.page.specs.Search.{searched}
 use Rattle.page.proofs.find.Given as goal
 
 abbrev pub invariant-loop-i : goal.invariant-loop-i
-invariant-loop-i l = (l.i ≤ l.count) × (searched l.key l.i (drop l.i (records l.page)) ≡ searched l.key 0 (records l.page))
-
-abbrev pub decreases-loop-i : goal.decreases-loop-i
-decreases-loop-i l = l.count - l.i
+invariant-loop-i l = searched l.key l.i (drop l.i (records l.page)) ≡ searched l.key 0 (records l.page)

@@ -1,37 +1,32 @@
 -- `head_ok`: each test is a fact of a right header, and after them the slots past the count decide.
 -- Assumes nothing.
-use Rattle.std.proofs.Common.{◌≡◌, ℕ, ◌%◌, false, sym, ap, ◌∙◌, arith}
-use Rattle.page.proofs.CheckHeader.{count-is, start_is, kind-is, own_is, line-facts, Headed, head_b, not-headed, head-blank}
+use Rattle.std.proofs.Common.{ℕ, ◌%◌, sym, ap, ◌∙◌, arith}
+use Rattle.page.proofs.CheckHeader.{count-is, start_is, kind-is, own_is, line-facts, not-headed, head-blank}
 use Rattle.page.proofs.check.head_ok.Goals as goal
-use Rattle.page.proofs.check.head_ok.Goals.{After-shared_slice_known-1}
-
--- the header is not right, if its facts are absurd
-refuse : (c : After-shared_slice_known-1) → let a = c.args in (Headed a.kind a.own a.page.now → ⊥) → false ≡ head_b a.kind a.own a.page.now
-refuse c h = let a = c.args in sym (not-headed a.kind a.own a.page.now h)
 
 pub returns-then-page-ne-PAGE : goal.returns-then-page-ne-PAGE
-returns-then-page-ne-PAGE c = refuse (goal.at.returns-then-page-ne-PAGE c).After-shared_slice_known-1 (λ k. c.if-page-ne-PAGE.true k.whole)
+returns-then-page-ne-PAGE c = sym (not-headed c.args.kind c.args.own c.args.page.now (λ k. c.if-page-ne-PAGE.true k.whole))
 
 pub returns-then-count-gt-SLOTS : goal.returns-then-count-gt-SLOTS
-returns-then-count-gt-SLOTS c = refuse (goal.at.returns-then-count-gt-SLOTS c).After-shared_slice_known-1 (λ k. omega (arith, k.head.few, c.if-count-gt-SLOTS.true, c.number_at-count.ensures.0, count-is c.args.page.now))
+returns-then-count-gt-SLOTS c = sym (not-headed c.args.kind c.args.own c.args.page.now (λ k. omega (arith, k.head.few, c.if-count-gt-SLOTS.true, c.number_at-count.ensures.0, count-is c.args.page.now)))
 
 pub returns-then-start-ne0 : goal.returns-then-start-ne0
-returns-then-start-ne0 c = refuse (goal.at.returns-then-start-ne0 c).After-shared_slice_known-1 (λ k. c.if-start-ne0.true (ap (λ (n : ℕ). n % 8) (c.number_at-start.ensures.0 ∙ sym (start_is _)) ∙ k.head.even))
+returns-then-start-ne0 c = sym (not-headed c.args.kind c.args.own c.args.page.now (λ k. c.if-start-ne0.true (ap (λ (n : ℕ). n % 8) (c.number_at-start.ensures.0 ∙ sym (start_is _)) ∙ k.head.even)))
 
 pub returns-then-start-lt-LINE : goal.returns-then-start-lt-LINE
-returns-then-start-lt-LINE c = refuse (goal.at.returns-then-start-lt-LINE c).After-shared_slice_known-1 (λ k. omega (arith, k.head.low, c.if-start-lt-LINE.true, c.number_at-start.ensures.0, start_is c.args.page.now))
+returns-then-start-lt-LINE c = sym (not-headed c.args.kind c.args.own c.args.page.now (λ k. omega (arith, k.head.low, c.if-start-lt-LINE.true, c.number_at-start.ensures.0, start_is c.args.page.now)))
 
 pub returns-then-start-gt-PAGE : goal.returns-then-start-gt-PAGE
-returns-then-start-gt-PAGE c = refuse (goal.at.returns-then-start-gt-PAGE c).After-shared_slice_known-1 (λ k. omega (arith, k.head.high, c.if-start-gt-PAGE.true, c.number_at-start.ensures.0, start_is c.args.page.now))
+returns-then-start-gt-PAGE c = sym (not-headed c.args.kind c.args.own c.args.page.now (λ k. omega (arith, k.head.high, c.if-start-gt-PAGE.true, c.number_at-start.ensures.0, start_is c.args.page.now)))
 
 pub returns-then-page-kind : goal.returns-then-page-kind
-returns-then-page-kind c = refuse (goal.at.returns-then-page-kind c).After-shared_slice_known-1 (λ k. c.if-page-kind.true (sym (kind-is c.args.page.now) ∙ k.kind))
+returns-then-page-kind c = sym (not-headed c.args.kind c.args.own c.args.page.now (λ k. c.if-page-kind.true (sym (kind-is c.args.page.now) ∙ k.kind)))
 
 pub returns-then-page-ne0 : goal.returns-then-page-ne0
-returns-then-page-ne0 c = refuse (goal.at.returns-then-page-ne0 c).After-shared_slice_known-1 (λ k. c.if-page-ne0.true (line-facts c.args.page.now (λ i. omega (arith, c.type_inv.page i)) c.if-page-ne-PAGE.false _ c.number_at-count.ensures.0 c.if-count-gt-SLOTS.false k.line).0)
+returns-then-page-ne0 c = sym (not-headed c.args.kind c.args.own c.args.page.now (λ k. c.if-page-ne0.true (line-facts c.args.page.now (λ i. omega (arith, c.type_inv.page i)) c.if-page-ne-PAGE.false _ c.number_at-count.ensures.0 c.if-count-gt-SLOTS.false k.line).0))
 
 pub returns-then-number_at-own : goal.returns-then-number_at-own
-returns-then-number_at-own c = refuse (goal.at.returns-then-number_at-own c).After-shared_slice_known-1 (λ k. c.if-number_at-own.true (c.number_at.ensures.0 ∙ sym (own_is _) ∙ k.own))
+returns-then-number_at-own c = sym (not-headed c.args.kind c.args.own c.args.page.now (λ k. c.if-number_at-own.true (c.number_at.ensures.0 ∙ sym (own_is _) ∙ k.own)))
 
 pub returns : goal.returns
 returns c =

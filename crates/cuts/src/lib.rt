@@ -86,6 +86,7 @@ fn command_at(tape: &[u8], at: usize) -> Command
 }
 
 // Counts one more store of a line, or none of it any more. In the product over all lines its new factor takes the place of the old.
+// Counts and product stay two parameters: a struct that lends the counts needs a clause about its reference in each method, and is no plainer.
 fn tally(counts: &mut [u8], product: usize, line: usize, stores: bool) -> usize
     requires line_in_bounds { (line < length counts.old) × (get_or counts.old line 0 ≤ 12) }
     requires product_value { (product ≡ ways counts.old) × (product ≤ 4096) }

@@ -15,7 +15,7 @@ use Rattle.device.specs.Cut.{after, cut_image}
 use Rattle.device.specs.Counts.{scanned, Tells, Found}
 use Rattle.device.specs.Calls.{Answer, is_image_size, Ran, accepted, refused, unless, run_call, cut_tape, cut_call}
 use Rattle.device.specs.declared.Refusal.{Refusal}
-use Rattle.std.specs.Prelude.{Option, Some, None, Ok, Err}
+use Rattle.std.specs.Prelude.{Some, None, Ok, Err}
 use Rattle.device.specs.declared.Judged.{Judged}
 
 module _ (test : Bool) (k : ℕ) (old : List ℕ) (ran : Ran) where

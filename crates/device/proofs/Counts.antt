@@ -1,6 +1,7 @@
 -- Each line's last flush before the last barrier: where it ends on the tape tells whether a store is durable.
 -- Assumes nothing.
 use Prim.Native.Nat.{ℕ, zero, suc, ◌+◌, ◌/◌, ◌≤◌, ◌<◌}
+use Rattle.std.specs.Prelude.{Option, Some, None}
 use mathlib.Core.Path.{◌≡◌, refl, sym, ap, ◌∙◌, fun_ext}
 use mathlib.Core.Bool.{Bool, true, false, ◌&&◌, ◌||◌, true≢false, false≢true}
 use mathlib.Core.List.{List, [], ◌∷◌, ◌++◌}
@@ -14,7 +15,7 @@ use Rattle.codec.specs.Lists.{pick, part, splice}
 use Rattle.codec.proofs.Lists.{part-whole}
 use Rattle.device.specs.Tape.{Op, store, flush, barrier, malformed, extent, is_barrier}
 use Rattle.device.specs.Cut.{flushes_line, some, durable}
-use Rattle.device.specs.Counts.{finished, flush_end, flush_done, note_flush, Tells}
+use Rattle.device.specs.Counts.{sized, finished, flush_end, flush_done, note_flush, Tells}
 use Rattle.device.proofs.Durable.{one-alone}
 
 -- ---- lists
@@ -320,3 +321,25 @@ noted-next end at o cs l n = go (some is_barrier (o ∷ cs)) refl
     go : (t : Bool) → some is_barrier (o ∷ cs) ≡ t → Noted end (at + extent o) (finished cs) l
     go true e = noted-past end at o (finished cs) l (rw (finished-some o cs e) at n)
     go false e = rw (finished-none cs (others o cs e)) (noted-rest end at (extent o) l (rw (finished-none (o ∷ cs) e) at n))
+
+-- ---- a size, or none
+
+pub sized-none : (k : ℕ) → ◌≡◌ {A = Option ℕ} None (sized k) → k ≡ 0
+sized-none k e = go (eqb k 0) refl e
+  where
+    go : (t : Bool) → eqb k 0 ≡ t → ◌≡◌ {A = Option ℕ} None (pick t None (Some k)) → k ≡ 0
+    go true q f = eqb-true k 0 q
+    go false q f = let z : ◌≡◌ {A = ℕ} 0 1 = cc in absurd (omega arith)
+
+pub sized-some : (k s : ℕ) → ◌≡◌ {A = Option ℕ} (Some s) (sized k) → (s ≡ k) × (0 < s)
+sized-some k s e = go (eqb k 0) refl e
+  where
+    go : (t : Bool) → eqb k 0 ≡ t → ◌≡◌ {A = Option ℕ} (Some s) (pick t None (Some k)) → (s ≡ k) × (0 < s)
+    go true q f = let z : ◌≡◌ {A = ℕ} 0 1 = cc in absurd (omega arith)
+    go false q f = let same : s ≡ k = cc in (same, omega (arith, same, eqb-false k 0 q))
+
+pub none-sized : (k : ℕ) → k ≡ 0 → ◌≡◌ {A = Option ℕ} None (sized k)
+none-sized k e = rw (eq-eqb k 0 e)
+
+pub some-sized : (k s : ℕ) → s ≡ k → 0 < s → ◌≡◌ {A = Option ℕ} (Some s) (sized k)
+some-sized k s e low = let some : k ≡ 0 → ⊥ = λ z. omega (arith, e, z, low) in rw (ne_eqb k 0 some) (ap (λ (x : ℕ). Some x) e)

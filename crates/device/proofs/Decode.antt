@@ -135,6 +135,9 @@ module _ (n : ℕ) (t : List ℕ) (four : 4 ≤ length t) (h place : ℕ) (head 
   pub extent-cut : length t < size_of h → extent (front n t) ≡ 0
   extent-cut k = extent-none n t (λ s. omega (arith, head-size s, s.whole))
 
+  pub extent-kind : size_of h ≡ 0 → extent (front n t) ≡ 0
+  extent-kind e = extent-none n t (λ s. omega (arith, head-size s, e))
+
   pub extent-out : place_ok n h place ≡ false → extent (front n t) ≡ 0
   extent-out k = extent-none n t (λ s. true≢false (sym s.inside ∙ sym (same_place (head-kind s)) ∙ k))
 

@@ -10,6 +10,10 @@ use Rattle.device.specs.declared.Judged.{Judged}
 unfoldable pub size_of : ℕ → ℕ
 size_of head = pick (eqb head 1) 12 (pick (eqb head 2) 68 (pick (eqb head 3) 4 (pick (eqb head 4) 4 0)))
 
+-- a size, unless it is 0
+abbrev pub sized : ℕ → Option ℕ
+sized k = pick (eqb k 0) None (Some k)
+
 -- the number of commands, unless one is malformed
 abbrev pub scanned : List Op → Option ℕ
 scanned cs = pick (well_formed cs) (Some (length cs)) None

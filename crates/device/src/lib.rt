@@ -1,12 +1,12 @@
 // The device: words, lines, flushes and barriers on a tape, run over an image, whole or cut.
 #![tactic(auto)]
 
-ghost use Rattle.std.specs.Prelude.{◌≡◌, true, ◌||◌, ℕ, ◌+◌, ◌-◌, ◌*◌, ◌/◌, ◌≤◌, ◌<◌, eqb, ltb, length, take, drop, get_or, set};
+ghost use Rattle.std.specs.Prelude.{◌≡◌, true, ◌||◌, ℕ, ◌+◌, ◌-◌, ◌*◌, ◌/◌, ◌≤◌, ◌<◌, eqb, ltb, length, take, drop, get_or, set, IfSome};
 ghost use Rattle.codec.specs.Lists.{pick, part, splice};
 ghost use Rattle.codec.specs.Numbers.{number};
 ghost use Rattle.device.specs.Tape.{decode, front, extent, place_ok, well_formed, head_bytes, word_bytes, line_bytes, flush_bytes, barrier_bytes};
 ghost use Rattle.device.specs.Cut.{after, cut_image};
-ghost use Rattle.device.specs.Counts.{size_of, scanned, flush_done, note_flush, Tells, Found};
+ghost use Rattle.device.specs.Counts.{size_of, sized, scanned, flush_done, note_flush, Tells, Found};
 ghost use Rattle.device.specs.Calls.{cause_number, of_cause, is_image_size, run_call, cut_tape, cut_call};
 
 // Why a call is refused; the number beside each is the one by which document 01 names it, and document 02 those past 16.
@@ -67,16 +67,16 @@ struct Judged {
     fence: usize,
 }
 
-// The bytes of a command by the two bytes that it starts with; 0 if it is none.
-fn size_of(head: usize) -> usize
-    ensures { (result ≡ size_of head) × (result ≤ 68) }
+// The bytes of a command by the two bytes that it starts with, if it is one.
+fn size_of(head: usize) -> Option<usize>
+    ensures { result ≡ sized (size_of head) }
 {
     match head {
-        1 => 12,
-        2 => 68,
-        3 => 4,
-        4 => 4,
-        _ => 0,
+        1 => Some(12),
+        2 => Some(68),
+        3 => Some(4),
+        4 => Some(4),
+        _ => None,
     }
 }
 
@@ -95,25 +95,26 @@ fn is_place(head: usize, place: usize, n: usize) -> bool
     64 * place + 64 <= n
 }
 
-// The bytes of the command at `at` of the tape, over an image of n bytes; 0 if it is none.
-fn size_at(tape: &[u8], at: usize, n: usize) -> usize
+// The bytes of the command at `at` of the tape, over an image of n bytes, if it is one.
+fn size_at(tape: &[u8], at: usize, n: usize) -> Option<usize>
     requires { at ≤ length tape.now }
-    ensures { (result ≡ extent (front n (drop at tape.now))) × (at + result ≤ length tape.now) }
+    ensures value { result ≡ sized (extent (front n (drop at tape.now))) }
+    ensures inside { IfSome result (λ size. at + size ≤ length tape.now) }
 {
     let left = tape.len() - at;
     if left < 4 {
-        return 0;
+        return None;
     }
     let head = codec::number_at(tape, at);
     let place = codec::number_at(tape, at + 2);
-    let size = size_of(head);
+    let size = size_of(head)?;
     if left < size {
-        return 0;
+        return None;
     }
     if !is_place(head, place, n) {
-        return 0;
+        return None;
     }
-    size
+    Some(size)
 }
 
 // Judges the whole tape over an image of n bytes and counts its commands.
@@ -124,10 +125,7 @@ pub fn count_commands(tape: &[u8], n: usize) -> Option<usize>
     let mut count = 0;
     // A walk from place to place: commands differ in size, so `at` is no index.
     while at < tape.len() {
-        let size = size_at(tape, at, n);
-        if size == 0 {
-            return None;
-        }
+        let size = size_at(tape, at, n)?;
         at = at + size;
         count = count + 1;
     }
@@ -233,10 +231,7 @@ fn judge(flushes: &mut [usize], tape: &[u8], n: usize, c: usize) -> Option<Judge
     let mut fence = 0;
     // A walk from place to place: commands differ in size, so `at` is no index.
     while at < tape.len() {
-        let size = size_at(tape, at, n);
-        if size == 0 {
-            return None;
-        }
+        let size = size_at(tape, at, n)?;
         if count < c {
             fence = note(flushes, tape, at, fence);
         }
@@ -336,7 +331,13 @@ fn cut_with<const LINES: usize, const FLUSHES: usize>(
 }
 
 // The image that a cut after c commands leaves, in work: each line keeps as many of its pending stores as its choice says.
-pub fn cut(image: &[u8], work: &mut [u8], tape: &[u8], c: usize, choices: &[u8]) -> Result<(), Refusal>
+pub fn cut(
+    image: &[u8],
+    work: &mut [u8],
+    tape: &[u8],
+    c: usize,
+    choices: &[u8],
+) -> Result<(), Refusal>
     ensures value { result ≡ (cut_call image.now work.old tape.now c choices.now).answer }
     ensures work_after { work.new ≡ (cut_call image.now work.old tape.now c choices.now).work }
 {

@@ -7,38 +7,40 @@ use native.Mathlib.Omega.{arith}
 use lib.ListN.{length, drop}
 use Rattle.device.specs.Tape.{decode, well_formed}
 use Rattle.std.specs.Prelude.{Some}
+use Rattle.device.proofs.Counts.{sized-none, sized-some}
 use Rattle.device.proofs.Decode.{past-at, broken-at, decode-end, well_formed-next}
 use Rattle.device.proofs.count_commands.Goals as goal
 
 pub loop-at-init : goal.loop-at-init
 loop-at-init c = (omega arith, omega arith, refl, omega arith)
 
-pub size_at-size-requires : goal.size_at-size-requires
-size_at-size-requires c = omega arith
+pub size_at-requires : goal.size_at-requires
+size_at-requires c = omega arith
 
-pub returns-then-size-eq0 : goal.returns-then-size-eq0
+pub returns-in_err-size : goal.returns-in_err-size
 unfolding well_formed
-returns-then-size-eq0 c =
+returns-in_err-size c =
     let a = c.args in
     let l = c.loop-at in
-    let f : well_formed (decode a.n a.tape.now) ≡ false = sym l.invariant.2 ∙ ap well_formed (broken-at a.n l.at a.tape.now c.loop-at-test.true (sym c.size_at-size.ensures.0 ∙ c.if-size-eq0.true)) in
-    rw f
+    let f : well_formed (decode a.n a.tape.now) ≡ false = sym l.invariant.2 ∙ ap well_formed (broken-at a.n l.at a.tape.now c.loop-at-test.true (sized-none _ c.in_err-size.ensures.value)) in
+    rw (c.from_residual.ensures, f)
 
 pub overflow_add-at : goal.overflow_add-at
-overflow_add-at c = omega arith
+overflow_add-at c = omega (arith, c.in_ok-size.ensures.inside)
 
 pub overflow_add-count : goal.overflow_add-count
-overflow_add-count c = omega arith
+overflow_add-count c = omega (arith, c.in_ok-size.ensures.inside)
 
 pub loop-at-smaller : goal.loop-at-smaller
-loop-at-smaller c = omega arith
+loop-at-smaller c = omega (arith, c.in_ok-size.ensures.inside, (sized-some _ _ c.in_ok-size.ensures.value).1)
 
 pub loop-at-preserved : goal.loop-at-preserved
 loop-at-preserved c =
     let a = c.args in
     let l = c.loop-at in
-    let next = past-at a.n l.at a.tape.now c.loop-at-test.true _ c.size_at-size.ensures.0 (omega arith) in
-    (c.size_at-size.ensures.1, omega arith, sym (ap well_formed next ∙ well_formed-next _ _ (omega arith)) ∙ l.invariant.2, omega (arith, ap length next))
+    let size = sized-some _ _ c.in_ok-size.ensures.value in
+    let next = past-at a.n l.at a.tape.now c.loop-at-test.true _ size.0 (omega (arith, size.1)) in
+    (c.in_ok-size.ensures.inside, omega (arith, size, c.in_ok-size.ensures.inside), sym (ap well_formed next ∙ well_formed-next _ _ (omega (arith, size))) ∙ l.invariant.2, omega (arith, ap length next, size))
 
 pub returns : goal.returns
 unfolding well_formed

@@ -1,6 +1,6 @@
 -- What the code keeps count of instead of a list: a command by its line, the number of choices as a product, and where a cut stands.
 -- Assumes nothing.
-use Rattle.std.specs.Prelude.{ℕ, suc, ◌+◌, ◌*◌, ◌≤◌, ◌<◌, ◌≡◌, ◌⊎◌, List, [], ◌∷◌, length, get_or, set, take}
+use Rattle.std.specs.Prelude.{ℕ, suc, ◌+◌, ◌*◌, ◌≤◌, ◌<◌, ◌≡◌, ◌⊎◌, Option, None, Some, List, [], ◌∷◌, length, get_or, set, take}
 use Rattle.device.specs.Tape.{Op, store, flush, barrier, malformed, decode}
 use Rattle.device.specs.Cut.{line_of}
 use Rattle.cuts.specs.All.{pendings, headed, choices_after, cuts}
@@ -47,11 +47,16 @@ ways (m ∷ ms) = suc m * ways ms
 abbrev pub Names : List ℕ → List ℕ → Type 0
 Names named ms = (l : ℕ) → ((i : ℕ) → i < length named → get_or named i 0 ≡ l → ⊥) → get_or ms l 0 ≡ 0
 
--- of the first lines named, so many of them, r is the number after the highest one below the bound; 0 if there is none
-pub record Highest (named : List ℕ) (count bound r : ℕ) : Type 0 where
-  pub within : r ≤ bound
-  pub above : (i : ℕ) → i < count → get_or named i 0 < bound → get_or named i 0 < r
-  pub is_one : (r ≡ 0) ⊎ ((i : ℕ) × (i < count) × (get_or named i 0 + 1 ≡ r))
+-- the number of lines up to the one found and with it
+abbrev pub lines_to : Option ℕ → ℕ
+lines_to None = 0
+lines_to (Some line) = line + 1
+
+-- the highest of the lines named that is below the bound, if one is: no other of them is between it and the bound
+pub record Highest (named : List ℕ) (bound : ℕ) (line : Option ℕ) : Type 0 where
+  pub within : lines_to line ≤ bound
+  pub above : (i : ℕ) → i < length named → get_or named i 0 < bound → get_or named i 0 < lines_to line
+  pub is_one : (line ≡ None) ⊎ ((i : ℕ) × (i < length named) × (line ≡ Some (get_or named i 0)))
 
 -- cut number r stands at p: so many cuts have fewer commands. If p is within the tape, ms are the pending stores of the lines there
 pub record Sought (lines : ℕ) (cs : List Op) (r : ℕ) (p : Place) (ms named : List ℕ) : Type 0 where

@@ -182,16 +182,11 @@ fn seek(
     Place { commands, rest }
 }
 
-// The number after the highest named line below the bound; 0 if there is none.
-fn line_below(named: &[usize], bound: usize) -> usize
-    ensures { Highest named.now (length named.now) bound result }
+// The highest named line below the bound, if there is one.
+fn line_below(named: &[usize], bound: usize) -> Option<usize>
+    ensures { Highest named.now bound result }
 {
-    named
-        .iter()
-        .copied()
-        .filter(|line| *line < bound)
-        .max()
-        .map_or(0, |line| line + 1)
+    named.iter().copied().filter(|line| *line < bound).max()
 }
 
 // Writes choice number r of all choices for lines with so many pending stores: the last line's first, which changes fastest.
@@ -202,7 +197,7 @@ fn put_choices(choices: &mut [u8], pending: &[u8], named: &[usize], r: usize)
     choices.fill(0);
     let mut left = r;
     let mut bound = choices.len();
-    while let Some(line) = line_below(named, bound).checked_sub(1) {
+    while let Some(line) = line_below(named, bound) {
         let factor = codec::wide(pending[line]) + 1;
         choices[line] = (left % factor) as u8;
         left = left / factor;

@@ -1,7 +1,7 @@
--- `line_below`: the largest of the lines that are below the bound, and one more.
+-- `line_below`: the largest of the lines that are below the bound.
 -- Assumes nothing.
-use Prim.Native.Nat.{ℕ, zero, suc, ◌+◌, ◌≤◌, ◌<◌}
-use mathlib.Core.Path.{◌≡◌, refl, ap, ◌∙◌, subst}
+use Prim.Native.Nat.{ℕ, zero, suc, ◌≤◌, ◌<◌}
+use mathlib.Core.Path.{◌≡◌, refl, sym, ap, ◌∙◌}
 use mathlib.Core.Logic.{inl, inr}
 use mathlib.Core.Bool.{Bool, true, false, cond}
 use mathlib.Core.List.{List, [], ◌∷◌}
@@ -11,7 +11,7 @@ use lib.Dec.{ltb}
 use borrow.Author.Tests.{ltb-true, lt-ltb}
 use Rattle.std.proofs.Common.{Option, Some, None, rules}
 use Rattle.std.specs.List.{filter, Contains, All}
-use Rattle.std.specs.Option.{MatchOption, option_map_or}
+use Rattle.std.specs.Option.{MatchOption}
 use Rattle.std.proofs.lemmas.List.{get_or_default}
 use Rattle.std.proofs.lemmas.List.Elements.{All-filter, All-contains, All-contains_itself, filter_passes}
 use Rattle.cuts.specs.Products.{Highest}
@@ -34,7 +34,7 @@ module _ (named : List ℕ) (bound : ℕ) where
   within-below : (i : ℕ) → i < length named → get_or named i 0 < bound → Contains below (get_or named i 0)
   within-below i h b = passed (λ (l : ℕ). ltb l bound) named i h (lt-ltb (get_or named i 0) bound b)
 
-  highest : (o : Option ℕ) → MatchOption o (length below ≡ 0) (λ m. Contains below m × All (λ x. x ≤ m) below) → Highest named (length named) bound (option_map_or (λ (l : ℕ). l + 1) o 0)
+  highest : (o : Option ℕ) → MatchOption o (length below ≡ 0) (λ m. Contains below m × All (λ x. x ≤ m) below) → Highest named bound o
   highest None e = record { within = omega arith; above = λ i h b. (let c = within-below i h b in absurd (omega (arith, c.1, e))); is_one = inl refl }
   highest (Some m) (c, a) =
       let low = ltb-true m bound (All-contains (λ (l : ℕ). ltb l bound ≡ true) below m (filter_passes (λ (l : ℕ). ltb l bound) named) c) in
@@ -42,11 +42,10 @@ module _ (named : List ℕ) (bound : ℕ) where
       record {
         within = omega arith;
         above = λ i h b. (let le = All-contains (λ (x : ℕ). x ≤ m) below (get_or named i 0) a (within-below i h b) in omega arith);
-        is_one = inr (n.0, n.1, ap (λ (x : ℕ). x + 1) (get_or_default named n.0 0 m n.1 ∙ n.2));
+        is_one = inr (n.0, n.1, ap (λ (x : ℕ). Some x) (sym (get_or_default named n.0 0 m n.1 ∙ n.2)));
       }
 
 pub returns : goal.returns
 returns c =
-    let h : MatchOption c.max.result (length (below c.args.named.now c.args.bound) ≡ 0) (λ m. Contains (below c.args.named.now c.args.bound) m × All (λ x. x ≤ m) (below c.args.named.now c.args.bound)) = search rules in
-    let e : option_map_or (λ (l : ℕ). l + 1) c.max.result 0 ≡ c.map_or.result = search rules in
-    subst (Highest c.args.named.now (length c.args.named.now) c.args.bound) e (highest c.args.named.now c.args.bound c.max.result h)
+    let found : MatchOption c.max.result (length (below c.args.named.now c.args.bound) ≡ 0) (λ m. Contains (below c.args.named.now c.args.bound) m × All (λ x. x ≤ m) (below c.args.named.now c.args.bound)) = search rules in
+    highest c.args.named.now c.args.bound c.max.result found

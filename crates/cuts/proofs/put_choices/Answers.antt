@@ -1,7 +1,7 @@
 -- `put_choices`: from the last line named to the first, what is left counts the choices of the lines written.
 -- Assumes nothing.
 use Prim.Native.Nat.{ℕ, ◌+◌}
-use mathlib.Core.Path.{◌≡◌, ap, ◌∙◌, subst}
+use mathlib.Core.Path.{◌≡◌, refl, ap, ◌∙◌, subst}
 use mathlib.Core.List.{List}
 use native.Mathlib.Omega.{arith}
 use lib.ListN.{length, get_or, replicate}
@@ -21,12 +21,11 @@ pub loop-line-preserved : goal.loop-line-preserved
 loop-line-preserved c =
     let a = c.args in
     let l = c.loop-line in
-    digits-put a.pending.now a.r l.left c.line_below.result c.in-Some.line (c.wide-factor.result + 1) l.choices (omega (arith, c.in-Some.ensures)) (omega (arith, c.wide-factor.ensures.0))
-    (digits-down a.pending.now a.named.now c.requires.2 a.r l.left l.choices _ l.bound c.line_below.ensures.within c.line_below.ensures.above l.invariant)
+    digits-put a.pending.now a.r l.left _ c.in-Some.line (c.wide-factor.result + 1) l.choices refl (omega (arith, c.wide-factor.ensures.0))
+    (digits-down a.pending.now a.named.now c.requires.2 a.r l.left l.choices _ l.bound c.in-Some.ensures.within c.in-Some.ensures.above l.invariant)
 
 pub returns : goal.returns
 returns c =
     let a = c.args in
     let l = c.loop-line in
-    let none : c.line_below.result ≡ 0 = omega (arith, c.in_default.ensures) in
-    digits-end a.pending.now a.r l.left l.choices (subst (λ (x : ℕ). Digits a.pending.now a.r l.left x l.choices) none (digits-down a.pending.now a.named.now c.requires.2 a.r l.left l.choices _ l.bound c.line_below.ensures.within c.line_below.ensures.above l.invariant)) c.requires.1
+    digits-end a.pending.now a.r l.left l.choices (digits-down a.pending.now a.named.now c.requires.2 a.r l.left l.choices _ l.bound c.in_default.ensures.within c.in_default.ensures.above l.invariant) c.requires.1

@@ -1,4 +1,4 @@
--- The root above a page that an edit has changed: it can take what stands for the page, it is not split, and the tree is then what `upward` says.
+-- The root above a page that an edit has changed: it can take what stands for the page, and is not split.
 -- Assumes nothing.
 use Prim.Native.Nat.{ℕ, suc, ◌+◌, ◌≤◌, ◌<◌}
 use mathlib.Core.Path.{◌≡◌, refl, sym, ap, ◌∙◌, subst}
@@ -24,15 +24,15 @@ use Rattle.image.proofs.General.{All-append, All-left}
 use Rattle.image.proofs.IndexRecords.{index-entry, sizes-entries}
 use Rattle.edit.proofs.General.{all_right}
 use Rattle.tree.specs.State.{State, with_page}
-use Rattle.tree.specs.Edits.{Change, PageStep, now, stops, kept, gone, one, two, no_keep, is_full, copied, split, moved, put, dropped, absorbed, onto, rooted}
+use Rattle.tree.specs.Edits.{Change, PageStep, now, stops, kept, gone, one, two, no_keep, is_full, copied, split, moved, put, dropped, absorbed, onto}
 use Rattle.tree.specs.Good.{count}
 use Rattle.tree.proofs.Counts.{hit-self, inside-most}
 use Rattle.tree.proofs.States.{leads-free}
 use Rattle.tree.proofs.Change.{Out, IfMade, Holds, Halves, raised, stand, SepsOk, out-ends, if-made-map, if-made-out}
 use Rattle.tree.proofs.Puts.{Puts, put-ends, dropped-puts}
 use Rattle.tree.proofs.Absorb.{absorbed-out}
-use Rattle.tree_edit.specs.Steps.{state_of, turn_of, NotTwo, upward, rec_by, made_by}
-use Rattle.tree_edit.specs.Asked.{CanPut, CanAbsorb, IndexAt, AtChild}
+use Rattle.tree_edit.specs.Steps.{state_of, turn_of, top_after, NotTwo, rec_by, made_by}
+use Rattle.tree_edit.specs.Asked.{CanPut, CanAbsorb, CanRaise, IndexAt, AtChild}
 use Rattle.tree_edit.specs.declared.Child.{Child}
 use Rattle.tree_edit.specs.declared.Put.{Put}
 use Rattle.tree_edit.specs.declared.Turned.{Turned}
@@ -244,7 +244,7 @@ module _ {n : ℕ} {st : State} {c : Child} (at : AtChild n st c) where
         subst (λ (j : ℕ). IndexAt j (state_of before w (record { root = st.root; top = top })) index_kind st.root c) (sym size)
         (index-after ch (state_of before w (record { root = st.root; top = top })) a)
 
-    pub absorbs : CanAbsorb (page_count w) before w st.root index_kind st.root c r
+    absorbs : CanAbsorb (page_count w) before w st.root index_kind st.root c r
     absorbs =
         record {
           gone = λ top z. counted gone top (by (Gone top) z);
@@ -252,7 +252,7 @@ module _ {n : ℕ} {st : State} {c : Child} (at : AtChild n st c) where
           two = λ p k b top z. let a = by (Two p k b top) z in (counted (two p k b) top a, a.seps);
         }
 
-    pub root-stays : (w2 : List ℕ) (above : Turned) →
+    root-stays : (w2 : List ℕ) (above : Turned) →
         turn_of before w2 st.root above ≡ onto (turn_of before w st.root r) (λ x u. absorbed format1 no_keep index_kind c.slot c.low st.root x u) → NotTwo above
     unfolding onto
     root-stays w2 above e p k b top z =
@@ -262,10 +262,5 @@ module _ {n : ℕ} {st : State} {c : Child} (at : AtChild n st c) where
         onward (stops k) a = tt
         onward (now ch t) a = root-few ch t a
 
--- ---- the tree then
-
-pub upward-is : (before w : List ℕ) (root : ℕ) (c : Child) (below : Turned) (s : PageStep) → turn_of before w root below ≡ s → (w2 : List ℕ) (above : Turned) →
-    turn_of before w2 root above ≡ onto (turn_of before w root below) (λ x u. absorbed format1 no_keep index_kind c.slot c.low root x u) →
-    rooted format1 1 (turn_of before w2 root above) ≡ upward root c s
-upward-is before w root c below s e w2 above f =
-    ap (rooted format1 1) (f ∙ ap (λ (y : PageStep). onto y (λ x u. absorbed format1 no_keep index_kind c.slot c.low root x u)) e)
+    pub raises : top_after r ≤ 64 → CanRaise before w st.root c r
+    raises low = record { absorb = absorbs; low = low; whole = root-stays }

@@ -5,12 +5,9 @@ use mathlib.Core.Bool.{not}
 use native.Mathlib.Omega.{arith}
 use lib.ListN.{get_or}
 use borrow.Author.Tests.{eq-eqb}
-use Rattle.tree_edit.proofs.Back.{done_first, done-keep, done-spare, done-back, done_all}
+use Rattle.tree_edit.proofs.Back.{done-keep, done-spare, done-back, done_all}
 use Rattle.tree_edit.proofs.ends.put_back.Goals as goal
 use Rattle.tree_edit.proofs.ends.put_back.Goals.{then-marks-p-eq0+then-top-p, else-marks-p-eq0, else-marks-p-eq0-via-then-marks-p-eq0+else-top-p, else-marks-p-eq0-via-else-marks-p-eq0}
-
-pub loop-p-init : goal.loop-p-init
-loop-p-init c = done_first _ _ _
 
 pub loop-p-preserved : goal.loop-p-preserved
 loop-p-preserved c =

@@ -1,4 +1,4 @@
--- The root above a page that an edit has changed: it can take what stands for the page, it is not split, and the tree is then what `upward` says.
+-- The root above a page that an edit has changed: it can take what stands for the page, and is not split.
 -- Assumes nothing.
 use Prim.Native.Nat.{ℕ, suc, ◌+◌, ◌≤◌, ◌<◌}
 use mathlib.Core.Path.{◌≡◌, refl, sym, ap, ◌∙◌, subst}
@@ -31,8 +31,8 @@ use Rattle.tree.proofs.States.{leads-free}
 use Rattle.tree.proofs.Change.{Out, IfMade, Holds, Halves, raised, stand, SepsOk, out-ends, if-made-map, if-made-out}
 use Rattle.tree.proofs.Puts.{Puts, put-ends, dropped-puts}
 use Rattle.tree.proofs.Absorb.{absorbed-out}
-use Rattle.tree_edit.specs.Steps.{state_of, turn_of, NotTwo, upward, rec_by, made_by}
-use Rattle.tree_edit.specs.Asked.{CanPut, CanAbsorb, IndexAt, AtChild}
+use Rattle.tree_edit.specs.Steps.{upward, state_of, turn_of, top_after, NotTwo, rec_by, made_by}
+use Rattle.tree_edit.specs.Asked.{CanPut, CanAbsorb, CanRaise, IndexAt, AtChild}
 use Rattle.tree_edit.specs.declared.Child.{Child}
 use Rattle.tree_edit.specs.declared.Put.{Put}
 use Rattle.tree_edit.specs.declared.Turned.{Turned}
@@ -244,7 +244,7 @@ module _ {n : ℕ} {st : State} {c : Child} (at : AtChild n st c) where
         subst (λ (j : ℕ). IndexAt j (state_of before w (record { root = st.root; top = top })) index_kind st.root c) (sym size)
         (index-after ch (state_of before w (record { root = st.root; top = top })) a)
 
-    pub absorbs : CanAbsorb (page_count w) before w st.root index_kind st.root c r
+    absorbs : CanAbsorb (page_count w) before w st.root index_kind st.root c r
     absorbs =
         record {
           gone = λ top z. counted gone top (by (Gone top) z);
@@ -252,7 +252,7 @@ module _ {n : ℕ} {st : State} {c : Child} (at : AtChild n st c) where
           two = λ p k b top z. let a = by (Two p k b top) z in (counted (two p k b) top a, a.seps);
         }
 
-    pub root-stays : (w2 : List ℕ) (above : Turned) →
+    root-stays : (w2 : List ℕ) (above : Turned) →
         turn_of before w2 st.root above ≡ onto (turn_of before w st.root r) (λ x u. absorbed format1 no_keep index_kind c.slot c.low st.root x u) → NotTwo above
     unfolding onto
     root-stays w2 above e p k b top z =
@@ -262,21 +262,15 @@ module _ {n : ℕ} {st : State} {c : Child} (at : AtChild n st c) where
         onward (stops k) a = tt
         onward (now ch t) a = root-few ch t a
 
--- ---- the tree then
+    pub raises : top_after r ≤ 64 → CanRaise before w st.root c r
+    raises low = record { absorb = absorbs; low = low; whole = root-stays }
 
-pub upward-is : (before w : List ℕ) (root : ℕ) (c : Child) (below : Turned) (s : PageStep) → turn_of before w root below ≡ s → (w2 : List ℕ) (above : Turned) →
-    turn_of before w2 root above ≡ onto (turn_of before w root below) (λ x u. absorbed format1 no_keep index_kind c.slot c.low root x u) →
-    rooted format1 1 (turn_of before w2 root above) ≡ upward root c s
-upward-is before w root c below s e w2 above f =
-    ap (rooted format1 1) (f ∙ ap (λ (y : PageStep). onto y (λ x u. absorbed format1 no_keep index_kind c.slot c.low root x u)) e)
+-- ---- a refusal below the root
 
--- where the step below, or what the root takes of it, is refused
 pub upward-stops : (root : ℕ) (c : Child) (s : PageStep) (k : ℕ) → stops k ≡ s → refused k ≡ upward root c s
 unfolding rooted onto
 upward-stops root c s k e = ap (upward root c) e
 
-pub upward-stopped : (before w : List ℕ) (root : ℕ) (c : Child) (below : Turned) (s : PageStep) → turn_of before w root below ≡ s → (k : ℕ) →
-    stops k ≡ onto (turn_of before w root below) (λ x u. absorbed format1 no_keep index_kind c.slot c.low root x u) → refused k ≡ upward root c s
+pub upward-stopped : (root : ℕ) (c : Child) (s : PageStep) (k : ℕ) → stops k ≡ onto s (λ x u. absorbed format1 no_keep index_kind c.slot c.low root x u) → refused k ≡ upward root c s
 unfolding rooted
-upward-stopped before w root c below s e k f =
-    ap (rooted format1 1) (f ∙ ap (λ (y : PageStep). onto y (λ x u. absorbed format1 no_keep index_kind c.slot c.low root x u)) e)
+upward-stopped root c s k e = ap (rooted format1 1) e

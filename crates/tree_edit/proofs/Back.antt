@@ -83,9 +83,7 @@ module _ {a w marks l : List ℕ} {p : ℕ} (D : Done a w marks l p) where
   pub done-keep : (get_or marks p 0 ≡ 0 → ⊥) → Done a w marks l (p + 1)
   done-keep ne = more l D.long (λ q h. refl) (D.above p (omega arith) ∙ rw (ne_eqb p 0 (λ z. omega (arith, D.some)), ne_eqb (get_or marks p 0) 0 ne))
 
-  pub done-back : length a ≡ length w → page_size * p + page_size ≤ length a → get_or marks p 0 ≡ 0 → (m : List ℕ) → m ≡ splice l (page_size * p) (part a (page_size * p) page_size) →
-      Done a w marks m (p + 1)
-  unfolding page_of put_page
+  pub done-back : length a ≡ length w → page_size * p + page_size ≤ length a → get_or marks p 0 ≡ 0 → (m : List ℕ) → m ≡ put_page l p (page_of a p) → Done a w marks m (p + 1)
   done-back same fits z m e =
       let g = page_of a p in
       let whole : length g ≡ page_size = length-page_of a p fits in

@@ -1,6 +1,6 @@
 -- Whether a page has room for a record: what `is_full` says, and what an edit in place and a copy then ask for.
 -- Assumes nothing.
-use Prim.Native.Nat.{ℕ, suc, ◌+◌, ◌-◌, ◌*◌, ◌≤◌, ◌<◌}
+use Prim.Native.Nat.{ℕ, suc, ◌+◌, ◌-◌, ◌≤◌, ◌<◌}
 use mathlib.Core.Path.{◌≡◌, sym, ap, ◌∙◌}
 use mathlib.Core.Bool.{Bool, true, false, ◌&&◌, not}
 use mathlib.Core.List.{List}
@@ -8,12 +8,11 @@ use native.Mathlib.Omega.{arith}
 use lib.ListN.{length}
 use lib.Dec.{leb}
 use borrow.Author.Tests.{le-leb, lt-leb, leb-true, leb-false, not-false}
-use Rattle.codec.specs.Lists.{part, splice, pick}
+use Rattle.codec.specs.Lists.{part, pick}
 use Rattle.codec.specs.Numbers.{number}
-use Rattle.codec.proofs.Lists.{length_part, splice-sets, sets_over}
-use Rattle.page.specs.Layout.{page_size, line_size, slot_count, Rec, size, read_head}
+use Rattle.page.specs.Layout.{line_size, slot_count, Rec, size, read_head}
 use Rattle.page.specs.Page.{records}
-use Rattle.page.specs.Operations.{insert, update, in_place, page_of, CanInsert, CanUpdate}
+use Rattle.page.specs.Operations.{insert, update, in_place, CanInsert, CanUpdate}
 use Rattle.page.specs.PageFormat.{format1}
 use Rattle.page.proofs.Records.{size-least}
 use Rattle.page.proofs.Made.{length-made}
@@ -89,13 +88,3 @@ module _ (p : List ℕ) (i : ℕ) (r : Rec) where
   pub place-update : (ins : Bool) → ins ≡ false → update p i r ≡ in_place ins i r p
   unfolding in_place
   place-update ins z = rw z
-
--- ---- a page copied to an array of its size
-
-pub page-copied : (zeros work old : List ℕ) (n : ℕ) → length zeros ≡ page_size → page_size * n + page_size ≤ length work →
-    old ≡ splice zeros 0 (part work (page_size * n) page_size) → old ≡ page_of work n
-unfolding page_of
-page-copied zeros work old n whole fits e =
-    let new = part work (page_size * n) page_size in
-    let long : length new ≡ page_size = length_part work (page_size * n) page_size fits in
-    e ∙ splice-sets zeros 0 new (omega arith) ∙ sets_over zeros new (long ∙ sym whole)

@@ -3,16 +3,16 @@
 use Rattle.std.specs.Prelude.{ℕ, ◌+◌, ◌*◌, ◌≤◌, ◌<◌, ◌≡◌, true, false, List, length, take, drop}
 use Rattle.codec.specs.Lists.{All}
 use Rattle.codec.specs.Numbers.{bytes_of}
-use Rattle.page.specs.Layout.{page_size, top_key, Rec}
+use Rattle.page.specs.Layout.{page_size, index_kind, top_key, Rec}
 use Rattle.page.specs.Page.{records, laid_out, RecOk}
 use Rattle.page.specs.Operations.{page_of}
 use Rattle.page.specs.PageFormat.{Lists, format1}
 use Rattle.image.specs.PageZero.{page_count}
 use Rattle.image.specs.Image.{children, reached, Entries}
 use Rattle.tree.specs.State.{State}
-use Rattle.tree.specs.Edits.{split_point}
+use Rattle.tree.specs.Edits.{no_keep, split_point, absorbed, onto}
 use Rattle.tree.specs.Good.{hit, count, inside, Fits, Good}
-use Rattle.tree_edit.specs.Steps.{is_marked, state_of, child_at, rec_by, made_by}
+use Rattle.tree_edit.specs.Steps.{is_marked, state_of, turn_of, top_after, NotTwo, child_at, rec_by, made_by}
 use Rattle.tree_edit.specs.declared.Child.{Child}
 use Rattle.tree_edit.specs.declared.Put.{Put}
 use Rattle.tree_edit.specs.declared.Turned.{Turned}
@@ -56,6 +56,12 @@ pub record CanAbsorb (n : ℕ) (before work : List ℕ) (root kind page : ℕ) (
   pub gone : (top : ℕ) → below ≡ Gone top → IndexAt n (state_of before work (record { root = root; top = top })) kind page c
   pub one : (p top : ℕ) → below ≡ One p top → IndexAt n (state_of before work (record { root = root; top = top })) kind page c
   pub two : (p k q top : ℕ) → below ≡ Two p k q top → IndexAt n (state_of before work (record { root = root; top = top })) kind page c × (k ≤ top_key)
+
+-- the root can take what stands for the page under it, and is not split by it
+pub record CanRaise (before work : List ℕ) (root : ℕ) (c : Child) (below : Turned) : Type 0 where
+  pub absorb : CanAbsorb (page_count work) before work root index_kind root c below
+  pub low : top_after below ≤ 64
+  pub whole : (w : List ℕ) (above : Turned) → turn_of before w root above ≡ onto (turn_of before work root below) (λ x s. absorbed format1 no_keep index_kind c.slot c.low root x s) → NotTwo above
 
 -- the page c is one of those that the root of a sound tree names
 pub record AtChild (n : ℕ) (st : State) (c : Child) : Type 0 where

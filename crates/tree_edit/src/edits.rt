@@ -11,11 +11,11 @@ ghost use Rattle.edit.specs.Reads.{Proper};
 ghost use Rattle.tree.specs.Edits.{no_keep, put, dropped, edited};
 ghost use Rattle.tree.specs.Whole.{edits_from};
 ghost use Rattle.tree.specs.Good.{Good};
-ghost use Rattle.tree_edit.specs.Steps.{state_of, outcome_of, Says, child_at, rec_by, upward};
-ghost use Rattle.tree_edit.specs.Asked.{AtChild, CanPut};
+ghost use Rattle.tree_edit.specs.Steps.{state_of, outcome_of, Says, turn_of, child_at, rec_by, upward};
+ghost use Rattle.tree_edit.specs.Asked.{AtChild, CanPut, CanRaise};
 
 use crate::turns::{absorb, drop_record, put_record, root_step};
-use crate::{Child, Put, Tree};
+use crate::{Child, Put, Tree, Turned};
 use device::{Cause, Refusal};
 use image::descent::route;
 use image::pages::{child_at, count, key_at, page_of};
@@ -29,14 +29,17 @@ pub(crate) fn child_of(work: &[u8], root: usize, key: u64) -> Child
     let index = page_of(work, root);
     let slot = route(index, key);
     let page = child_at(index, slot);
-    if slot == 0 {
-        return Child { slot, low: 0, page };
-    }
-    Child {
-        slot,
-        low: key_at(index, slot),
-        page,
-    }
+    let low = if slot == 0 { 0 } else { key_at(index, slot) };
+    Child { slot, low, page }
+}
+
+// Gives the root what stands for a page under it once an edit there is made: the tree is then what the root has become.
+fn raise(work: &mut [u8], before: &[u8; 64], root: usize, under: Child, below: Turned) -> Result<Tree, Cause>
+    requires { CanRaise before.now work.old root under below }
+    ensures { Says before.now work.new result (upward root under (turn_of before.now work.old root below)) }
+{
+    let above = absorb(work, before, root, 2, root, under, below)?;
+    root_step(root, above)
 }
 
 // Puts a record into a page under the root, and gives the root what it takes of it.
@@ -53,8 +56,7 @@ pub(crate) fn put_under(
 {
     let full = 28 <= count(page_of(work, t.root));
     let below = put_record(work, before, t, 1, full, under.page, new, value)?;
-    let above = absorb(work, before, t.root, 2, t.root, under, below)?;
-    root_step(t.root, above)
+    raise(work, before, t.root, under, below)
 }
 
 // Drops the j-th record of a page under the root, and gives the root what it takes of it.
@@ -70,8 +72,7 @@ pub(crate) fn drop_under(
 {
     let only = count(page_of(work, t.root)) == 1;
     let below = drop_record(work, t, under.page, only, j);
-    let above = absorb(work, before, t.root, 2, t.root, under, below)?;
-    root_step(t.root, above)
+    raise(work, before, t.root, under, below)
 }
 
 // Inserts a key that is missing.

@@ -40,7 +40,9 @@ pub(crate) fn put_back(
 {
     for p in 1..image.len() / 1024 {
         if marks[p] == 0 && (before[p] != 0 || top <= p) {
-            codec::copy(work, 1024 * p, image, 1024 * p, 1024);
+            let a = 1024 * p;
+            let e = a + 1024;
+            work[a..e].copy_from_slice(page_of(image, p));
         }
     }
 }

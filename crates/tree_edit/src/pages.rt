@@ -11,7 +11,7 @@ ghost use Rattle.tree_edit.specs.Steps.{unmarked, rec_by, made_by};
 ghost use Rattle.tree_edit.specs.Asked.{CanPut};
 
 use crate::Put;
-use image::pages::count;
+use image::pages::{count, page_of};
 use page_edit::{delete_record, fill_made, insert_record, update_record};
 
 // The highest page below top that is not marked, or 0: "the highest-numbered one neither reached before the transaction nor
@@ -33,13 +33,7 @@ pub(crate) fn is_full(page: &[u8], ins: bool, s: usize) -> bool
     requires { laid_out page.now ≡ true }
     ensures { result ≡ is_full format1 tt ins s page.now }
 {
-    if codec::number_at(page, 2) - 64 < s {
-        return true;
-    }
-    if ins {
-        return 28 <= count(page);
-    }
-    false
+    codec::number_at(page, 2) - 64 < s || (ins && 28 <= count(page))
 }
 
 // How many records a page lists once the new one is put in.
@@ -47,13 +41,11 @@ pub(crate) fn made_count(page: &[u8], ins: bool) -> usize
     requires { laid_out page.now ≡ true }
     ensures { result ≡ pick ins (suc (length (records page.now))) (length (records page.now)) }
 {
-    if ins {
-        return count(page) + 1;
-    }
-    count(page)
+    count(page) + usize::from(ins)
 }
 
-// Puts a record into page p, which has room for it.
+// Puts a record into page p, which has room for it. Here and below the page is lent by its own range: a function that gives the part as a `&mut`
+// gets no generated proof.
 pub(crate) fn put_in_place(work: &mut [u8], p: usize, new: Put, value: &[u8])
     requires page_size_in_bounds { (page_size * p + page_size ≤ length work.old) × CanPut (page_of work.old p) new value.now }
     requires p_value { is_full format1 tt new.ins (size (rec_by new value.now)) (page_of work.old p) ≡ false }
@@ -95,7 +87,7 @@ pub(crate) fn copy_made(
     ensures { work.new ≡ put_page work.old to (fill (page_of work.old to) kind to (between (made_by new value.now (page_of work.old from)) first last)) }
 {
     let mut old = [0u8; 1024];
-    codec::copy(&mut old, 0, work, 1024 * from, 1024);
+    old.copy_from_slice(page_of(work, from));
     let a = 1024 * to;
     let e = a + 1024;
     fill_made(

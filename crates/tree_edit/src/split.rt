@@ -18,13 +18,8 @@ pub(crate) fn size_made(page: &[u8], new: Put, value: &[u8], k: usize) -> usize
     if k == new.at {
         return size_of(value.len());
     }
-    if k < new.at {
-        return size_at(page, k);
-    }
-    if new.ins {
-        return size_at(page, k - 1);
-    }
-    size_at(page, k)
+    let old = if new.ins && new.at < k { k - 1 } else { k };
+    size_at(page, old)
 }
 
 // The sum of the records' sizes once the new one is put in.
@@ -44,10 +39,7 @@ pub(crate) fn fits_one(page: &[u8], new: Put, value: &[u8]) -> bool
     requires { CanPut page.now new value.now }
     ensures { result ≡ fits_page (made_by new value.now page.now) }
 {
-    if 28 < made_count(page, new.ins) {
-        return false;
-    }
-    total_made(page, new, value) <= 960
+    made_count(page, new.ins) <= 28 && total_made(page, new, value) <= 960
 }
 
 // How many records the left page takes: "m smallest with twice their bytes at least the total". The loop has no last index: it ends where half of

@@ -18,9 +18,9 @@ child_at-page-requires c =
 pub returns-then-slot-eq0 : goal.returns-then-slot-eq0
 returns-then-slot-eq0 c = child-is c.requires _ c.page_of-index.ensures _ _ c.route-slot.ensures _ _ (low_first _ _ c.if-slot-eq0.true) c.child_at-page.ensures
 
-pub key_at-requires : goal.key_at-requires
-key_at-requires c =
+pub key_at-low-requires : goal.key_at-low-requires
+key_at-low-requires c =
     (root-laid c.requires _ c.page_of-index.ensures, slot-less c.requires _ c.page_of-index.ensures _ _ c.route-slot.ensures)
 
-pub returns : goal.returns
-returns c = child-is c.requires _ c.page_of-index.ensures _ _ c.route-slot.ensures _ _ (c.key_at.ensures ∙ low-other _ _ c.if-slot-eq0.false) c.child_at-page.ensures
+pub returns-else-slot-eq0 : goal.returns-else-slot-eq0
+returns-else-slot-eq0 c = child-is c.requires _ c.page_of-index.ensures _ _ c.route-slot.ensures _ _ (c.key_at-low.ensures ∙ low-other _ _ c.if-slot-eq0.false) c.child_at-page.ensures

@@ -1,11 +1,17 @@
--- `drop_under`: the page loses the record, the root takes what stands for the page, and the tree is what `upward` says.
+-- `drop_under`: the page loses the record, and the root takes what stands for the page.
 -- Assumes nothing.
-use Rattle.std.proofs.lemmas.Result.{err_from_is_err_and}
-use mathlib.Core.Path.{◌∙◌}
-use Rattle.tree_edit.proofs.Said.{says_same, says-refused, turned-refused, turned-done, turned-low}
+use mathlib.Core.Path.{◌≡◌, ◌∙◌}
+use lib.ListN.{length}
+use lib.Dec.{eqb}
+use Rattle.page.specs.Page.{records}
+use Rattle.page.specs.Operations.{page_of}
+use Rattle.page.specs.PageFormat.{format1}
+use Rattle.tree.specs.Edits.{dropped}
+use Rattle.tree_edit.specs.Steps.{state_of, turn_of}
 use Rattle.tree_edit.proofs.Places.{root-fits, root-laid, child_fits, child-ok}
-use Rattle.tree_edit.proofs.Above.{upward-stopped, drop-counted, drop-after, absorbs, root-stays, upward-is}
+use Rattle.tree_edit.proofs.Above.{drop-counted, drop-after, raises}
 use Rattle.tree_edit.proofs.edits.drop_under.Goals as goal
+use Rattle.tree_edit.proofs.edits.drop_under.Goals.{After-drop_record-below}
 
 pub page_of-requires : goal.page_of-requires
 page_of-requires c = root-fits c.requires.0.good
@@ -14,22 +20,14 @@ pub count-only-requires : goal.count-only-requires
 count-only-requires c = root-laid c.requires.0.good _ c.page_of.ensures
 
 pub drop_record-below-requires : goal.drop_record-below-requires
-drop_record-below-requires c =
-    (child_fits c.requires.0, (child-ok c.requires.0).laid, c.requires.1, c.requires.2)
+drop_record-below-requires c = (child_fits c.requires.0, (child-ok c.requires.0).laid, c.requires.1, c.requires.2)
 
-pub absorb-requires : goal.absorb-requires
-absorb-requires c =
-    (absorbs c.requires.0 c.args.before.now c.drop_record-below.new.work c.drop_record-below.result _ ((c.drop_record-below.ensures c.args.before.now).same ∙ drop-counted c.requires.0 c.args.j _ c.page_of.ensures _ c.count-only.ensures) (drop-after c.requires.0 c.args.j c.requires.1 _), (c.drop_record-below.ensures c.args.before.now).low)
+-- what stands for the page is what the definition says
+turned : (c : After-drop_record-below) → let a = c.args in
+    turn_of a.before.now c.drop_record-below.new.work a.t.root c.drop_record-below.result
+    ≡ dropped format1 (eqb (length (records (page_of a.work.now a.t.root))) 1) a.j a.under.page (state_of a.before.now a.work.now a.t)
+turned c = (c.drop_record-below.ensures c.args.before.now).same ∙ drop-counted c.requires.0 c.args.j _ c.page_of.ensures _ c.count-only.ensures
 
-pub root_step-requires : goal.root_step-requires
-root_step-requires c =
-    (root-stays c.requires.0 c.args.before.now c.drop_record-below.new.work c.drop_record-below.result _ ((c.drop_record-below.ensures c.args.before.now).same ∙ drop-counted c.requires.0 c.args.j _ c.page_of.ensures _ c.count-only.ensures) (drop-after c.requires.0 c.args.j c.requires.1 _) c.absorb.new.work c.in_ok-above.above (turned-done c.absorb.ensures _ c.in_ok-above.was), turned-low c.absorb.ensures _ c.in_ok-above.was)
-
-pub returns-in_err-above : goal.returns-in_err-above
-returns-in_err-above c =
-    let p = err_from_is_err_and c.from_residual.result c.from_residual.ensures.1 in
-    rw (p.1, p.2) (says-refused _ (upward-stopped c.args.before.now c.drop_record-below.new.work c.args.t.root c.args.under c.drop_record-below.result _ ((c.drop_record-below.ensures c.args.before.now).same ∙ drop-counted c.requires.0 c.args.j _ c.page_of.ensures _ c.count-only.ensures) _ (turned-refused c.absorb.ensures _ c.in_err-above.was)))
-
-pub returns : goal.returns
-returns c =
-    says_same (c.root_step.ensures c.args.before.now c.absorb.new.work) _ (upward-is c.args.before.now c.drop_record-below.new.work c.args.t.root c.args.under c.drop_record-below.result _ ((c.drop_record-below.ensures c.args.before.now).same ∙ drop-counted c.requires.0 c.args.j _ c.page_of.ensures _ c.count-only.ensures) c.absorb.new.work c.in_ok-above.above (turned-done c.absorb.ensures _ c.in_ok-above.was))
+pub raise-requires : goal.raise-requires
+raise-requires c =
+    raises c.requires.0 c.args.before.now c.drop_record-below.new.work c.drop_record-below.result _ (turned (goal.at.raise-requires c).After-drop_record-below) (drop-after c.requires.0 c.args.j c.requires.1 _) (c.drop_record-below.ensures c.args.before.now).low

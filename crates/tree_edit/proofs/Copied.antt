@@ -6,7 +6,6 @@ use mathlib.Core.Bool.{true}
 use mathlib.Core.List.{List, [], ◌∷◌}
 use native.Mathlib.Omega.{arith}
 use lib.ListN.{length}
-use lib.Dec.{eqb}
 use Rattle.codec.specs.Lists.{pick, All}
 use Rattle.page.specs.Layout.{page_size, Rec}
 use Rattle.page.specs.Page.{records, laid_out, RecOk}
@@ -24,7 +23,7 @@ use Rattle.tree.proofs.States.{Filled, filled-facts}
 use Rattle.tree_edit.specs.Steps.{rec_by, made_by}
 use Rattle.tree_edit.specs.Asked.{CanTake}
 use Rattle.tree_edit.specs.declared.Put.{Put}
-use Rattle.tree_edit.proofs.Free.{free-some, taken_none, taken-first}
+use Rattle.tree_edit.proofs.Free.{taken_none, taken-first}
 
 module _ {n : ℕ} {st : State} {q : ℕ} {new : Put} {v : List ℕ} (can : CanTake n st q new v) where
   abbrev old : List ℕ
@@ -77,17 +76,14 @@ module _ {n : ℕ} {st : State} {q : ℕ} {new : Put} {v : List ℕ} (can : CanT
     new-filled kind small u long ps good fits =
         filled-facts format1 format1-rules no_keep n can.few st.free u long p new-inside free kind small ps good fits.room fits.few
 
-  -- ---- the copy, in the free page p, or 0
+  -- ---- the copy, in the free page p, if there is one
 
-  module _ (p : ℕ) (f : List ℕ) (free : st.free ≡ pick (eqb p 0) [] (p ∷ f)) (kind : ℕ) where
-    pub copied_none : p ≡ 0 → stops 11 ≡ copied format1 kind (made_by new v (page_of st.image q)) st
+  module _ (kind : ℕ) where
+    pub copied_none : st.free ≡ [] → stops 11 ≡ copied format1 kind (made_by new v (page_of st.image q)) st
     unfolding copied
-    copied_none out = sym (taken_none (stops 11) st p f _ free out)
+    copied_none none = sym (taken_none (stops 11) st _ none)
 
-    module _ (some : p ≡ 0 → ⊥) where
-      first : st.free ≡ p ∷ f
-      first = free-some st.free p f free some
-
+    module _ (p : ℕ) (f : List ℕ) (first : st.free ≡ p ∷ f) where
       pub copy-fits : page_size * p + page_size ≤ length st.image
       copy-fits = new-fits p (omega (arith, ap (count p) first, hit-self p))
 
@@ -104,4 +100,4 @@ module _ {n : ℕ} {st : State} {q : ℕ} {new : Put} {v : List ℕ} (can : CanT
         copied_is w copy =
             ap (λ (i : List ℕ). now (one p) (record { image = i; root = st.root; free = f }))
             (copy ∙ ap (λ (l : List Rec). put_page st.image p (fill (page_of st.image p) kind p l)) all)
-            ∙ sym (taken-first (stops 11) st p f _ first)
+            ∙ sym (taken-first (stops 11) st _ p f first)

@@ -24,28 +24,25 @@ unfolding unmarked
 unmarked-past marks zero h ne = absurd (not-suc-le-zero h)
 unmarked-past marks (suc n) h ne = let e : suc n - 1 ≡ n = omega arith in rw (ne_eqb (get_or marks (suc n) 0) 0 ne, e)
 
-pub unmarked-first : (marks : List ℕ) (p : ℕ) → 1 ≤ p → get_or marks p 0 ≡ 0 → unmarked marks p ≡ pick (eqb p 0) [] (p ∷ unmarked marks (p - 1))
+pub unmarked-first : (marks : List ℕ) (p : ℕ) → 1 ≤ p → get_or marks p 0 ≡ 0 → unmarked marks p ≡ p ∷ unmarked marks (p - 1)
 unfolding unmarked
 unmarked-first marks zero h z = absurd (not-suc-le-zero h)
-unmarked-first marks (suc n) h z = let e : suc n - 1 ≡ n = omega arith in rw (eq-eqb (get_or marks (suc n) 0) 0 z, ne_eqb (suc n) 0 (λ f. omega arith), e)
+unmarked-first marks (suc n) h z = let e : suc n - 1 ≡ n = omega arith in rw (eq-eqb (get_or marks (suc n) 0) 0 z, e)
 
-pub unmarked-none : (marks : List ℕ) (p : ℕ) → p ≤ 1 → unmarked marks (p - 1) ≡ pick (eqb 0 0) [] (0 ∷ unmarked marks (0 - 1))
+pub unmarked-none : (marks : List ℕ) (p : ℕ) → p ≤ 1 → unmarked marks (p - 1) ≡ []
 unfolding unmarked
 unmarked-none marks p h = let e : p - 1 ≡ 0 = omega arith in rw e
 
 -- ---- the first of them is taken
 
-pub free-some : (l : List ℕ) (p : ℕ) (f : List ℕ) → l ≡ pick (eqb p 0) [] (p ∷ f) → (p ≡ 0 → ⊥) → l ≡ p ∷ f
-free-some l p f e ne = e ∙ ap (λ (b : Bool). pick b [] (p ∷ f)) (ne_eqb p 0 ne)
-
-module _ {A : Type 0} (out : A) (st : State) (p : ℕ) (f : List ℕ) (k : ℕ → State → A) where
-  pub taken_none : st.free ≡ pick (eqb p 0) [] (p ∷ f) → p ≡ 0 → taken out st k ≡ out
+module _ {A : Type 0} (out : A) (st : State) (k : ℕ → State → A) where
+  pub taken_none : st.free ≡ [] → taken out st k ≡ out
   unfolding taken take_page
-  taken_none e z = ap (λ (l : List ℕ). take_page out l st k) (e ∙ ap (λ (b : Bool). pick b [] (p ∷ f)) (eq-eqb p 0 z))
+  taken_none e = ap (λ (l : List ℕ). take_page out l st k) e
 
-  pub taken-first : st.free ≡ p ∷ f → taken out st k ≡ k p (record { image = st.image; root = st.root; free = f })
+  pub taken-first : (p : ℕ) (f : List ℕ) → st.free ≡ p ∷ f → taken out st k ≡ k p (record { image = st.image; root = st.root; free = f })
   unfolding taken take_page
-  taken-first e = ap (λ (l : List ℕ). take_page out l st k) e
+  taken-first p f e = ap (λ (l : List ℕ). take_page out l st k) e
 
 -- ---- a page that is not marked is one of them
 

@@ -8,7 +8,6 @@ use native.Mathlib.Omega.{arith}
 use native.Mathlib.Nat.{sub-zero, not-suc-le-zero}
 use lib.ListN.{length, get_or, take, drop, length-drop, take-append-drop}
 use lib.Seq.{take-length}
-use lib.Dec.{eqb}
 use Rattle.codec.specs.Lists.{pick, All}
 use Rattle.page.specs.Layout.{page_size, Rec, rec_of}
 use Rattle.page.specs.Page.{records, laid_out, RecOk}
@@ -26,7 +25,7 @@ use Rattle.tree.proofs.States.{Filled}
 use Rattle.tree_edit.specs.Steps.{rec_by, made_by}
 use Rattle.tree_edit.specs.Asked.{CanTake, CanSplit}
 use Rattle.tree_edit.specs.declared.Put.{Put}
-use Rattle.tree_edit.proofs.Free.{free-some, taken_none, taken-first}
+use Rattle.tree_edit.proofs.Free.{taken_none, taken-first}
 use Rattle.tree_edit.proofs.Copied.{page-fits, made-good, fill-run, made-count, new-fits, new_apart, new-filled}
 
 -- ---- runs of records
@@ -52,127 +51,120 @@ module _ {n : ℕ} {st : State} {page : ℕ} {new : Put} {v : List ℕ} (can : C
 
   -- ---- the pages are taken, left first
 
-  module _ (p : ℕ) (f : List ℕ) (free : st.free ≡ pick (eqb p 0) [] (p ∷ f)) where
-    pub split-none : p ≡ 0 → stops 11 ≡ split format1 kind (made_by new v (page_of st.image page)) st
+  pub split-none : st.free ≡ [] → stops 11 ≡ split format1 kind (made_by new v (page_of st.image page)) st
+  unfolding split
+  split-none none = sym (taken_none (stops 11) st _ none)
+
+  module _ (p : ℕ) (f : List ℕ) (first : st.free ≡ p ∷ f) where
+    abbrev less : State
+    less = record { image = st.image; root = st.root; free = f }
+
+    pub split-short : f ≡ [] → stops 11 ≡ split format1 kind (made_by new v (page_of st.image page)) st
     unfolding split
-    split-none out = sym (taken_none (stops 11) st p f _ free out)
+    split-short none = sym (taken-first (stops 11) st _ p f first ∙ taken_none (stops 11) less _ none)
 
-    module _ (some : p ≡ 0 → ⊥) (q : ℕ) (g : List ℕ) (next : f ≡ pick (eqb q 0) [] (q ∷ g)) where
-      abbrev less : State
-      less = record { image = st.image; root = st.root; free = f }
+    -- ---- both are there, the old page is x, and m is its split point
 
-      first : st.free ≡ p ∷ f
-      first = free-some st.free p f free some
+    module _ (q : ℕ) (g : List ℕ) (second : f ≡ q ∷ g) (halves : CanSplit (made_by new v (page_of st.image page))) (small : kind < 256) (x : List ℕ) (is : x ≡ page_of st.image page) (m : ℕ)
+        (point : m ≡ split_point (made_by new v x)) where
+      abbrev left : List Rec
+      left = take (split_point rs) rs
 
-      pub split-short : q ≡ 0 → stops 11 ≡ split format1 kind (made_by new v (page_of st.image page)) st
-      unfolding split
-      split-short out = sym (taken-first (stops 11) st p f _ first ∙ taken_none (stops 11) less q g _ next out)
+      abbrev right : List Rec
+      right = drop (split_point rs) rs
 
-      -- ---- both are there, the old page is x, and m is its split point
+      abbrev s : State
+      s = record { image = st.image; root = st.root; free = g }
 
-      module _ (more : q ≡ 0 → ⊥) (halves : CanSplit (made_by new v (page_of st.image page))) (small : kind < 256) (x : List ℕ) (is : x ≡ page_of st.image page) (m : ℕ)
-          (point : m ≡ split_point (made_by new v x)) where
-        second : f ≡ q ∷ g
-        second = free-some f q g next more
+      parts : All RecOk left × All RecOk right
+      parts =
+          let h : All RecOk (left ++ right) = rw (take-append-drop (split_point rs) rs) (made-good can) in
+          (All-left RecOk left right h, all_right RecOk left right h)
 
-        abbrev left : List Rec
-        left = take (split_point rs) rs
+      left-free : 1 ≤ count p st.free
+      left-free = omega (arith, ap (count p) first, hit-self p)
 
-        abbrev right : List Rec
-        right = drop (split_point rs) rs
+      right-free : 1 ≤ count q st.free
+      right-free = omega (arith, ap (count q) first, ap (count q) second, hit-self q)
 
-        abbrev s : State
-        s = record { image = st.image; root = st.root; free = g }
+      point-is : m ≡ split_point rs
+      point-is = point ∙ ap (λ (g : List ℕ). split_point (made_by new v g)) is
 
-        parts : All RecOk left × All RecOk right
-        parts =
-            let h : All RecOk (left ++ right) = rw (take-append-drop (split_point rs) rs) (made-good can) in
-            (All-left RecOk left right h, all_right RecOk left right h)
+      inside-rs : m < length rs
+      inside-rs = omega (arith, point-is, halves.right.some, length-drop (split_point rs) rs)
 
-        left-free : 1 ≤ count p st.free
-        left-free = omega (arith, ap (count p) first, hit-self p)
+      left-run : between rs 0 m ≡ left
+      left-run = between-front rs m ∙ ap (λ (k : ℕ). take k rs) point-is
 
-        right-free : 1 ≤ count q st.free
-        right-free = omega (arith, ap (count q) first, ap (count q) second, hit-self q)
+      pub left-fits : page_size * p + page_size ≤ length st.image
+      left-fits = new-fits can p left-free
 
-        point-is : m ≡ split_point rs
-        point-is = point ∙ ap (λ (g : List ℕ). split_point (made_by new v g)) is
+      pub left-fill : CanFill (page_of st.image page) new.ins new.at (rec_by new v) 0 m
+      left-fill = fill-run can 0 m left left-run (omega arith) (omega (arith, inside-rs)) halves.left
 
-        inside-rs : m < length rs
-        inside-rs = omega (arith, point-is, halves.right.some, length-drop (split_point rs) rs)
+      left-page : Filled format1 no_keep st.free s (filled format1 kind p left s) kind p left
+      left-page = new-filled can p left-free kind small s can.long left parts.0 halves.left
 
-        left-run : between rs 0 m ≡ left
-        left-run = between-front rs m ∙ ap (λ (k : ℕ). take k rs) point-is
+      -- ---- the left page is filled in w; the old page lists k records with the new one
 
-        pub left-fits : page_size * p + page_size ≤ length st.image
-        left-fits = new-fits can p left-free
+      module _ (w : List ℕ) (copy : w ≡ put_page st.image p (fill (page_of st.image p) kind p (between (made_by new v (page_of st.image page)) 0 m)))
+          (k : ℕ) (listed : k ≡ pick new.ins (suc (length (records x))) (length (records x))) where
+        w-left : w ≡ (filled format1 kind p left s).image
+        unfolding filled
+        w-left = copy ∙ ap (λ (l : List Rec). put_page st.image p (fill (page_of st.image p) kind p l)) left-run
 
-        pub left-fill : CanFill (page_of st.image page) new.ins new.at (rec_by new v) 0 m
-        left-fill = fill-run can 0 m left left-run (omega arith) (omega (arith, inside-rs)) halves.left
+        left-long : length w ≡ length st.image
+        left-long = ap length w-left ∙ left-page.long
 
-        left-page : Filled format1 no_keep st.free s (filled format1 kind p left s) kind p left
-        left-page = new-filled can p left-free kind small s can.long left parts.0 halves.left
+        old-same : page_of w page ≡ old
+        old-same = ap (λ (i : List ℕ). page_of i page) w-left ∙ left-page.other page (new_apart can p left-free)
 
-        -- ---- the left page is filled in w; the old page lists k records with the new one
+        right-run : between rs m k ≡ right
+        right-run = between-rest rs m k (made-count can x is k listed) ∙ ap (λ (j : ℕ). drop j rs) point-is
 
-        module _ (w : List ℕ) (copy : w ≡ put_page st.image p (fill (page_of st.image p) kind p (between (made_by new v (page_of st.image page)) 0 m)))
-            (k : ℕ) (listed : k ≡ pick new.ins (suc (length (records x))) (length (records x))) where
-          w-left : w ≡ (filled format1 kind p left s).image
+        pub old-fits : page_size * page + page_size ≤ length w
+        old-fits = omega (arith, left-long, page-fits can)
+
+        pub right-fits : page_size * q + page_size ≤ length w
+        right-fits = omega (arith, left-long, new-fits can q right-free)
+
+        pub right-fill : CanFill (page_of w page) new.ins new.at (rec_by new v) m k
+        right-fill =
+            let all = made-count can x is k listed in
+            rw old-same (fill-run can m k right right-run (omega (arith, inside-rs)) (omega arith) halves.right)
+
+        -- ---- and the right page in z
+
+        module _ (z : List ℕ) (copy2 : z ≡ put_page w q (fill (page_of w q) kind q (between (made_by new v (page_of w page)) m k))) where
+          abbrev t : State
+          t = filled format1 kind q right (filled format1 kind p left s)
+
+          z-right : z ≡ t.image
           unfolding filled
-          w-left = copy ∙ ap (λ (l : List Rec). put_page st.image p (fill (page_of st.image p) kind p l)) left-run
+          z-right =
+              copy2
+              ∙ ap (λ (o : List ℕ). put_page w q (fill (page_of w q) kind q (between (made_by new v o) m k))) old-same
+              ∙ ap (λ (l : List Rec). put_page w q (fill (page_of w q) kind q l)) right-run
+              ∙ ap (λ (i : List ℕ). put_page i q (fill (page_of i q) kind q right)) w-left
 
-          left-long : length w ≡ length st.image
-          left-long = ap length w-left ∙ left-page.long
+          right-page : Filled format1 no_keep st.free (filled format1 kind p left s) t kind q right
+          right-page = new-filled can q right-free kind small (filled format1 kind p left s) (left-page.long ∙ can.long) right parts.1 halves.right
 
-          old-same : page_of w page ≡ old
-          old-same = ap (λ (i : List ℕ). page_of i page) w-left ∙ left-page.other page (new_apart can p left-free)
+          pub key_fits : page_size * q + page_size ≤ length z
+          key_fits = omega (arith, ap length z-right, right-page.long, left-page.long, new-fits can q right-free)
 
-          right-run : between rs m k ≡ right
-          right-run = between-rest rs m k (made-count can x is k listed) ∙ ap (λ (j : ℕ). drop j rs) point-is
+          module _ (y : List ℕ) (at : y ≡ page_of z q) where
+            right-lists : Lists format1 y kind q right
+            right-lists = subst (λ (b : List ℕ). Lists format1 b kind q right) (sym (at ∙ ap (λ (i : List ℕ). page_of i q) z-right)) right-page.lists
 
-          pub old-fits : page_size * page + page_size ≤ length w
-          old-fits = omega (arith, left-long, page-fits can)
+            pub key-ready : (laid_out y ≡ true) × (0 < length (records y))
+            key-ready = (right-lists.laid, rw right-lists.recs halves.right.some)
 
-          pub right-fits : page_size * q + page_size ≤ length w
-          right-fits = omega (arith, left-long, new-fits can q right-free)
-
-          pub right-fill : CanFill (page_of w page) new.ins new.at (rec_by new v) m k
-          right-fill =
-              let all = made-count can x is k listed in
-              rw old-same (fill-run can m k right right-run (omega (arith, inside-rs)) (omega arith) halves.right)
-
-          -- ---- and the right page in z
-
-          module _ (z : List ℕ) (copy2 : z ≡ put_page w q (fill (page_of w q) kind q (between (made_by new v (page_of w page)) m k))) where
-            abbrev t : State
-            t = filled format1 kind q right (filled format1 kind p left s)
-
-            z-right : z ≡ t.image
-            unfolding filled
-            z-right =
-                copy2
-                ∙ ap (λ (o : List ℕ). put_page w q (fill (page_of w q) kind q (between (made_by new v o) m k))) old-same
-                ∙ ap (λ (l : List Rec). put_page w q (fill (page_of w q) kind q l)) right-run
-                ∙ ap (λ (i : List ℕ). put_page i q (fill (page_of i q) kind q right)) w-left
-
-            right-page : Filled format1 no_keep st.free (filled format1 kind p left s) t kind q right
-            right-page = new-filled can q right-free kind small (filled format1 kind p left s) (left-page.long ∙ can.long) right parts.1 halves.right
-
-            pub key_fits : page_size * q + page_size ≤ length z
-            key_fits = omega (arith, ap length z-right, right-page.long, left-page.long, new-fits can q right-free)
-
-            module _ (y : List ℕ) (at : y ≡ page_of z q) where
-              right-lists : Lists format1 y kind q right
-              right-lists = subst (λ (b : List ℕ). Lists format1 b kind q right) (sym (at ∙ ap (λ (i : List ℕ). page_of i q) z-right)) right-page.lists
-
-              pub key-ready : (laid_out y ≡ true) × (0 < length (records y))
-              key-ready = (right-lists.laid, rw right-lists.recs halves.right.some)
-
-              pub split-is : (sep : ℕ) → sep ≡ (get_or (records y) 0 (rec_of 0 [])).key →
-                  now (two p sep q) (record { image = z; root = st.root; free = g }) ≡ split format1 kind (made_by new v (page_of st.image page)) st
-              unfolding split filled
-              split-is sep key =
-                  let e : sep ≡ first_key right 0 = key ∙ ap (λ (l : List Rec). (get_or l 0 (rec_of 0 [])).key) right-lists.recs ∙ first_of right halves.right.some in
-                  ap (λ (i : List ℕ). now (two p sep q) (record { image = i; root = st.root; free = g })) z-right
-                  ∙ ap (λ (k : ℕ). now (two p k q) (record { image = t.image; root = st.root; free = g })) e
-                  ∙ sym (taken-first (stops 11) st p f _ first ∙ taken-first (stops 11) less q g _ second)
+            pub split-is : (sep : ℕ) → sep ≡ (get_or (records y) 0 (rec_of 0 [])).key →
+                now (two p sep q) (record { image = z; root = st.root; free = g }) ≡ split format1 kind (made_by new v (page_of st.image page)) st
+            unfolding split filled
+            split-is sep key =
+                let e : sep ≡ first_key right 0 = key ∙ ap (λ (l : List Rec). (get_or l 0 (rec_of 0 [])).key) right-lists.recs ∙ first_of right halves.right.some in
+                ap (λ (i : List ℕ). now (two p sep q) (record { image = i; root = st.root; free = g })) z-right
+                ∙ ap (λ (k : ℕ). now (two p k q) (record { image = t.image; root = st.root; free = g })) e
+                ∙ sym (taken-first (stops 11) st _ p f first ∙ taken-first (stops 11) less _ q g second)

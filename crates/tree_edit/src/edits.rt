@@ -34,7 +34,13 @@ pub(crate) fn child_of(work: &[u8], root: usize, key: u64) -> Child
 }
 
 // Gives the root what stands for a page under it once an edit there is made: the tree is then what the root has become.
-fn raise(work: &mut [u8], before: &[u8; 64], root: usize, under: Child, below: Turned) -> Result<Tree, Cause>
+fn raise(
+    work: &mut [u8],
+    before: &[u8; 64],
+    root: usize,
+    under: Child,
+    below: Turned,
+) -> Result<Tree, Cause>
     requires { CanRaise before.now work.old root under below }
     ensures { Says before.now work.new result (upward root under (turn_of before.now work.old root below)) }
 {
@@ -123,7 +129,12 @@ pub(crate) fn update_edit(
 }
 
 // Drops a key that is there.
-pub(crate) fn delete_edit(work: &mut [u8], before: &[u8; 64], t: Tree, key: u64) -> Result<Tree, Cause>
+pub(crate) fn delete_edit(
+    work: &mut [u8],
+    before: &[u8; 64],
+    t: Tree,
+    key: u64,
+) -> Result<Tree, Cause>
     requires { Good (page_count work.old) (state_of before.now work.old t) × (t.top ≤ 64) }
     ensures { Says before.now work.new result (edited (delete key) (state_of before.now work.old t)) }
 {

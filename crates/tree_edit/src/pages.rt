@@ -1,5 +1,6 @@
 // New pages, and the records of a page of the work image.
 ghost use Rattle.std.specs.Prelude.{◌≡◌, true, false, [], ◌∷◌, suc, ◌+◌, ◌-◌, ◌*◌, ◌≤◌, ◌<◌, length, eqb};
+ghost use Rattle.std.specs.Option.{MatchOption};
 ghost use Rattle.codec.specs.Lists.{pick};
 ghost use Rattle.page.specs.Layout.{page_size, size};
 ghost use Rattle.page.specs.Page.{laid_out, records};
@@ -14,18 +15,18 @@ use crate::Put;
 use image::pages::{count, page_of};
 use page_edit::{delete_record, fill_made, insert_record, update_record};
 
-// The highest page below top that is not marked, or 0: "the highest-numbered one neither reached before the transaction nor
+// The highest page below top that is not marked, if there is one: "the highest-numbered one neither reached before the transaction nor
 // already taken in it".
-pub(crate) fn free_below(before: &[u8; 64], top: usize) -> usize
+pub(crate) fn free_below(before: &[u8; 64], top: usize) -> Option<usize>
     requires { top ≤ 64 }
-    ensures { (unmarked before.now (top - 1) ≡ pick (eqb result 0) [] (result ∷ unmarked before.now (result - 1))) × (result ≤ top) }
+    ensures { MatchOption result (unmarked before.now (top - 1) ≡ []) (λ p. (unmarked before.now (top - 1) ≡ p ∷ unmarked before.now (p - 1)) × (p ≤ top)) }
 {
     for p in (1..top).rev() {
         if before[p] == 0 {
-            return p;
+            return Some(p);
         }
     }
-    0
+    None
 }
 
 // Whether a page has no room for a record of s bytes: "If s exceeds start minus 64, or an insert finds 28 records".

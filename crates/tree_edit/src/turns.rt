@@ -32,10 +32,9 @@ pub(crate) fn copy_page(
     requires fits { Fits (made_by new value.now (page_of work.old page)) }
     ensures { Turns before.now work.new t.root result (copied format1 kind (made_by new value.now (page_of work.old page)) (state_of before.now work.old t)) }
 {
-    let p = free_below(before, t.top);
-    if p == 0 {
+    let Some(p) = free_below(before, t.top) else {
         return Err(Cause::PagesOut);
-    }
+    };
     let n = made_count(page_of(work, page), new.ins);
     copy_made(work, page, p, kind, new, value, 0, n);
     Ok(Turned::One { page: p, top: p })
@@ -55,14 +54,12 @@ pub(crate) fn split_page(
     requires can_split { CanSplit (made_by new value.now (page_of work.old page)) }
     ensures { Turns before.now work.new t.root result (split format1 kind (made_by new value.now (page_of work.old page)) (state_of before.now work.old t)) }
 {
-    let p = free_below(before, t.top);
-    if p == 0 {
+    let Some(p) = free_below(before, t.top) else {
         return Err(Cause::PagesOut);
-    }
-    let q = free_below(before, p);
-    if q == 0 {
+    };
+    let Some(q) = free_below(before, p) else {
         return Err(Cause::PagesOut);
-    }
+    };
     let old = page_of(work, page);
     let m = split_point(old, new, value);
     let n = made_count(old, new.ins);

@@ -1,15 +1,7 @@
 -- `put_under`: the page takes the record, and the root what stands for the page.
 -- Assumes nothing.
 use Rattle.std.proofs.lemmas.Result.{err_from_is_err_and}
-use mathlib.Core.Path.{◌≡◌, refl, ◌∙◌}
-use Rattle.page.specs.Layout.{slot_count, leaf_kind}
-use Rattle.page.specs.Page.{records}
-use Rattle.page.specs.Operations.{page_of}
-use Rattle.page.specs.PageFormat.{format1}
-use lib.ListN.{length}
-use lib.Dec.{leb}
-use Rattle.tree.specs.Edits.{no_keep, put}
-use Rattle.tree_edit.specs.Steps.{state_of, turn_of, rec_by}
+use mathlib.Core.Path.{refl, ◌∙◌}
 use Rattle.tree_edit.proofs.Places.{root-fits, root-laid, child-takes}
 use Rattle.tree_edit.proofs.Above.{upward-stops, put-counted, put-after, raises}
 use Rattle.tree_edit.proofs.Said.{says-refused, turned-refused, turned-done, turned-low}

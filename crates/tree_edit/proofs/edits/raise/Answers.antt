@@ -1,6 +1,6 @@
 -- `raise`: the root takes what stands for the page, and the tree is what `upward` says.
 -- Assumes nothing.
-use mathlib.Core.Path.{◌≡◌, ap}
+use mathlib.Core.Path.{ap}
 use Rattle.std.proofs.lemmas.Result.{err_from_is_err_and}
 use Rattle.page.specs.PageFormat.{format1}
 use Rattle.tree.specs.Edits.{rooted}

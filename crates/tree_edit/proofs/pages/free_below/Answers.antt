@@ -19,4 +19,4 @@ loop-p-preserved c =
 pub returns : goal.returns
 returns c =
     let l = c.loop-p in
-    (sym l.invariant ∙ unmarked-none c.args.before.now l.p (omega arith), omega arith)
+    sym l.invariant ∙ unmarked-none c.args.before.now l.p (omega arith)

@@ -6,6 +6,7 @@ use mathlib.Core.Bool.{Bool, true, false}
 use mathlib.Core.List.{List, [], ◌∷◌}
 use native.Mathlib.Omega.{arith}
 use lib.ListN.{length}
+use Rattle.std.proofs.Common.{Some, None}
 use lib.Dec.{ltb}
 use borrow.Author.Tests.{ltb-true, ltb-false, lt-ltb, le-ltb, eq-eqb, ne_eqb, le-leb}
 use Rattle.codec.specs.Lists.{pick}
@@ -24,7 +25,7 @@ use Rattle.image.proofs.Rising.{rising_le}
 use Rattle.image.proofs.Exact.{above-answers}
 use Rattle.image.proofs.Order.{recs-listing, table-rising}
 use Rattle.sheet.specs.Rows.{next_slot, rows_after, later, first_of}
-use Rattle.sheet.specs.declared.listing.Visit.TheVariants as visits
+use Rattle.sheet.specs.declared.listing.Row.{Row}
 
 -- ---- entries above a key
 
@@ -104,19 +105,21 @@ pub record Step (before slot k p s j n hi : ℕ) (es : List Entry) : Type 0 wher
   pub below : j < hi
   pub slot_is : s ≡ next_slot p before slot
 
-pub visit-step : (before slot k p s j n lo : ℕ) (es : List Entry) (hi : ℕ) → Rising lo (recs es) hi → first_of (rows_after before slot (later k es)) ≡ visits.Row p s j n →
+pub visit-step : (before slot k p s j n lo : ℕ) (es : List Entry) (hi : ℕ) → Rising lo (recs es) hi → first_of (rows_after before slot (later k es)) ≡ Some (record { page = p; slot = s; key = j; length = n }) →
     Step before slot k p s j n hi es
 unfolding rows_after first_of
 visit-step before slot k p s j n lo es hi h f = go (later k es) refl f
   where
-    go : (l : List Entry) → later k es ≡ l → first_of (rows_after before slot l) ≡ visits.Row p s j n → Step before slot k p s j n hi es
+    go : (l : List Entry) → later k es ≡ l → first_of (rows_after before slot l) ≡ Some (record { page = p; slot = s; key = j; length = n }) → Step before slot k p s j n hi es
     go [] q f = let z : ◌≡◌ {A = ℕ} 0 1 = cc in absurd (omega arith)
     go (e ∷ rest) q f =
         let F = later_first k lo es hi e rest h q in
-        let a : e.at / page_size ≡ p = cc in
-        let b : next_slot (e.at / page_size) before slot ≡ s = cc in
-        let c : e.rec.key ≡ j = cc in
-        let d : length e.rec.value ≡ n = cc in
+        let row : ◌≡◌ {A = Row} (record { page = e.at / page_size; slot = next_slot (e.at / page_size) before slot; key = e.rec.key; length = length e.rec.value })
+        (record { page = p; slot = s; key = j; length = n }) = cc in
+        let a : e.at / page_size ≡ p = ap (λ (r : Row). r.page) row in
+        let b : next_slot (e.at / page_size) before slot ≡ s = ap (λ (r : Row). r.slot) row in
+        let c : e.rec.key ≡ j = ap (λ (r : Row). r.key) row in
+        let d : length e.rec.value ≡ n = ap (λ (r : Row). r.length) row in
         let rest-is : later j es ≡ rest = ap (λ (m : ℕ). later m es) (sym c) ∙ F.next in
         record {
           row = rw (q, rest-is, sym a, sym c, sym d, sym b, a);
@@ -125,17 +128,17 @@ visit-step before slot k p s j n lo es hi h f = go (later k es) refl f
           slot_is = sym b ∙ ap (λ (m : ℕ). next_slot m before slot) a;
         }
 
-pub visit-end : (before slot k : ℕ) (es : List Entry) → first_of (rows_after before slot (later k es)) ≡ visits.End → rows_after before slot (later k es) ≡ []
+pub visit-end : (before slot k : ℕ) (es : List Entry) → first_of (rows_after before slot (later k es)) ≡ None → rows_after before slot (later k es) ≡ []
 unfolding rows_after first_of
 visit-end before slot k es f = go (later k es) f
   where
-    go : (l : List Entry) → first_of (rows_after before slot l) ≡ visits.End → rows_after before slot l ≡ []
+    go : (l : List Entry) → first_of (rows_after before slot l) ≡ None → rows_after before slot l ≡ []
     go [] f = refl
     go (e ∷ rest) f = let z : ◌≡◌ {A = ℕ} 0 1 = cc in absurd (omega arith)
 
 -- the row of an entry, by where its value stands
 row-shown : (before slot k : ℕ) (es : List Entry) (e : Entry) (rest : List Entry) (j o n : ℕ) → later k es ≡ e ∷ rest → e.rec.key ≡ j → e.at + 16 ≡ o → length e.rec.value ≡ n →
-    (16 ≤ o) × (visits.Row ((o - 16) / 1024) (next_slot ((o - 16) / 1024) before slot) j n ≡ first_of (rows_after before slot (later k es)))
+    (16 ≤ o) × (Some (record { page = (o - 16) / 1024; slot = next_slot ((o - 16) / 1024) before slot; key = j; length = n }) ≡ first_of (rows_after before slot (later k es)))
 unfolding rows_after first_of
 row-shown before slot k es e rest j o n q key place size =
     let at : o - 16 ≡ e.at = omega arith in
@@ -151,7 +154,7 @@ module _ (img : List ℕ) (h : sound img ≡ true) where
   next-above k = next-sound img h k ∙ ap (above k) (sym (recs-listing img))
 
   module _ (before slot k : ℕ) where
-    pub next-none : next_call img k ≡ nexts.Last → visits.End ≡ first_of (rows_after before slot (later k (listing img)))
+    pub next-none : next_call img k ≡ nexts.Last → None ≡ first_of (rows_after before slot (later k (listing img)))
     unfolding rows_after first_of
     next-none e = rw (above-none k (listing img) (sym (next-above k) ∙ e))
 
@@ -181,7 +184,7 @@ module _ (img : List ℕ) (h : sound img ≡ true) where
         }
 
     pub row-found : (j o n : ℕ) → next_call img k ≡ nexts.Key j → lookup_call img j ≡ lookups.Found o n →
-        (16 ≤ o) × (visits.Row ((o - 16) / 1024) (next_slot ((o - 16) / 1024) before slot) j n ≡ first_of (rows_after before slot (later k (listing img))))
+        (16 ≤ o) × (Some (record { page = (o - 16) / 1024; slot = next_slot ((o - 16) / 1024) before slot; key = j; length = n }) ≡ first_of (rows_after before slot (later k (listing img))))
     row-found j o n e f =
         let L = looked j e in
         let place : L.entry.at + 16 ≡ o = cc (L.found, f) in

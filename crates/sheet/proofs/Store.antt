@@ -1,13 +1,12 @@
 -- The store that the listing shows: sound after any lines; an accepted commit makes exactly the edits that waited, a refused one none.
 -- Assumes nothing.
-use Rattle.std.specs.Prelude.{Err, Ok, Result}
 use Prim.Native.Nat.{ℕ, zero, suc, ◌+◌}
 use mathlib.Core.Path.{◌≡◌, refl, ap, ◌∙◌}
 use mathlib.Core.Bool.{Bool, true, false}
 use mathlib.Core.List.{List, [], ◌∷◌, ◌++◌}
 use lib.ListN.{length, drop, replicate}
 use lib.Dec.{ltb}
-use Rattle.device.specs.declared.Refusal.{Refusal}
+use Rattle.std.proofs.Common.{Option, Some, None}
 use Rattle.codec.specs.Lists.{pick}
 use Rattle.device.specs.Calls.{is_image_size}
 use Rattle.image.specs.Image.{sound}
@@ -22,21 +21,23 @@ use Rattle.journal.specs.declared.Commit.{Commit}
 use Rattle.journal.specs.declared.Way.TheVariants.{ByLine}
 use Rattle.transaction.specs.Calls.{is_accepted}
 use Rattle.transaction.specs.Demand2.{Makes}
+use Rattle.transaction.specs.declared.Transacted.{Transacted}
+use Rattle.transaction.specs.declared.Transacted.TheVariants as answers
 use Rattle.transaction.proofs.Demand2.{demand-2}
 use Rattle.lines.specs.Form.{line_in, line_edit}
 use Rattle.lines.specs.declared.Line.{Line}
 use Rattle.lines.specs.declared.Line.TheVariants as says
-use Rattle.sheet.specs.Steps.{State, Outcome, opened, tried, commits, waits, follow, steps_from, steps}
+use Rattle.sheet.specs.Steps.{State, Outcome, opened, tried, commits, waits, does, follow, steps_from, steps}
 
 -- ---- a commit
 
 -- an accepted commit is an accepted transaction
-pub tried-makes : (a list : List ℕ) (x : Commit) → (tried a list).answer ≡ Ok x → Makes a (replicate 16384 0) list x (tried a list)
+pub tried-makes : (a list : List ℕ) (x : Commit) → (tried a list).answer ≡ answers.Accepted x → Makes a (replicate 16384 0) list x (tried a list)
 unfolding tried
 tried-makes a list x e = demand-2 ByLine a (replicate 8192 0) (replicate 16384 0) list x e
 
 module _ (s : State) (h : sound s.image ≡ true) where
-  pub commits-accepted-table : (x : Commit) → (tried s.image s.list).answer ≡ Ok x →
+  pub commits-accepted-table : (x : Commit) → (tried s.image s.list).answer ≡ answers.Accepted x →
       table (commits s).image ≡ apply_edits (edits_of (edit_list s.list)) (table s.image)
   unfolding commits is_accepted
   commits-accepted-table x e = rw e (tried-makes s.image s.list x e).is_table
@@ -45,9 +46,9 @@ module _ (s : State) (h : sound s.image ≡ true) where
   unfolding commits is_accepted
   commits-sound = go (tried s.image s.list).answer refl
     where
-      go : (t : Result Commit Refusal) → (tried s.image s.list).answer ≡ t → sound (pick (is_accepted t) (tried s.image s.list).work s.image) ≡ true
-      go (Ok x) e = (tried-makes s.image s.list x e).is_sound
-      go (Err r) e = h
+      go : (t : Transacted) → (tried s.image s.list).answer ≡ t → sound (pick (is_accepted t) (tried s.image s.list).work s.image) ≡ true
+      go (answers.Accepted x) e = (tried-makes s.image s.list x e).is_sound
+      go (answers.Refused r) e = h
 
 -- ---- all lines
 
@@ -59,6 +60,11 @@ waits-sound kind key price s h = go (ltb 16 s.edits)
     go true = h
     go false = h
 
+does-sound : (line : Line) (s : State) → sound s.image ≡ true → sound (does line s).image ≡ true
+unfolding does
+does-sound says.Commit s h = commits-sound s h
+does-sound (says.Edit kind key price) s h = waits-sound kind key price s h
+
 steps-from-sound : (n done : ℕ) (t : List ℕ) (s : State) → sound s.image ≡ true → sound (steps_from n done t s).image ≡ true
 unfolding steps_from follow
 steps-from-sound zero done [] s h = h
@@ -66,10 +72,9 @@ steps-from-sound zero done (b ∷ t) s h = h
 steps-from-sound (suc n) done [] s h = h
 steps-from-sound (suc n) done (b ∷ t) s h = go (line_in (b ∷ t)) (steps_from n (done + 1) (drop 28 (b ∷ t))) (λ u k. steps-from-sound n (done + 1) (drop 28 (b ∷ t)) u k)
   where
-    go : (l : Line) (rest : State → Outcome) → ((u : State) → sound u.image ≡ true → sound (rest u).image ≡ true) → sound (follow l (done + 1) s rest).image ≡ true
-    go says.Commit rest k = k (commits s) (commits-sound s h)
-    go (says.Edit kind key price) rest k = k (waits kind key price s) (waits-sound kind key price s h)
-    go says.Bad rest k = h
+    go : (l : Option Line) (rest : State → Outcome) → ((u : State) → sound u.image ≡ true → sound (rest u).image ≡ true) → sound (follow l (done + 1) s rest).image ≡ true
+    go (Some line) rest k = k (does line s) (does-sound line s h)
+    go None rest k = h
 
 -- for every form, the store at its end is sound
 pub steps-sound : (input image : List ℕ) → sound image ≡ true → sound (steps input image).image ≡ true

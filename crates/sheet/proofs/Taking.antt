@@ -1,52 +1,59 @@
--- The steps of a steps: a transaction's answer, a commit, an edit that waits, a line taken.
+-- The steps of the code: a transaction's answer, a commit, an edit that waits, a line taken.
 -- Assumes nothing.
-use Rattle.std.specs.Prelude.{Err, Ok, Result}
-use Prim.Native.Nat.{ℕ, zero, suc, ◌+◌, ◌*◌, ◌-◌, ◌≤◌, ◌<◌}
+use Prim.Native.Nat.{ℕ, zero, suc, min, ◌+◌, ◌-◌, ◌≤◌, ◌<◌}
 use mathlib.Core.Path.{◌≡◌, refl, sym, ap, ◌∙◌}
 use mathlib.Core.Bool.{Bool, true, false}
 use mathlib.Core.List.{List, [], ◌∷◌, ◌++◌, append_assoc}
 use native.Mathlib.Omega.{arith}
-use lib.ListN.{length, take, drop, length-append, length-take, length-drop, drop_of_length-le}
-use lib.Seq.{take_at, drop-drop}
+use lib.ListN.{length, take, drop, length-append, length-take}
+use lib.Seq.{take_at, drop_at}
+use Rattle.std.proofs.Common.{Option, Some, None}
+use Rattle.std.proofs.lemmas.List.{take_min, drop_min}
 use lib.Dec.{ltb}
 use borrow.Author.Tests.{lt-ltb, le-ltb}
-use Rattle.codec.specs.Lists.{pick, splice}
+use Rattle.codec.specs.Lists.{pick, part, splice}
 use Rattle.journal.specs.declared.Commit.{Commit}
 use Rattle.device.specs.declared.Refusal.{Refusal}
 use Rattle.transaction.specs.Calls.{is_accepted}
+use Rattle.transaction.specs.declared.Transacted.{Transacted}
+use Rattle.transaction.specs.declared.Transacted.TheVariants as answers
 use Rattle.lines.specs.Form.{line_in, line_edit}
-use Rattle.lines.proofs.Editing.{length-edit}
+use Rattle.lines.proofs.Reading.{line-first}
 use Rattle.lines.specs.declared.Line.{Line}
 use Rattle.lines.specs.declared.Line.TheVariants as says
-use Rattle.sheet.specs.declared.form.Counts.{Counts}
-use Rattle.sheet.specs.Steps.{State, Outcome, tried, commits, waits, ended_at, ended_whole, follow, steps_from, state_of, Room}
+use Rattle.sheet.specs.declared.form.Totals.{Totals}
+use Rattle.sheet.specs.declared.waiting.Waiting.{Waiting}
+use Rattle.sheet.specs.Steps.{State, Outcome, opened, tried, commits, waits, ended_at, ended_whole, does, follow, steps_from, steps, state_of}
 
 -- ---- a transaction
 
-module _ (image list : List ℕ) (a : Result Commit Refusal) (says : a ≡ (tried image list).answer) where
-  pub accepted-says : (x : Commit) (work new : List ℕ) → a ≡ Ok x → work ≡ (tried image list).work → new ≡ work →
+module _ (image list : List ℕ) (a : Transacted) (says : a ≡ (tried image list).answer) where
+  pub accepted-says : (x : Commit) (work new : List ℕ) → a ≡ answers.Accepted x → work ≡ (tried image list).work → new ≡ work →
       (true ≡ is_accepted (tried image list).answer) × (new ≡ (tried image list).work)
   unfolding is_accepted
   accepted-says x work new e w n = (rw (sym says ∙ e), n ∙ w)
 
-  pub refused_says : (x : Refusal) → a ≡ Err x → false ≡ is_accepted (tried image list).answer
+  pub refused_says : (x : Refusal) → a ≡ answers.Refused x → false ≡ is_accepted (tried image list).answer
   unfolding is_accepted
   refused_says x e = rw (sym says ∙ e)
 
 -- ---- a commit
 
-module _ (image list : List ℕ) (c : Counts) (t : Bool) (new : List ℕ) (says : t ≡ is_accepted (tried image (take c.used list)).answer)
-    (is : new ≡ pick t (tried image (take c.used list)).work image) where
-  pub commits-accepted : t ≡ true → state_of new list (record { edits = 0; used = 0; accepted = c.accepted + 1; refused = c.refused }) ≡ commits (state_of image list c)
-  unfolding commits
-  commits-accepted e = rw (sym says, is, e)
+-- none waits
+emptied : (image list : List ℕ) (edits used accepted refused : ℕ) → edits ≡ 0 → used ≡ 0 →
+    ◌≡◌ {A = State} (record { image = image; list = take used list; edits = edits; accepted = accepted; refused = refused })
+    (record { image = image; list = []; edits = 0; accepted = accepted; refused = refused })
+emptied image list edits used accepted refused e f = rw (e, f)
 
-  pub commits-refused : t ≡ false → state_of new list (record { edits = 0; used = 0; accepted = c.accepted; refused = c.refused + 1 }) ≡ commits (state_of image list c)
+module _ (image : List ℕ) (w left : Waiting) (c : Totals) (t : Bool) (new : List ℕ) (none : left.edits ≡ 0) (empty : left.used ≡ 0)
+    (says : t ≡ is_accepted (tried image (take w.used w.list)).answer) (is : new ≡ pick t (tried image (take w.used w.list)).work image) where
+  pub commits-accepted : t ≡ true → state_of new left (record { accepted = c.accepted + 1; refused = c.refused }) ≡ commits (state_of image w c)
   unfolding commits
-  commits-refused e = rw (sym says, is, e)
+  commits-accepted e = emptied new left.list left.edits left.used (c.accepted + 1) c.refused none empty ∙ rw (sym says, is, e)
 
-pub room-none : (list : List ℕ) (c d : Counts) → Room list c → d.used ≡ 0 → d.edits ≡ 0 → Room list d
-room-none list c d r e f = record { whole = r.whole; few = omega arith; fits = omega arith }
+  pub commits-refused : t ≡ false → state_of new left (record { accepted = c.accepted; refused = c.refused + 1 }) ≡ commits (state_of image w c)
+  unfolding commits
+  commits-refused e = emptied new left.list left.edits left.used c.accepted (c.refused + 1) none empty ∙ rw (sym says, is, e)
 
 -- at most one transaction more
 pub commits-few : (s : State) → ((commits s).accepted ≤ s.accepted + 1) × ((commits s).refused ≤ s.refused + 1)
@@ -63,30 +70,22 @@ commits-few s = (go (is_accepted (tried s.image s.list).answer) s.accepted, no (
 
 -- ---- an edit that waits
 
-module _ (kind key price : ℕ) (image : List ℕ) where
-  pub waits_dropped : (list : List ℕ) (c : Counts) → 16 < c.edits → state_of image list c ≡ waits kind key price (state_of image list c)
+module _ (kind key price : ℕ) (image : List ℕ) (w : Waiting) (t : Totals) where
+  pub waits_dropped : 17 ≤ w.edits → state_of image w t ≡ waits kind key price (state_of image w t)
   unfolding waits
-  waits_dropped list c h = rw (lt-ltb 16 c.edits h)
+  waits_dropped h = rw (lt-ltb 16 w.edits (omega arith))
 
-  pub waits-added : (list new : List ℕ) (c : Counts) (next : ℕ) → c.edits ≤ 16 → Room list c → new ≡ splice list c.used (line_edit kind key price) →
-      next ≡ c.used + length (line_edit kind key price) →
-      state_of image new (record { edits = c.edits + 1; used = next; accepted = c.accepted; refused = c.refused }) ≡ waits kind key price (state_of image list c)
+  pub waits-added : (new : List ℕ) (next : ℕ) → w.edits < 17 → w.used ≤ length w.list → new ≡ splice w.list w.used (line_edit kind key price) →
+      next ≡ w.used + length (line_edit kind key price) →
+      ◌≡◌ {A = State} (record { image = image; list = take next new; edits = w.edits + 1; accepted = t.accepted; refused = t.refused }) (waits kind key price (state_of image w t))
   unfolding waits splice
-  waits-added list new c next h r e f =
-      let edit : List ℕ = line_edit kind key price in
-      let small : length (line_edit kind key price) ≤ 18 = length-edit kind key price in
-      let front : length (take c.used list ++ line_edit kind key price) ≡ c.used + length (line_edit kind key price) =
-      simp (length-append, length-take) (omega (arith, r.whole, r.fits)) in
-      let taken : take next new ≡ take c.used list ++ line_edit kind key price =
+  waits-added new next h fits e f =
+      let front : length (take w.used w.list ++ line_edit kind key price) ≡ w.used + length (line_edit kind key price) = simp (length-append, length-take) (omega arith) in
+      let taken : take next new ≡ take w.used w.list ++ line_edit kind key price =
       rw (e, f)
-      (ap (take (c.used + length (line_edit kind key price))) (sym (append_assoc (take c.used list) (line_edit kind key price) (drop (c.used + length (line_edit kind key price)) list)))
-      ∙ take_at (take c.used list ++ line_edit kind key price) (drop (c.used + length (line_edit kind key price)) list) (c.used + length (line_edit kind key price)) front) in
-      rw (le-ltb 16 c.edits h, taken)
-
-pub room-more : (kind key price : ℕ) (list new : List ℕ) (c d : Counts) → Room list c → c.edits ≤ 16 → length new ≡ length list → d.edits ≡ c.edits + 1 →
-    d.used ≡ c.used + length (line_edit kind key price) → Room new d
-room-more kind key price list new c d r h l e f =
-    record { whole = l ∙ r.whole; few = omega arith; fits = omega (arith, length-edit kind key price, r.fits) }
+      (ap (take (w.used + length (line_edit kind key price))) (sym (append_assoc (take w.used w.list) (line_edit kind key price) (drop (w.used + length (line_edit kind key price)) w.list)))
+      ∙ take_at (take w.used w.list ++ line_edit kind key price) (drop (w.used + length (line_edit kind key price)) w.list) (w.used + length (line_edit kind key price)) front) in
+      rw (le-ltb 16 w.edits (omega arith), taken)
 
 pub waits-same : (kind key price : ℕ) (s : State) → ((waits kind key price s).accepted ≡ s.accepted) × ((waits kind key price s).refused ≡ s.refused)
 unfolding waits
@@ -100,83 +99,90 @@ waits-same kind key price s = (go (ltb 16 s.edits), no (ltb 16 s.edits))
     no true = refl
     no false = refl
 
--- ---- what a line adds to the counts
-
-pub commit-bounds : (u s : State) (n : ℕ) → u ≡ commits s → s.accepted ≤ n → s.refused ≤ n → (u.accepted ≤ n + 1) × (u.refused ≤ n + 1)
-commit-bounds u s n e a b =
-    let few = commits-few s in
-    let x : u.accepted ≡ (commits s).accepted = ap (λ (v : State). v.accepted) e in
-    let y : u.refused ≡ (commits s).refused = ap (λ (v : State). v.refused) e in
-    (omega (arith, few.0), omega (arith, few.1))
-
-pub wait-bounds : (kind key price : ℕ) (u s : State) (n : ℕ) → u ≡ waits kind key price s → s.accepted ≤ n → s.refused ≤ n → (u.accepted ≤ n + 1) × (u.refused ≤ n + 1)
-wait-bounds kind key price u s n e a b =
-    let same = waits-same kind key price s in
-    let x : u.accepted ≡ (waits kind key price s).accepted = ap (λ (v : State). v.accepted) e in
-    let y : u.refused ≡ (waits kind key price s).refused = ap (λ (v : State). v.refused) e in
-    (omega (arith, same.0), omega (arith, same.1))
-
 -- ---- the lines in order
 
-pub ends_with : (x y : Outcome) → x ≡ y → (y.end ≡ x.end) × (y.image ≡ x.image)
-ends_with x y e = (ap (λ (z : Outcome). z.end) (sym e), ap (λ (z : Outcome). z.image) (sym e))
+-- a line makes at most one transaction more
+does-few : (line : Line) (s : State) → ((does line s).accepted ≤ s.accepted + 1) × ((does line s).refused ≤ s.refused + 1)
+unfolding does
+does-few says.Commit s = commits-few s
+does-few (says.Edit kind key price) s = let same = waits-same kind key price s in (omega (arith, same.0), omega (arith, same.1))
 
--- one line taken, and the rest is still the whole
-pub goes_on : (input : List ℕ) (done : ℕ) (s next : State) (whole : Outcome) → done ≤ 1999 → steps_from (2000 - done) done (drop (28 * done) input) s ≡ whole →
-    (after : State) → steps_from (2000 - done) done (drop (28 * done) input) s ≡ steps_from (2000 - done - 1) (done + 1) (drop (28 * (done + 1)) input) after → next ≡ after →
-    steps_from (2000 - (done + 1)) (done + 1) (drop (28 * (done + 1)) input) next ≡ whole
-goes_on input done s next whole h e after f g =
-    let one : 2000 - (done + 1) ≡ 2000 - done - 1 = omega arith in
-    ap (λ (m : ℕ). steps_from m (done + 1) (drop (28 * (done + 1)) input) next) one
-    ∙ ap (steps_from (2000 - done - 1) (done + 1) (drop (28 * (done + 1)) input)) g
-    ∙ sym f
-    ∙ e
-
-steps-none : (n done : ℕ) (s : State) → steps_from n done [] s ≡ ended_whole s
+steps-none : (n done : ℕ) (t : List ℕ) (s : State) → length t ≡ 0 → steps_from n done t s ≡ ended_whole s
 unfolding steps_from
-steps-none zero done s = refl
-steps-none (suc n) done s = refl
+steps-none zero done [] s h = refl
+steps-none (suc n) done [] s h = refl
+steps-none n done (b ∷ t) s h = absurd (omega arith)
 
 steps-over : (n done : ℕ) (t : List ℕ) (s : State) → n ≡ 0 → 0 < length t → steps_from n done t s ≡ ended_at (done + 1) s
 unfolding steps_from
 steps-over n done [] s e h = absurd (omega arith)
 steps-over n done (b ∷ t) s e h = rw e
 
-steps-line : (m n done : ℕ) (t : List ℕ) (s : State) (line : Line) → m ≡ suc n → 0 < length t → line ≡ line_in t →
+steps-line : (m n done : ℕ) (t : List ℕ) (s : State) (line : Option Line) → m ≡ suc n → 0 < length t → line ≡ line_in t →
     steps_from m done t s ≡ follow line (done + 1) s (steps_from n (done + 1) (drop 28 t))
 unfolding steps_from
 steps-line m n done [] s line e h f = absurd (omega arith)
 steps-line m n done (b ∷ t) s line e h f = rw (e, f)
 
-module _ (input : List ℕ) (done : ℕ) (s : State) where
-  pub run-whole : (n : ℕ) → length input ≤ 28 * done → steps_from n done (drop (28 * done) input) s ≡ ended_whole s
-  run-whole n h = rw (drop_of_length-le input {i = 28 * done} h) (steps-none n done s)
+-- after `done` lines, which left the state s: what the lines of t, which are left, do then comes to the whole
+pub record Taken (whole : Outcome) (done : ℕ) (t : List ℕ) (s : State) : Type 0 where
+  pub few : done ≤ 2000
+  pub accepted : s.accepted ≤ done
+  pub refused : s.refused ≤ done
+  pub is : steps_from (2000 - done) done t s ≡ whole
 
-  module _ (more : 28 * done < length input) where
-    rest : 0 < length (drop (28 * done) input)
-    rest = simp length-drop (omega arith)
+pub taken-first : (input image : List ℕ) (n : ℕ) (t : List ℕ) (s : State) → n ≡ 0 → t ≡ input → s ≡ opened image → Taken (steps input image) n t s
+unfolding steps
+taken-first input image n t s a b c = rw (a, b, c) (record { few = omega arith; accepted = omega arith; refused = omega arith; is = refl })
 
-    pub run-over : (n : ℕ) → n ≡ 0 → steps_from n done (drop (28 * done) input) s ≡ ended_at (done + 1) s
-    run-over n e = steps-over n done (drop (28 * done) input) s e rest
+pub opened-with : (image : List ℕ) (w : Waiting) (t : Totals) → w.edits ≡ 0 → w.used ≡ 0 → t.accepted ≡ 0 → t.refused ≡ 0 → state_of image w t ≡ opened image
+opened-with image w t a b c d = emptied image w.list w.edits w.used t.accepted t.refused a b ∙ rw (c, d)
 
-    module _ (line : Line) (is : line ≡ line_in (drop (28 * done) input)) where
-      pub run-bad : (m : ℕ) → 1 ≤ m → line ≡ says.Bad → steps_from m done (drop (28 * done) input) s ≡ ended_at (done + 1) s
-      unfolding follow
-      run-bad m h e = steps-line m (m - 1) done (drop (28 * done) input) s says.Bad (omega arith) rest (sym e ∙ is)
+pub taken-last : (whole : Outcome) (n : ℕ) (t : List ℕ) (s : State) → Taken whole n t s → length t ≡ 0 → ended_whole s ≡ whole
+taken-last whole n t s k h = sym (steps-none (2000 - n) n t s h) ∙ k.is
 
-      next : drop 28 (drop (28 * done) input) ≡ drop (28 * (done + 1)) input
-      next = let e : 28 * done + 28 ≡ 28 * (done + 1) = omega arith in drop-drop 28 (28 * done) input ∙ ap (λ (o : ℕ). drop o input) e
+-- the next line, which is number `done` from 0 on, is cut off the front
+module _ (whole : Outcome) (n done m : ℕ) (t line rest : List ℕ) (s : State) (k : Taken whole n t s) (number : done ≡ n) (wide : m ≡ 28)
+    (turn : (t ≡ line ++ rest) × (length line ≡ min m (length t)) × (0 < length t)) where
+  pub taken-over : 2000 ≤ done → ended_at (done + 1) s ≡ whole
+  taken-over h =
+      let few = k.few in
+      ap (λ (d : ℕ). ended_at (d + 1) s) number ∙ sym (steps-over (2000 - n) n t s (omega arith) turn.2) ∙ k.is
 
-      pub run-commit : (m : ℕ) → 1 ≤ m → line ≡ says.Commit →
-          steps_from m done (drop (28 * done) input) s ≡ steps_from (m - 1) (done + 1) (drop (28 * (done + 1)) input) (commits s)
-      unfolding follow
-      run-commit m h e =
-          steps-line m (m - 1) done (drop (28 * done) input) s says.Commit (omega arith) rest (sym e ∙ is)
-          ∙ ap (λ (t : List ℕ). steps_from (m - 1) (done + 1) t (commits s)) next
+  module _ (fewer : done < 2000) where
+    size : length line ≡ min 28 (length t)
+    size = turn.1 ∙ ap (λ (w : ℕ). min w (length t)) wide
 
-      pub run-edit : (m kind key price : ℕ) → 1 ≤ m → line ≡ says.Edit kind key price →
-          steps_from m done (drop (28 * done) input) s ≡ steps_from (m - 1) (done + 1) (drop (28 * (done + 1)) input) (waits kind key price s)
-      unfolding follow
-      run-edit m kind key price h e =
-          steps-line m (m - 1) done (drop (28 * done) input) s (says.Edit kind key price) (omega arith) rest (sym e ∙ is)
-          ∙ ap (λ (t : List ℕ). steps_from (m - 1) (done + 1) t (waits kind key price s)) next
+    cut : line ≡ part t 0 28
+    unfolding part
+    cut = sym (take_at line rest (min 28 (length t)) size) ∙ ap (take (min 28 (length t))) (sym turn.0) ∙ take_min 28 t
+
+    left : rest ≡ drop 28 t
+    left = sym (drop_at line rest (min 28 (length t)) size) ∙ ap (drop (min 28 (length t))) (sym turn.0) ∙ drop_min 28 t
+
+    one : (l : Option Line) → l ≡ line_in line → follow l (n + 1) s (steps_from (2000 - (n + 1)) (n + 1) rest) ≡ whole
+    one l e =
+        let read : l ≡ line_in t = e ∙ ap line_in cut ∙ line-first t in
+        ap (λ (r : List ℕ). follow l (n + 1) s (steps_from (2000 - (n + 1)) (n + 1) r)) left
+        ∙ sym (steps-line (2000 - n) (2000 - (n + 1)) n t s l (omega arith) turn.2 read)
+        ∙ k.is
+
+    pub taken-bad : None ≡ line_in line → ended_at (done + 1) s ≡ whole
+    unfolding follow
+    taken-bad e = ap (λ (d : ℕ). ended_at (d + 1) s) number ∙ one None e
+
+    pub taken-next : (l : Line) (u : State) (next : ℕ) → Some l ≡ line_in line → u ≡ does l s → next ≡ n + 1 → Taken whole next rest u
+    unfolding follow
+    taken-next l u next e f g =
+        let bound = does-few l s in
+        let a : u.accepted ≡ (does l s).accepted = ap (λ (v : State). v.accepted) f in
+        let r : u.refused ≡ (does l s).refused = ap (λ (v : State). v.refused) f in
+        record {
+          few = omega arith;
+          accepted = omega (arith, bound.0, k.accepted);
+          refused = omega (arith, bound.1, k.refused);
+          is = rw (f, g) (one (Some l) e);
+        }
+
+pub ends_with : (x y : Outcome) → x ≡ y → (x.end ≡ y.end) × (x.image ≡ y.image)
+ends_with x y e = (ap (λ (z : Outcome). z.end) e, ap (λ (z : Outcome). z.image) e)

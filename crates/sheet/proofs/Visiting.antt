@@ -1,12 +1,12 @@
 -- The rows in order: what next key and lookup answer is the next row.
 -- Assumes nothing.
-use Rattle.std.specs.Prelude.{Err, None, Ok, Some}
 use Prim.Native.Nat.{ℕ, suc, ◌+◌, ◌-◌, ◌/◌, ◌≤◌, ◌<◌}
 use mathlib.Core.Path.{◌≡◌, refl, sym, ap, subst, ◌∙◌}
 use mathlib.Core.Bool.{Bool, true, false}
 use mathlib.Core.List.{List, [], ◌∷◌}
 use native.Mathlib.Omega.{arith}
 use lib.ListN.{length}
+use Rattle.std.proofs.Common.{Some, None}
 use lib.Dec.{ltb}
 use borrow.Author.Tests.{ltb-true, ltb-false, lt-ltb, le-ltb, eq-eqb, ne_eqb, le-leb}
 use Rattle.codec.specs.Lists.{pick}
@@ -17,13 +17,15 @@ use Rattle.image.specs.Facts.{Rising}
 use Rattle.image.specs.Image.{sound}
 use Rattle.image.specs.Table.{listing, found_in, above}
 use Rattle.image.specs.Calls.{key_ok, lookup_call, next_call}
+use Rattle.image.specs.declared.Lookup.TheVariants as lookups
+use Rattle.image.specs.declared.Next.TheVariants as nexts
 use Rattle.image.proofs.Answers.{lookup-sound, next-sound}
 use Rattle.device.specs.declared.Refusal.{Refusal}
 use Rattle.image.proofs.Rising.{rising_le}
 use Rattle.image.proofs.Exact.{above-answers}
 use Rattle.image.proofs.Order.{recs-listing, table-rising}
 use Rattle.sheet.specs.Rows.{next_slot, rows_after, later, first_of}
-use Rattle.sheet.specs.declared.listing.Visit.TheVariants as visits
+use Rattle.sheet.specs.declared.listing.Row.{Row}
 
 -- ---- entries above a key
 
@@ -34,21 +36,21 @@ pub record Ahead (k j : ℕ) (es : List Entry) : Type 0 where
   pub is : later k es ≡ entry ∷ rest
   pub key : entry.rec.key ≡ j
 
-pub above-ahead : (k j : ℕ) (es : List Entry) → above k (recs es) ≡ Ok (Some j) → Ahead k j es
+pub above-ahead : (k j : ℕ) (es : List Entry) → above k (recs es) ≡ nexts.Key j → Ahead k j es
 unfolding above later
 above-ahead k j [] h = let z : ◌≡◌ {A = ℕ} 0 1 = cc in absurd (omega arith)
 above-ahead k j (e ∷ es) h = go (ltb k e.rec.key) refl h (above-ahead k j es)
   where
-    go : (t : Bool) → ltb k e.rec.key ≡ t → pick t (Ok (Some e.rec.key)) (above k (recs es)) ≡ Ok (Some j) → (above k (recs es) ≡ Ok (Some j) → Ahead k j es) → Ahead k j (e ∷ es)
+    go : (t : Bool) → ltb k e.rec.key ≡ t → pick t (nexts.Key e.rec.key) (above k (recs es)) ≡ nexts.Key j → (above k (recs es) ≡ nexts.Key j → Ahead k j es) → Ahead k j (e ∷ es)
     go true p f r = let same : e.rec.key ≡ j = cc in record { entry = e; rest = es; is = rw p; key = same }
     go false p f r = let a = r f in record { entry = a.entry; rest = a.rest; is = rw p a.is; key = a.key }
 
-pub above-none : (k : ℕ) (es : List Entry) → above k (recs es) ≡ Ok None → later k es ≡ []
+pub above-none : (k : ℕ) (es : List Entry) → above k (recs es) ≡ nexts.Last → later k es ≡ []
 unfolding above later
 above-none k [] h = refl
 above-none k (e ∷ es) h = go (ltb k e.rec.key) h (above-none k es)
   where
-    go : (t : Bool) → pick t (Ok (Some e.rec.key)) (above k (recs es)) ≡ Ok None → (above k (recs es) ≡ Ok None → later k es ≡ []) → pick t (e ∷ es) (later k es) ≡ []
+    go : (t : Bool) → pick t (nexts.Key e.rec.key) (above k (recs es)) ≡ nexts.Last → (above k (recs es) ≡ nexts.Last → later k es ≡ []) → pick t (e ∷ es) (later k es) ≡ []
     go true f r = let z : ◌≡◌ {A = ℕ} 0 1 = cc in absurd (omega arith)
     go false f r = r f
 
@@ -63,7 +65,7 @@ pub record First (k hi : ℕ) (e : Entry) (rest es : List Entry) : Type 0 where
   pub over : k < e.rec.key
   pub below : e.rec.key < hi
   pub next : later e.rec.key es ≡ rest
-  pub found : found_in e.rec.key es ≡ Ok (Some (record { offset = e.at + 16; length = length e.rec.value }))
+  pub found : found_in e.rec.key es ≡ lookups.Found (e.at + 16) (length e.rec.value)
 
 pub later_first : (k lo : ℕ) (es : List Entry) (hi : ℕ) (e : Entry) (rest : List Entry) → Rising lo (recs es) hi → later k es ≡ e ∷ rest → First k hi e rest es
 unfolding later found_in
@@ -103,19 +105,21 @@ pub record Step (before slot k p s j n hi : ℕ) (es : List Entry) : Type 0 wher
   pub below : j < hi
   pub slot_is : s ≡ next_slot p before slot
 
-pub visit-step : (before slot k p s j n lo : ℕ) (es : List Entry) (hi : ℕ) → Rising lo (recs es) hi → first_of (rows_after before slot (later k es)) ≡ visits.Row p s j n →
+pub visit-step : (before slot k p s j n lo : ℕ) (es : List Entry) (hi : ℕ) → Rising lo (recs es) hi → first_of (rows_after before slot (later k es)) ≡ Some (record { page = p; slot = s; key = j; length = n }) →
     Step before slot k p s j n hi es
 unfolding rows_after first_of
 visit-step before slot k p s j n lo es hi h f = go (later k es) refl f
   where
-    go : (l : List Entry) → later k es ≡ l → first_of (rows_after before slot l) ≡ visits.Row p s j n → Step before slot k p s j n hi es
+    go : (l : List Entry) → later k es ≡ l → first_of (rows_after before slot l) ≡ Some (record { page = p; slot = s; key = j; length = n }) → Step before slot k p s j n hi es
     go [] q f = let z : ◌≡◌ {A = ℕ} 0 1 = cc in absurd (omega arith)
     go (e ∷ rest) q f =
         let F = later_first k lo es hi e rest h q in
-        let a : e.at / page_size ≡ p = cc in
-        let b : next_slot (e.at / page_size) before slot ≡ s = cc in
-        let c : e.rec.key ≡ j = cc in
-        let d : length e.rec.value ≡ n = cc in
+        let row : ◌≡◌ {A = Row} (record { page = e.at / page_size; slot = next_slot (e.at / page_size) before slot; key = e.rec.key; length = length e.rec.value })
+        (record { page = p; slot = s; key = j; length = n }) = cc in
+        let a : e.at / page_size ≡ p = ap (λ (r : Row). r.page) row in
+        let b : next_slot (e.at / page_size) before slot ≡ s = ap (λ (r : Row). r.slot) row in
+        let c : e.rec.key ≡ j = ap (λ (r : Row). r.key) row in
+        let d : length e.rec.value ≡ n = ap (λ (r : Row). r.length) row in
         let rest-is : later j es ≡ rest = ap (λ (m : ℕ). later m es) (sym c) ∙ F.next in
         record {
           row = rw (q, rest-is, sym a, sym c, sym d, sym b, a);
@@ -124,17 +128,17 @@ visit-step before slot k p s j n lo es hi h f = go (later k es) refl f
           slot_is = sym b ∙ ap (λ (m : ℕ). next_slot m before slot) a;
         }
 
-pub visit-end : (before slot k : ℕ) (es : List Entry) → first_of (rows_after before slot (later k es)) ≡ visits.End → rows_after before slot (later k es) ≡ []
+pub visit-end : (before slot k : ℕ) (es : List Entry) → first_of (rows_after before slot (later k es)) ≡ None → rows_after before slot (later k es) ≡ []
 unfolding rows_after first_of
 visit-end before slot k es f = go (later k es) f
   where
-    go : (l : List Entry) → first_of (rows_after before slot l) ≡ visits.End → rows_after before slot l ≡ []
+    go : (l : List Entry) → first_of (rows_after before slot l) ≡ None → rows_after before slot l ≡ []
     go [] f = refl
     go (e ∷ rest) f = let z : ◌≡◌ {A = ℕ} 0 1 = cc in absurd (omega arith)
 
 -- the row of an entry, by where its value stands
 row-shown : (before slot k : ℕ) (es : List Entry) (e : Entry) (rest : List Entry) (j o n : ℕ) → later k es ≡ e ∷ rest → e.rec.key ≡ j → e.at + 16 ≡ o → length e.rec.value ≡ n →
-    (16 ≤ o) × (visits.Row ((o - 16) / 1024) (next_slot ((o - 16) / 1024) before slot) j n ≡ first_of (rows_after before slot (later k es)))
+    (16 ≤ o) × (Some (record { page = (o - 16) / 1024; slot = next_slot ((o - 16) / 1024) before slot; key = j; length = n }) ≡ first_of (rows_after before slot (later k es)))
 unfolding rows_after first_of
 row-shown before slot k es e rest j o n q key place size =
     let at : o - 16 ≡ e.at = omega arith in
@@ -150,7 +154,7 @@ module _ (img : List ℕ) (h : sound img ≡ true) where
   next-above k = next-sound img h k ∙ ap (above k) (sym (recs-listing img))
 
   module _ (before slot k : ℕ) where
-    pub next-none : next_call img k ≡ Ok None → visits.End ≡ first_of (rows_after before slot (later k (listing img)))
+    pub next-none : next_call img k ≡ nexts.Last → None ≡ first_of (rows_after before slot (later k (listing img)))
     unfolding rows_after first_of
     next-none e = rw (above-none k (listing img) (sym (next-above k) ∙ e))
 
@@ -160,9 +164,9 @@ module _ (img : List ℕ) (h : sound img ≡ true) where
       pub rest : List Entry
       pub is : later k (listing img) ≡ entry ∷ rest
       pub key : entry.rec.key ≡ j
-      pub found : lookup_call img j ≡ Ok (Some (record { offset = entry.at + 16; length = length entry.rec.value }))
+      pub found : lookup_call img j ≡ lookups.Found (entry.at + 16) (length entry.rec.value)
 
-    pub looked : (j : ℕ) → next_call img k ≡ Ok (Some j) → Looked j
+    pub looked : (j : ℕ) → next_call img k ≡ nexts.Key j → Looked j
     unfolding key_ok
     looked j e =
         let A = above-ahead k j (listing img) (sym (next-above k) ∙ e) in
@@ -179,19 +183,19 @@ module _ (img : List ℕ) (h : sound img ≡ true) where
           found = lookup-sound img h j ∙ rw ok (ap (λ (m : ℕ). found_in m (listing img)) (sym same) ∙ F.found);
         }
 
-    pub row-found : (j o n : ℕ) → next_call img k ≡ Ok (Some j) → lookup_call img j ≡ Ok (Some (record { offset = o; length = n })) →
-        (16 ≤ o) × (visits.Row ((o - 16) / 1024) (next_slot ((o - 16) / 1024) before slot) j n ≡ first_of (rows_after before slot (later k (listing img))))
+    pub row-found : (j o n : ℕ) → next_call img k ≡ nexts.Key j → lookup_call img j ≡ lookups.Found o n →
+        (16 ≤ o) × (Some (record { page = (o - 16) / 1024; slot = next_slot ((o - 16) / 1024) before slot; key = j; length = n }) ≡ first_of (rows_after before slot (later k (listing img))))
     row-found j o n e f =
         let L = looked j e in
         let place : L.entry.at + 16 ≡ o = cc (L.found, f) in
         let size : length L.entry.rec.value ≡ n = cc (L.found, f) in
         row-shown before slot k (listing img) L.entry L.rest j o n L.is L.key place size
 
-    pub row-not-missing : (j : ℕ) → next_call img k ≡ Ok (Some j) → lookup_call img j ≡ Ok None → ⊥
+    pub row-not-missing : (j : ℕ) → next_call img k ≡ nexts.Key j → lookup_call img j ≡ lookups.Missing → ⊥
     row-not-missing j e f = let z : ◌≡◌ {A = ℕ} 0 1 = cc ((looked j e).found, f) in omega arith
 
-    pub row-not-refused : (j : ℕ) (r : Refusal) → next_call img k ≡ Ok (Some j) → lookup_call img j ≡ Err r → ⊥
+    pub row-not-refused : (j : ℕ) (r : Refusal) → next_call img k ≡ nexts.Key j → lookup_call img j ≡ lookups.Refused r → ⊥
     row-not-refused j r e f = let z : ◌≡◌ {A = ℕ} 0 1 = cc ((looked j e).found, f) in omega arith
 
-    pub next-not-refused : (r : Refusal) → next_call img k ≡ Err r → ⊥
+    pub next-not-refused : (r : Refusal) → next_call img k ≡ nexts.Refused r → ⊥
     next-not-refused r e = above-answers k 1 (recs (listing img)) (suc top_key) rising-listing r (sym (next-above k) ∙ e)

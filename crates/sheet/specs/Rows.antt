@@ -1,14 +1,13 @@
 -- The rows of the listing (document 01, 'The sheet program'): "one row a record by rising key".
 -- Assumes nothing.
-use Rattle.std.specs.Prelude.{ℕ, ◌+◌, ◌/◌, ◌≡◌, List, [], ◌∷◌, ◌++◌, length, drop, eqb, ltb}
+use Rattle.std.specs.Prelude.{ℕ, ◌+◌, ◌/◌, ◌≡◌, List, [], ◌∷◌, ◌++◌, Option, Some, None, length, drop, eqb, ltb}
 use Rattle.codec.specs.Lists.{pick}
 use Rattle.page.specs.Layout.{page_size, Rec}
 use Rattle.page.specs.Page.{Entry, records}
 use Rattle.page.specs.Operations.{page_of}
 use Rattle.image.specs.PageZero.{root_of}
 use Rattle.image.specs.Image.{children, child_of}
-use Rattle.sheet.specs.declared.listing.Visit.{Visit}
-use Rattle.sheet.specs.declared.listing.Visit.TheVariants.{Row, End}
+use Rattle.sheet.specs.declared.listing.Row.{Row}
 
 -- a row: where a record stands, "page .., slot from 0 .., key .., value length"
 pub record Shown : Type 0 where
@@ -53,7 +52,7 @@ unfoldable pub later : ℕ → List Entry → List Entry
 later k [] = []
 later k (e ∷ es) = pick (ltb k e.rec.key) (e ∷ es) (later k es)
 
--- the first row, or the end
-unfoldable pub first_of : List Shown → Visit
-first_of [] = End
-first_of (r ∷ rs) = Row r.page r.slot r.key r.size
+-- the first row, if there is one
+unfoldable pub first_of : List Shown → Option Row
+first_of [] = None
+first_of (r ∷ rs) = Some (record { page = r.page; slot = r.slot; key = r.key; length = r.size })

@@ -1,27 +1,26 @@
-// The lines of the form, from the first to the last or to the first bad one: edits wait in an edit list until they are committed.
-ghost use Rattle.std.specs.Prelude.{◌≡◌, ℕ, ◌≤◌, List, length};
+// The lines of the form, from the first to the last or to the first bad one: edits wait until they are committed.
+ghost use Rattle.std.specs.Prelude.{◌≡◌, ◌≤◌, length};
 ghost use Rattle.codec.specs.Lists.{pick};
 ghost use Rattle.transaction.specs.Calls.{is_accepted};
-ghost use Rattle.sheet.specs.Steps.{tried, commits, waits, steps, state_of, Room};
+ghost use Rattle.sheet.specs.Steps.{tried, commits, steps, state_of};
 
+use crate::waiting::Waiting;
 use lines::Line;
 use transaction::Transacted;
 
-// The edits that wait and the bytes that they take in the edit list; the transactions accepted and refused so far.
-#[derive(Clone, Copy)]
-pub struct Counts {
-    pub edits: usize,
-    pub used: usize,
+// "or line 2,001": so many lines are taken.
+const MOST_LINES: usize = 2000;
+
+// The transactions accepted and refused.
+#[derive(Clone, Copy, Default)]
+pub struct Totals {
     pub accepted: u64,
     pub refused: u64,
 }
 
-// How the form ended: the number of its bad line, or all lines taken.
+// The number of the first bad line.
 #[derive(Clone, Copy)]
-pub enum End {
-    Bad(u64),
-    Whole { accepted: u64, refused: u64 },
-}
+pub struct BadLine(pub u64);
 
 // Runs a transaction on the image, and answers whether it was accepted: work is then the image after its tape.
 fn transact(image: &mut [u8], edits: &[u8]) -> bool
@@ -41,81 +40,36 @@ fn transact(image: &mut [u8], edits: &[u8]) -> bool
 }
 
 // Commits the edits that wait; none wait afterwards.
-fn commit(image: &mut [u8], list: &[u8], counts: Counts) -> Counts
-    requires { (length image.old ≡ 8192) × Room list.now counts × (counts.accepted ≤ 2000) × (counts.refused ≤ 2000) }
-    ensures result_after { state_of image.new list.now result ≡ commits (state_of image.old list.now counts) }
-    ensures room { Room list.now result }
+fn commit(image: &mut [u8], waiting: &mut Waiting, totals: &mut Totals)
+    requires { (length image.old ≡ 8192) × (totals.old.accepted ≤ 2000) × (totals.old.refused ≤ 2000) }
+    ensures { state_of image.new waiting.new totals.new ≡ commits (state_of image.old waiting.old totals.old) }
 {
-    let used = counts.used;
-    if transact(image, &list[..used]) {
-        return Counts {
-            edits: 0,
-            used: 0,
-            accepted: counts.accepted + 1,
-            refused: counts.refused,
-        };
-    }
-    Counts {
-        edits: 0,
-        used: 0,
-        accepted: counts.accepted,
-        refused: counts.refused + 1,
+    let accepted = transact(image, waiting.list());
+    *waiting = Waiting::new();
+    if accepted {
+        totals.accepted += 1;
+    } else {
+        totals.refused += 1;
     }
 }
 
-// Adds an edit to those that wait: "Edits past the seventeenth .. are dropped."
-fn wait(list: &mut [u8], counts: Counts, kind: u8, key: u64, price: u64) -> Counts
-    requires { Room list.old counts }
-    ensures by_index { (image : List ℕ) → state_of image list.new result ≡ waits kind key price (state_of image list.old counts) }
-    ensures room { Room list.new result }
-{
-    if 16 < counts.edits {
-        return counts;
-    }
-    let used = counts.used;
-    let next = lines::put_edit(list, used, kind, key, price);
-    Counts {
-        edits: counts.edits + 1,
-        used: next,
-        accepted: counts.accepted,
-        refused: counts.refused,
-    }
-}
-
-// Takes the lines in order. "At a bad line (not of this form), or line 2,001": its number. The list has room for 17 edits of 18 bytes.
-pub fn take_lines(input: &[u8], image: &mut [u8]) -> End
+// Takes the lines in order. "At a bad line (not of this form), or line 2,001": its number.
+pub fn take_lines(input: &[u8], image: &mut [u8]) -> Result<Totals, BadLine>
     requires { length image.old ≡ 8192 }
     ensures value { result ≡ (steps input.now image.old).end }
     ensures image_after { image.new ≡ (steps input.now image.old).image }
 {
-    let mut list = [0u8; 306];
-    let mut counts = Counts {
-        edits: 0,
-        used: 0,
-        accepted: 0,
-        refused: 0,
-    };
-    let mut done = 0;
-    while 28 * done < input.len() {
-        if 1999 < done {
-            return End::Bad(done as u64 + 1);
+    let mut waiting = Waiting::new();
+    let mut totals = Totals::default();
+    for (done, line) in input.chunks(28).enumerate() {
+        let bad = BadLine(done as u64 + 1);
+        if MOST_LINES <= done {
+            return Err(bad);
         }
-        match lines::read_line(input, 28 * done) {
-            Line::Bad => {
-                return End::Bad(done as u64 + 1);
-            }
-            Line::Commit => {
-                counts = commit(image, &list, counts);
-                done += 1;
-            }
-            Line::Edit { kind, key, price } => {
-                counts = wait(&mut list, counts, kind, key, price);
-                done += 1;
-            }
+        match lines::read_line(line, 0).ok_or(bad)? {
+            Line::Commit => commit(image, &mut waiting, &mut totals),
+            Line::Edit { kind, key, price } => waiting.wait(kind, key, price),
         }
     }
-    End::Whole {
-        accepted: counts.accepted,
-        refused: counts.refused,
-    }
+    Ok(totals)
 }

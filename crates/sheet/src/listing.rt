@@ -1,5 +1,5 @@
 // What is written: a row for each record by rising key, the last line, or the number of a bad line.
-ghost use Rattle.std.specs.Prelude.{◌≡◌, true, ◌+◌, ◌<◌, IfOk, length};
+ghost use Rattle.std.specs.Prelude.{◌≡◌, true, ◌<◌, IfOk, length};
 ghost use Rattle.image.specs.Image.{sound};
 ghost use Rattle.image.specs.Calls.{next_call};
 ghost use Rattle.image.specs.Table.{listing};
@@ -11,76 +11,63 @@ use image::{Lookup, Next};
 use std::io;
 use std::io::{Stdout, Write};
 
-// A row, or the end of the rows.
-#[derive(Clone, Copy)]
-pub enum Visit {
-    Row {
-        page: usize,
-        slot: usize,
-        key: u64,
-        length: usize,
-    },
-    End,
-}
-
-// The slot of a record on `page`, where the record before it stands in slot `slot` of page `before`.
-fn slot_after(page: usize, before: usize, slot: usize) -> usize
-    requires { slot < 18446744073709551615 }
-    ensures { result ≡ next_slot page before slot }
-{
-    if page != before {
-        return 0;
-    }
-    slot + 1
-}
-
-// The row of the key that comes next.
-fn row_of(image: &[u8], before: usize, slot: usize, last: u64, key: u64) -> Visit
-    requires { (sound image.now ≡ true) × (slot < 18446744073709551615) × (next_call image.now last ≡ Key key) }
-    ensures { result ≡ first_of (rows_after before slot (later last (listing image.now))) }
-{
-    match lookup(image, key) {
-        Lookup::Found { offset, length } => {
-            let page = (offset - 16) / 1024;
-            Visit::Row {
-                page,
-                slot: slot_after(page, before, slot),
-                key,
-                length,
-            }
-        }
-        Lookup::Missing => Visit::End,
-        Lookup::Refused(_) => Visit::End,
-    }
-}
-
-// The row after the record of the key `last`, which stands in slot `slot` of page `before`; of no record they are 0.
-fn row_after(image: &[u8], before: usize, slot: usize, last: u64) -> Visit
-    requires { (sound image.now ≡ true) × (slot < 18446744073709551615) }
-    ensures { result ≡ first_of (rows_after before slot (later last (listing image.now))) }
-{
-    match next_key(image, last) {
-        Next::Key(key) => row_of(image, before, slot, last, key),
-        Next::Last => Visit::End,
-        Next::Refused(_) => Visit::End,
-    }
-}
-
-// Prints row number i of the image's listing; image and i are there for the contract.
-fn print_row(
-    out: &mut Stdout,
-    image: &[u8],
-    i: u64,
+// A row: where a record stands, its key and its value's length.
+#[derive(Clone, Copy, Default)]
+struct Row {
     page: usize,
     slot: usize,
     key: u64,
     length: usize,
-) -> io::Result<()>
-    requires { RowAt image.now i page slot key length }
+}
+
+// The slot of a record on `page`, which comes after the row `last`.
+#[tactic(auto, unfolding(crate::specs::Rows::next_slot))]
+fn slot_after(page: usize, last: Row) -> usize
+    requires { last.slot < 18446744073709551615 }
+    ensures { result ≡ next_slot page last.page last.slot }
 {
-    let mut row = [0u8; 26];
-    lines::put_row(&mut row, page, slot, key, length);
-    out.write_all(&row)
+    if page == last.page { last.slot + 1 } else { 0 }
+}
+
+// The row of the key that comes next after the row `last`.
+fn row_of(image: &[u8], last: Row, key: u64) -> Option<Row>
+    requires { (sound image.now ≡ true) × (last.slot < 18446744073709551615) × (next_call image.now last.key ≡ Key key) }
+    ensures { result ≡ first_of (rows_after last.page last.slot (later last.key (listing image.now))) }
+{
+    match lookup(image, key) {
+        Lookup::Found { offset, length } => {
+            let page = (offset - 16) / 1024;
+            Some(Row {
+                page,
+                slot: slot_after(page, last),
+                key,
+                length,
+            })
+        }
+        Lookup::Missing => None,
+        Lookup::Refused(_) => None,
+    }
+}
+
+// The row after the row `last`. Before the first one, `last` has page 0 and key 0, which no record has.
+fn row_after(image: &[u8], last: Row) -> Option<Row>
+    requires { (sound image.now ≡ true) × (last.slot < 18446744073709551615) }
+    ensures { result ≡ first_of (rows_after last.page last.slot (later last.key (listing image.now))) }
+{
+    match next_key(image, last.key) {
+        Next::Key(key) => row_of(image, last, key),
+        Next::Last => None,
+        Next::Refused(_) => None,
+    }
+}
+
+// Prints row number i of the image's listing; image and i are there for the contract.
+fn print_row(out: &mut Stdout, image: &[u8], i: u64, row: Row) -> io::Result<()>
+    requires { RowAt image.now i row.page row.slot row.key row.length }
+{
+    let mut line = [0u8; 26];
+    lines::put_row(&mut line, row.page, row.slot, row.key, row.length);
+    out.write_all(&line)
 }
 
 // Prints the rows, and answers how many there are, unless a write fails.
@@ -88,29 +75,14 @@ fn print_rows(out: &mut Stdout, image: &[u8]) -> io::Result<u64>
     requires { sound image.now ≡ true }
     ensures { IfOk result (λ rows. rows ≡ length (rows_of image.now)) }
 {
-    let mut before = 0;
-    let mut slot = 0;
-    let mut last = 0;
+    let mut last = Row::default();
     let mut rows = 0;
-    loop {
-        match row_after(image, before, slot, last) {
-            Visit::End => {
-                return Ok(rows);
-            }
-            Visit::Row {
-                page,
-                slot: at,
-                key,
-                length,
-            } => {
-                print_row(out, image, rows, page, at, key, length)?;
-                before = page;
-                slot = at;
-                last = key;
-                rows += 1;
-            }
-        }
+    while let Some(row) = row_after(image, last) {
+        print_row(out, image, rows, row)?;
+        last = row;
+        rows += 1;
     }
+    Ok(rows)
 }
 
 // The rows, and the last line: records, accepted and refused transactions.

@@ -5,10 +5,11 @@
 
 mod form;
 mod listing;
+mod waiting;
 
 ghost use Rattle.std.specs.Prelude.{◌≤◌, IfOk, length};
 
-use form::End;
+use form::BadLine;
 use std::io;
 use std::io::{Read, Stdin, Stdout, Write};
 
@@ -36,7 +37,7 @@ fn main(rt: HostRuntime) -> io::Result<()> {
     let mut image = [0u8; 8192];
     image::calls::format(&mut image);
     match form::take_lines(&buffer[..n], &mut image) {
-        End::Bad(line) => listing::print_line_number(&mut out, line),
-        End::Whole { accepted, refused } => listing::print(&mut out, &image, accepted, refused),
+        Ok(totals) => listing::print(&mut out, &image, totals.accepted, totals.refused),
+        Err(BadLine(line)) => listing::print_line_number(&mut out, line),
     }
 }

@@ -1,20 +1,26 @@
 -- `commit`: the transaction's answer, counted.
 -- Assumes nothing.
-use mathlib.Core.Path.{refl}
-use native.Mathlib.Omega.{arith}
-use Rattle.sheet.proofs.Taking.{commits-accepted, commits-refused, room-none}
-use lib.ListN.{length-take}
+use mathlib.Core.Path.{ap, ◌∙◌}
+use Prim.Native.Nat.{ℕ}
+use mathlib.Core.List.{List}
+use Rattle.codec.specs.Lists.{pick}
+use Rattle.transaction.specs.Calls.{is_accepted}
+use Rattle.sheet.specs.Steps.{tried}
+use Rattle.sheet.proofs.Taking.{commits-accepted, commits-refused}
 use Rattle.sheet.proofs.form.commit.Goals as goal
 
-pub slice_bounds-transact-end : goal.slice_bounds-transact-end
-slice_bounds-transact-end c = simp length-take (omega arith)
-
-pub returns-then-transact : goal.returns-then-transact
-returns-then-transact c =
+pub returns-then-accepted : goal.returns-then-accepted
+returns-then-accepted c =
     let a = c.args in
-    record { result_after = commits-accepted a.image.now a.list.now a.counts _ _ c.transact.ensures.value c.transact.ensures.image_after c.if-transact.true; room = room-none a.list.now a.counts _ c.requires.1 refl refl }
+    let t = c.transact-accepted in
+    commits-accepted a.image.now a.waiting.now c.new.result a.totals.now _ _ c.new.ensures.edits c.new.ensures.used
+    (t.ensures.value ∙ ap (λ (l : List ℕ). is_accepted (tried a.image.now l).answer) c.list.ensures)
+    (t.ensures.image_after ∙ ap (λ (l : List ℕ). pick t.result (tried a.image.now l).work a.image.now) c.list.ensures) c.if-accepted.true
 
-pub returns : goal.returns
-returns c =
+pub returns-else-accepted : goal.returns-else-accepted
+returns-else-accepted c =
     let a = c.args in
-    record { result_after = commits-refused a.image.now a.list.now a.counts _ _ c.transact.ensures.value c.transact.ensures.image_after c.if-transact.false; room = room-none a.list.now a.counts _ c.requires.1 refl refl }
+    let t = c.transact-accepted in
+    commits-refused a.image.now a.waiting.now c.new.result a.totals.now _ _ c.new.ensures.edits c.new.ensures.used
+    (t.ensures.value ∙ ap (λ (l : List ℕ). is_accepted (tried a.image.now l).answer) c.list.ensures)
+    (t.ensures.image_after ∙ ap (λ (l : List ℕ). pick t.result (tried a.image.now l).work a.image.now) c.list.ensures) c.if-accepted.false

@@ -1,29 +1,24 @@
 -- `print_rows`: what is left to print is the rest of the listing.
 -- Assumes nothing.
 use native.Mathlib.Omega.{arith}
-use Rattle.sheet.proofs.Printing.{rows_start, rows_end, printed}
+use mathlib.Core.Path.{sym, ◌∙◌}
+use Rattle.sheet.proofs.Printing.{listed-first, listed-last, listed-row, listed-over, listed-next}
 use Rattle.sheet.proofs.listing.print_rows.Goals as goal
 
-pub loop-page-init : goal.loop-page-init
-loop-page-init c = (omega arith, omega arith, rows_start c.args.image.now c.requires, omega arith, omega arith)
+pub loop-row-init : goal.loop-row-init
+loop-row-init c = let d = c.default-last.ensures in listed-first c.args.image.now c.requires _ d.0 d.1.0 d.1.1.0
 
-pub row_after-requires : goal.row_after-requires
-row_after-requires c = (c.requires, omega (arith, c.loop-page.invariant.0, c.loop-page.invariant.1))
-
-pub returns-in-End : goal.returns-in-End
-returns-in-End c = rows_end c.args.image.now c.requires c.loop-page.before c.loop-page.slot c.loop-page.last c.loop-page.rows c.loop-page.invariant.2 _ c.row_after.ensures c.in-End.is c.loop-page.invariant.3
+pub returns : goal.returns
+returns c = listed-last c.args.image.now c.requires _ _ c.loop-row.invariant (sym c.in_default.is ∙ c.row_after.ensures)
 
 pub print_row-requires : goal.print_row-requires
-print_row-requires c = let q = printed c.args.image.now c.requires c.loop-page.before c.loop-page.slot c.loop-page.last c.loop-page.rows c.loop-page.invariant.2 _ c.row_after.ensures _ _ _ _ c.in-Row.is in q.row
+print_row-requires c = listed-row c.args.image.now c.requires _ _ c.loop-row.invariant _ (sym c.in-Some.is ∙ c.row_after.ensures)
 
-pub overflow_add-rows : goal.overflow_add-rows
-overflow_add-rows c = let q = printed c.args.image.now c.requires c.loop-page.before c.loop-page.slot c.loop-page.last c.loop-page.rows c.loop-page.invariant.2 _ c.row_after.ensures _ _ _ _ c.in-Row.is in omega (arith, q.over)
+pub loop-row-smaller : goal.loop-row-smaller
+loop-row-smaller c =
+    let i = c.loop-row.invariant in
+    let k = listed-over c.args.image.now c.requires _ _ i c.in-Some.row (sym c.in-Some.is ∙ c.row_after.ensures) in
+    omega (arith, i.below)
 
-pub loop-page-smaller : goal.loop-page-smaller
-loop-page-smaller c = let q = printed c.args.image.now c.requires c.loop-page.before c.loop-page.slot c.loop-page.last c.loop-page.rows c.loop-page.invariant.2 _ c.row_after.ensures _ _ _ _ c.in-Row.is in omega (arith, q.over, q.below)
-
-pub loop-page-preserved : goal.loop-page-preserved
-loop-page-preserved c =
-    let l = c.loop-page in
-    let q = printed c.args.image.now c.requires c.loop-page.before c.loop-page.slot c.loop-page.last c.loop-page.rows c.loop-page.invariant.2 _ c.row_after.ensures _ _ _ _ c.in-Row.is in
-    (omega (arith, q.slot-near, l.invariant.0), omega (arith, q.over, l.invariant.1), q.again, q.more, q.below)
+pub loop-row-preserved : goal.loop-row-preserved
+loop-row-preserved c = listed-next c.args.image.now c.requires _ _ c.loop-row.invariant _ (sym c.in-Some.is ∙ c.row_after.ensures)

@@ -1,17 +1,12 @@
 -- `print_rows`: what is left to print is the rest of the listing.
 -- Assumes nothing.
-use Prim.Native.Nat.{◌-◌, ◌≤◌}
-use mathlib.Core.Path.{◌≡◌}
-use lib.ListN.{length, drop}
-use Rattle.image.specs.Table.{listing}
-use Rattle.sheet.specs.Rows.{rows_of, rows_after, later}
+use Prim.Native.Nat.{◌-◌}
+use Rattle.sheet.proofs.Printing.{Listed}
 use Rattle.sheet.proofs.listing.print_rows.Given as goal
 
-abbrev pub invariant-loop-page : goal.invariant-loop-page
-invariant-loop-page l =
-    (l.slot ≤ l.rows) × (l.rows ≤ l.last) × (rows_after l.before l.slot (later l.last (listing l.image)) ≡ drop l.rows (rows_of l.image))
-    × (l.rows ≤ length (rows_of l.image))
-    × (l.last ≤ 999999999999)
+abbrev pub invariant-loop-row : goal.invariant-loop-row
+invariant-loop-row l = Listed l.image l.rows l.last
 
-abbrev pub decreases-loop-page : goal.decreases-loop-page
-decreases-loop-page l = 18446744073709551616 - l.last
+-- keys rise
+abbrev pub decreases-loop-row : goal.decreases-loop-row
+decreases-loop-row l = 1000000000000 - l.last.key

@@ -1,5 +1,6 @@
 -- The store that the listing shows: sound after any lines; an accepted commit makes exactly the edits that waited, a refused one none.
 -- Assumes nothing.
+use Rattle.std.specs.Prelude.{Err, Ok, Result}
 use Prim.Native.Nat.{ℕ, zero, suc, ◌+◌}
 use mathlib.Core.Path.{◌≡◌, refl, ap, ◌∙◌}
 use mathlib.Core.Bool.{Bool, true, false}
@@ -7,6 +8,7 @@ use mathlib.Core.List.{List, [], ◌∷◌, ◌++◌}
 use lib.ListN.{length, drop, replicate}
 use lib.Dec.{ltb}
 use Rattle.std.proofs.Common.{Option, Some, None}
+use Rattle.device.specs.declared.Refusal.{Refusal}
 use Rattle.codec.specs.Lists.{pick}
 use Rattle.device.specs.Calls.{is_image_size}
 use Rattle.image.specs.Image.{sound}
@@ -21,8 +23,6 @@ use Rattle.journal.specs.declared.Commit.{Commit}
 use Rattle.journal.specs.declared.Way.TheVariants.{ByLine}
 use Rattle.transaction.specs.Calls.{is_accepted}
 use Rattle.transaction.specs.Demand2.{Makes}
-use Rattle.transaction.specs.declared.Transacted.{Transacted}
-use Rattle.transaction.specs.declared.Transacted.TheVariants as answers
 use Rattle.transaction.proofs.Demand2.{demand-2}
 use Rattle.lines.specs.Form.{line_in, line_edit}
 use Rattle.lines.specs.declared.Line.{Line}
@@ -32,12 +32,12 @@ use Rattle.sheet.specs.Steps.{State, Outcome, opened, tried, commits, waits, doe
 -- ---- a commit
 
 -- an accepted commit is an accepted transaction
-pub tried-makes : (a list : List ℕ) (x : Commit) → (tried a list).answer ≡ answers.Accepted x → Makes a (replicate 16384 0) list x (tried a list)
+pub tried-makes : (a list : List ℕ) (x : Commit) → (tried a list).answer ≡ Ok x → Makes a (replicate 16384 0) list x (tried a list)
 unfolding tried
 tried-makes a list x e = demand-2 ByLine a (replicate 8192 0) (replicate 16384 0) list x e
 
 module _ (s : State) (h : sound s.image ≡ true) where
-  pub commits-accepted-table : (x : Commit) → (tried s.image s.list).answer ≡ answers.Accepted x →
+  pub commits-accepted-table : (x : Commit) → (tried s.image s.list).answer ≡ Ok x →
       table (commits s).image ≡ apply_edits (edits_of (edit_list s.list)) (table s.image)
   unfolding commits is_accepted
   commits-accepted-table x e = rw e (tried-makes s.image s.list x e).is_table
@@ -46,9 +46,9 @@ module _ (s : State) (h : sound s.image ≡ true) where
   unfolding commits is_accepted
   commits-sound = go (tried s.image s.list).answer refl
     where
-      go : (t : Transacted) → (tried s.image s.list).answer ≡ t → sound (pick (is_accepted t) (tried s.image s.list).work s.image) ≡ true
-      go (answers.Accepted x) e = (tried-makes s.image s.list x e).is_sound
-      go (answers.Refused r) e = h
+      go : (t : Result Commit Refusal) → (tried s.image s.list).answer ≡ t → sound (pick (is_accepted t) (tried s.image s.list).work s.image) ≡ true
+      go (Ok x) e = (tried-makes s.image s.list x e).is_sound
+      go (Err r) e = h
 
 -- ---- all lines
 

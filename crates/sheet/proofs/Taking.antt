@@ -1,5 +1,6 @@
 -- The steps of the code: a transaction's answer, a commit, an edit that waits, a line taken.
 -- Assumes nothing.
+use Rattle.std.specs.Prelude.{Err, Ok, Result}
 use Prim.Native.Nat.{ℕ, zero, suc, min, ◌+◌, ◌-◌, ◌≤◌, ◌<◌}
 use mathlib.Core.Path.{◌≡◌, refl, sym, ap, ◌∙◌}
 use mathlib.Core.Bool.{Bool, true, false}
@@ -15,8 +16,6 @@ use Rattle.codec.specs.Lists.{pick, part, splice}
 use Rattle.journal.specs.declared.Commit.{Commit}
 use Rattle.device.specs.declared.Refusal.{Refusal}
 use Rattle.transaction.specs.Calls.{is_accepted}
-use Rattle.transaction.specs.declared.Transacted.{Transacted}
-use Rattle.transaction.specs.declared.Transacted.TheVariants as answers
 use Rattle.lines.specs.Form.{line_in, line_edit}
 use Rattle.lines.proofs.Reading.{line-first}
 use Rattle.lines.specs.declared.Line.{Line}
@@ -27,13 +26,13 @@ use Rattle.sheet.specs.Steps.{State, Outcome, opened, tried, commits, waits, end
 
 -- ---- a transaction
 
-module _ (image list : List ℕ) (a : Transacted) (says : a ≡ (tried image list).answer) where
-  pub accepted-says : (x : Commit) (work new : List ℕ) → a ≡ answers.Accepted x → work ≡ (tried image list).work → new ≡ work →
+module _ (image list : List ℕ) (a : Result Commit Refusal) (says : a ≡ (tried image list).answer) where
+  pub accepted-says : (x : Commit) (work new : List ℕ) → a ≡ Ok x → work ≡ (tried image list).work → new ≡ work →
       (true ≡ is_accepted (tried image list).answer) × (new ≡ (tried image list).work)
   unfolding is_accepted
   accepted-says x work new e w n = (rw (sym says ∙ e), n ∙ w)
 
-  pub refused_says : (x : Refusal) → a ≡ answers.Refused x → false ≡ is_accepted (tried image list).answer
+  pub refused_says : (x : Refusal) → a ≡ Err x → false ≡ is_accepted (tried image list).answer
   unfolding is_accepted
   refused_says x e = rw (sym says ∙ e)
 

@@ -1,5 +1,6 @@
 -- The rows in order: what next key and lookup answer is the next row.
 -- Assumes nothing.
+use Rattle.std.specs.Prelude.{Err, Ok}
 use Prim.Native.Nat.{ℕ, suc, ◌+◌, ◌-◌, ◌/◌, ◌≤◌, ◌<◌}
 use mathlib.Core.Path.{◌≡◌, refl, sym, ap, subst, ◌∙◌}
 use mathlib.Core.Bool.{Bool, true, false}
@@ -17,8 +18,7 @@ use Rattle.image.specs.Facts.{Rising}
 use Rattle.image.specs.Image.{sound}
 use Rattle.image.specs.Table.{listing, found_in, above}
 use Rattle.image.specs.Calls.{key_ok, lookup_call, next_call}
-use Rattle.image.specs.declared.Lookup.TheVariants as lookups
-use Rattle.image.specs.declared.Next.TheVariants as nexts
+use Rattle.image.proofs.Parts.{part-same}
 use Rattle.image.proofs.Answers.{lookup-sound, next-sound}
 use Rattle.device.specs.declared.Refusal.{Refusal}
 use Rattle.image.proofs.Rising.{rising_le}
@@ -36,21 +36,21 @@ pub record Ahead (k j : ℕ) (es : List Entry) : Type 0 where
   pub is : later k es ≡ entry ∷ rest
   pub key : entry.rec.key ≡ j
 
-pub above-ahead : (k j : ℕ) (es : List Entry) → above k (recs es) ≡ nexts.Key j → Ahead k j es
+pub above-ahead : (k j : ℕ) (es : List Entry) → above k (recs es) ≡ Ok (Some j) → Ahead k j es
 unfolding above later
 above-ahead k j [] h = let z : ◌≡◌ {A = ℕ} 0 1 = cc in absurd (omega arith)
 above-ahead k j (e ∷ es) h = go (ltb k e.rec.key) refl h (above-ahead k j es)
   where
-    go : (t : Bool) → ltb k e.rec.key ≡ t → pick t (nexts.Key e.rec.key) (above k (recs es)) ≡ nexts.Key j → (above k (recs es) ≡ nexts.Key j → Ahead k j es) → Ahead k j (e ∷ es)
+    go : (t : Bool) → ltb k e.rec.key ≡ t → pick t (Ok (Some e.rec.key)) (above k (recs es)) ≡ Ok (Some j) → (above k (recs es) ≡ Ok (Some j) → Ahead k j es) → Ahead k j (e ∷ es)
     go true p f r = let same : e.rec.key ≡ j = cc in record { entry = e; rest = es; is = rw p; key = same }
     go false p f r = let a = r f in record { entry = a.entry; rest = a.rest; is = rw p a.is; key = a.key }
 
-pub above-none : (k : ℕ) (es : List Entry) → above k (recs es) ≡ nexts.Last → later k es ≡ []
+pub above-none : (k : ℕ) (es : List Entry) → above k (recs es) ≡ Ok None → later k es ≡ []
 unfolding above later
 above-none k [] h = refl
 above-none k (e ∷ es) h = go (ltb k e.rec.key) h (above-none k es)
   where
-    go : (t : Bool) → pick t (nexts.Key e.rec.key) (above k (recs es)) ≡ nexts.Last → (above k (recs es) ≡ nexts.Last → later k es ≡ []) → pick t (e ∷ es) (later k es) ≡ []
+    go : (t : Bool) → pick t (Ok (Some e.rec.key)) (above k (recs es)) ≡ Ok None → (above k (recs es) ≡ Ok None → later k es ≡ []) → pick t (e ∷ es) (later k es) ≡ []
     go true f r = let z : ◌≡◌ {A = ℕ} 0 1 = cc in absurd (omega arith)
     go false f r = r f
 
@@ -65,7 +65,7 @@ pub record First (k hi : ℕ) (e : Entry) (rest es : List Entry) : Type 0 where
   pub over : k < e.rec.key
   pub below : e.rec.key < hi
   pub next : later e.rec.key es ≡ rest
-  pub found : found_in e.rec.key es ≡ lookups.Found (e.at + 16) (length e.rec.value)
+  pub found : found_in e.rec.key es ≡ Ok (Some (record { offset = (e.at + 16); length = (length e.rec.value) }))
 
 pub later_first : (k lo : ℕ) (es : List Entry) (hi : ℕ) (e : Entry) (rest : List Entry) → Rising lo (recs es) hi → later k es ≡ e ∷ rest → First k hi e rest es
 unfolding later found_in
@@ -154,7 +154,7 @@ module _ (img : List ℕ) (h : sound img ≡ true) where
   next-above k = next-sound img h k ∙ ap (above k) (sym (recs-listing img))
 
   module _ (before slot k : ℕ) where
-    pub next-none : next_call img k ≡ nexts.Last → None ≡ first_of (rows_after before slot (later k (listing img)))
+    pub next-none : next_call img k ≡ Ok None → None ≡ first_of (rows_after before slot (later k (listing img)))
     unfolding rows_after first_of
     next-none e = rw (above-none k (listing img) (sym (next-above k) ∙ e))
 
@@ -164,9 +164,9 @@ module _ (img : List ℕ) (h : sound img ≡ true) where
       pub rest : List Entry
       pub is : later k (listing img) ≡ entry ∷ rest
       pub key : entry.rec.key ≡ j
-      pub found : lookup_call img j ≡ lookups.Found (entry.at + 16) (length entry.rec.value)
+      pub found : lookup_call img j ≡ Ok (Some (record { offset = (entry.at + 16); length = (length entry.rec.value) }))
 
-    pub looked : (j : ℕ) → next_call img k ≡ nexts.Key j → Looked j
+    pub looked : (j : ℕ) → next_call img k ≡ Ok (Some j) → Looked j
     unfolding key_ok
     looked j e =
         let A = above-ahead k j (listing img) (sym (next-above k) ∙ e) in
@@ -183,19 +183,18 @@ module _ (img : List ℕ) (h : sound img ≡ true) where
           found = lookup-sound img h j ∙ rw ok (ap (λ (m : ℕ). found_in m (listing img)) (sym same) ∙ F.found);
         }
 
-    pub row-found : (j o n : ℕ) → next_call img k ≡ nexts.Key j → lookup_call img j ≡ lookups.Found o n →
+    pub row-found : (j o n : ℕ) → next_call img k ≡ Ok (Some j) → lookup_call img j ≡ Ok (Some (record { offset = o; length = n })) →
         (16 ≤ o) × (Some (record { page = (o - 16) / 1024; slot = next_slot ((o - 16) / 1024) before slot; key = j; length = n }) ≡ first_of (rows_after before slot (later k (listing img))))
     row-found j o n e f =
         let L = looked j e in
-        let place : L.entry.at + 16 ≡ o = cc (L.found, f) in
-        let size : length L.entry.rec.value ≡ n = cc (L.found, f) in
-        row-shown before slot k (listing img) L.entry L.rest j o n L.is L.key place size
+        let same = part-same _ _ _ _ (sym L.found ∙ f) in
+        row-shown before slot k (listing img) L.entry L.rest j o n L.is L.key same.0 same.1
 
-    pub row-not-missing : (j : ℕ) → next_call img k ≡ nexts.Key j → lookup_call img j ≡ lookups.Missing → ⊥
+    pub row-not-missing : (j : ℕ) → next_call img k ≡ Ok (Some j) → lookup_call img j ≡ Ok None → ⊥
     row-not-missing j e f = let z : ◌≡◌ {A = ℕ} 0 1 = cc ((looked j e).found, f) in omega arith
 
-    pub row-not-refused : (j : ℕ) (r : Refusal) → next_call img k ≡ nexts.Key j → lookup_call img j ≡ lookups.Refused r → ⊥
+    pub row-not-refused : (j : ℕ) (r : Refusal) → next_call img k ≡ Ok (Some j) → lookup_call img j ≡ Err r → ⊥
     row-not-refused j r e f = let z : ◌≡◌ {A = ℕ} 0 1 = cc ((looked j e).found, f) in omega arith
 
-    pub next-not-refused : (r : Refusal) → next_call img k ≡ nexts.Refused r → ⊥
+    pub next-not-refused : (r : Refusal) → next_call img k ≡ Err r → ⊥
     next-not-refused r e = above-answers k 1 (recs (listing img)) (suc top_key) rising-listing r (sym (next-above k) ∙ e)

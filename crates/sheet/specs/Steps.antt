@@ -4,7 +4,7 @@ use Rattle.std.specs.Prelude.{ℕ, zero, suc, ◌+◌, List, [], ◌∷◌, ◌+
 use Rattle.std.specs.Prelude as std
 use Rattle.codec.specs.Lists.{pick}
 use Rattle.journal.specs.declared.Way.TheVariants.{ByLine}
-use Rattle.transaction.specs.Calls.{Result, is_accepted, transaction_call}
+use Rattle.transaction.specs.Calls.{Called, is_accepted, transaction_call}
 use Rattle.lines.specs.Form.{line_in, line_edit}
 use Rattle.lines.specs.declared.Line.{Line}
 use Rattle.lines.specs.declared.Line.TheVariants.{Commit, Edit}
@@ -24,7 +24,7 @@ abbrev pub opened : List ℕ → State
 opened image = record { image = image; list = []; edits = 0; accepted = 0; refused = 0 }
 
 -- the transaction, with the buffers that it is lent: "lends 16,384 tape bytes"
-unfoldable pub tried : List ℕ → List ℕ → Result
+unfoldable pub tried : List ℕ → List ℕ → Called
 tried image list = transaction_call ByLine image (replicate 8192 0) (replicate 16384 0) list
 
 -- a commit: on acceptance the image after the tape, which work holds; nothing waits afterwards

@@ -6,7 +6,6 @@ ghost use Rattle.sheet.specs.Steps.{tried, commits, steps, state_of};
 
 use crate::waiting::Waiting;
 use lines::Line;
-use transaction::Transacted;
 
 // "or line 2,001": so many lines are taken.
 const MOST_LINES: usize = 2000;
@@ -31,11 +30,11 @@ fn transact(image: &mut [u8], edits: &[u8]) -> bool
     let mut work = [0u8; 8192];
     let mut tape = [0u8; 16384];
     match transaction::transaction(image, &mut work, &mut tape, edits) {
-        Transacted::Accepted(_) => {
+        Ok(_) => {
             codec::copy_all(image, &work);
             true
         }
-        Transacted::Refused(_) => false,
+        Err(_) => false,
     }
 }
 

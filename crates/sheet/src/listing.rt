@@ -1,13 +1,11 @@
 // What is written: a row for each record by rising key, the last line, or the number of a bad line.
-ghost use Rattle.std.specs.Prelude.{◌≡◌, true, ◌<◌, IfOk, length};
+ghost use Rattle.std.specs.Prelude.{◌≡◌, true, Ok, Some, ◌<◌, IfOk, length};
 ghost use Rattle.image.specs.Image.{sound};
 ghost use Rattle.image.specs.Calls.{next_call};
 ghost use Rattle.image.specs.Table.{listing};
-ghost use Rattle.image.specs.declared.Next.TheVariants.{Key};
 ghost use Rattle.sheet.specs.Rows.{rows_of, RowAt, next_slot, rows_after, later, first_of};
 
 use image::calls::{lookup, next_key};
-use image::{Lookup, Next};
 use std::io;
 use std::io::{Stdout, Write};
 
@@ -31,21 +29,21 @@ fn slot_after(page: usize, last: Row) -> usize
 
 // The row of the key that comes next after the row `last`.
 fn row_of(image: &[u8], last: Row, key: u64) -> Option<Row>
-    requires { (sound image.now ≡ true) × (last.slot < 18446744073709551615) × (next_call image.now last.key ≡ Key key) }
+    requires { (sound image.now ≡ true) × (last.slot < 18446744073709551615) × (next_call image.now last.key ≡ Ok (Some key)) }
     ensures { result ≡ first_of (rows_after last.page last.slot (later last.key (listing image.now))) }
 {
     match lookup(image, key) {
-        Lookup::Found { offset, length } => {
-            let page = (offset - 16) / 1024;
+        Ok(Some(value)) => {
+            let page = (value.offset - 16) / 1024;
             Some(Row {
                 page,
                 slot: slot_after(page, last),
                 key,
-                length,
+                length: value.length,
             })
         }
-        Lookup::Missing => None,
-        Lookup::Refused(_) => None,
+        Ok(None) => None,
+        Err(_) => None,
     }
 }
 
@@ -55,9 +53,9 @@ fn row_after(image: &[u8], last: Row) -> Option<Row>
     ensures { result ≡ first_of (rows_after last.page last.slot (later last.key (listing image.now))) }
 {
     match next_key(image, last.key) {
-        Next::Key(key) => row_of(image, last, key),
-        Next::Last => None,
-        Next::Refused(_) => None,
+        Ok(Some(key)) => row_of(image, last, key),
+        Ok(None) => None,
+        Err(_) => None,
     }
 }
 

@@ -35,7 +35,7 @@ fn main(rt: HostRuntime) -> io::Result<()> {
     let mut out = rt.stdout();
     out.write_all(b"pageslot          key len\n")?;
     let mut image = [0u8; 8192];
-    image::calls::format(&mut image);
+    let _ = image::calls::format(&mut image);
     match form::take_lines(&buffer[..n], &mut image) {
         Ok(totals) => listing::print(&mut out, &image, totals.accepted, totals.refused),
         Err(BadLine(line)) => listing::print_line_number(&mut out, line),

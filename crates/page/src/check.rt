@@ -123,14 +123,16 @@ fn head_ok(page: &[u8], kind: u8, own: usize) -> bool
 }
 
 // Whether a value of n bytes may stand in a page of this kind: "values 0 to 200 bytes", in an index "a 2-byte page number".
+// The difference wraps, so that one test is for both ends: with a test for each kind, check took a tenth longer.
 fn length_ok(kind: u8, n: u64) -> bool
     ensures { result ≡ pick (kind == leaf_kind) (nat_le n value_most) (n == 2) }
 {
-    if kind == LEAF {
-        n <= VALUE_MOST
+    let (fewest, most) = if kind == LEAF {
+        (0, VALUE_MOST)
     } else {
-        n == 2
-    }
+        (2, 2)
+    };
+    n.wrapping_sub(fewest) <= most - fewest
 }
 
 // Whether a record stands at `at`, not below start, laid out as it must be and as long as its kind has it.
@@ -164,7 +166,8 @@ fn record_ok(page: &[u8], kind: u8, start: usize, at: usize) -> bool
     blank(page, at + 16 + length, end)
 }
 
-// Whether a page is sound as the page of this kind and number.
+// Whether a page is sound as the page of this kind and number. The kind is a number, no enum of leaf and index: `page_ok` is defined for
+// every kind, and a page of height h has kind h + 1.
 pub fn page_ok(page: &[u8], kind: u8, own: usize) -> bool
     ensures { result ≡ page_ok kind own page.now }
 {

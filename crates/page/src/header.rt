@@ -5,7 +5,7 @@ ghost use Rattle.page.specs.Layout.{page_size, line_size, slot_count, slots_in, 
 ghost use Rattle.page.specs.Operations.{insert_head, update_head, delete_head};
 
 // The header: how many records, the content start, the kind and the page's own number, with the offsets of its records.
-// "the rest of the line is 28 slots of two bytes"
+// "the rest of the line is 28 slots of two bytes". The kind is the byte that stands there: `read` takes a header line of any bytes.
 #[derive(Clone, Copy)]
 pub struct Header {
     pub count: usize,

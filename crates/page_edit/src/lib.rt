@@ -109,7 +109,7 @@ pub(crate) fn old_slot(ins: bool, i: usize, k: usize) -> usize
 }
 
 // Fills a new page, whatever it held, with the records `from` to `to` of another page as they are once the edit is made: a record put in
-// as the i-th, or in place of it.
+// as the i-th, or in place of it. The kind is a number, as `fill` has it.
 pub fn fill_made(
     page: &mut [u8],
     kind: u8,

@@ -21,7 +21,7 @@ struct Row {
 // The slot of a record on `page`, which comes after the row `last`.
 #[tactic(auto, unfolding(crate::specs::Rows::next_slot))]
 fn slot_after(page: usize, last: Row) -> usize
-    requires { last.slot < 18446744073709551615 }
+    requires { last.slot < usize.MAX }
     ensures { result ≡ next_slot page last.page last.slot }
 {
     if page == last.page { last.slot + 1 } else { 0 }
@@ -29,7 +29,7 @@ fn slot_after(page: usize, last: Row) -> usize
 
 // The row of the key that comes next after the row `last`.
 fn row_of(image: &[u8], last: Row, key: u64) -> Option<Row>
-    requires { (sound image.now ≡ true) × (last.slot < 18446744073709551615) × (next_call image.now last.key ≡ Ok (Some key)) }
+    requires { (sound image.now ≡ true) × (last.slot < usize.MAX) × (next_call image.now last.key ≡ Ok (Some key)) }
     ensures { result ≡ first_of (rows_after last.page last.slot (later last.key (listing image.now))) }
 {
     match lookup(image, key) {
@@ -49,7 +49,7 @@ fn row_of(image: &[u8], last: Row, key: u64) -> Option<Row>
 
 // The row after the row `last`. Before the first one, `last` has page 0 and key 0, which no record has.
 fn row_after(image: &[u8], last: Row) -> Option<Row>
-    requires { (sound image.now ≡ true) × (last.slot < 18446744073709551615) }
+    requires { (sound image.now ≡ true) × (last.slot < usize.MAX) }
     ensures { result ≡ first_of (rows_after last.page last.slot (later last.key (listing image.now))) }
 {
     match next_key(image, last.key) {
@@ -68,7 +68,7 @@ fn print_row(out: &mut Stdout, image: &[u8], i: u64, row: Row) -> io::Result<()>
     out.write_all(&line)
 }
 
-// Prints the rows, and answers how many there are, unless a write fails.
+// Prints the rows, and answers how many there are, unless a write fails. The walk goes by keys: the count is the answer, and no index.
 fn print_rows(out: &mut Stdout, image: &[u8]) -> io::Result<u64>
     requires { sound image.now ≡ true }
     ensures { IfOk result (λ rows. rows ≡ length (rows_of image.now)) }

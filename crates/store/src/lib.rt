@@ -233,6 +233,7 @@ fn put_recovered(answer: &mut [u64], recovered: Result<Redone, Refusal>) -> u8
     }
 }
 
+// Of the calls that differ by the device, the C interface has two functions each.
 #[unsafe(no_mangle)]
 pub extern "C" fn quote_transaction(
     image: &[u8],

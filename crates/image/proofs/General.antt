@@ -36,12 +36,6 @@ zeros-at zero i = refl
 zeros-at (suc n) zero = refl
 zeros-at (suc n) (suc i) = zeros-at n i
 
--- an element that is there, whatever the default
-pub get_or-inside : {A : Type 0} (l : List A) (i : ℕ) (a b : A) → i < length l → get_or l i a ≡ get_or l i b
-get_or-inside [] i a b h = absurd (not-suc-le-zero h)
-get_or-inside (x ∷ l) zero a b h = refl
-get_or-inside (x ∷ l) (suc i) a b h = get_or-inside l i a b (omega arith)
-
 pub map-append : {A B : Type 0} (f : A → B) (a b : List A) → map f (a ++ b) ≡ map f a ++ map f b
 map-append f [] b = refl
 map-append {B = B} f (x ∷ a) b = ap (λ (l : List B). f x ∷ l) (map-append f a b)

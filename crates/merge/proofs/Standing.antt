@@ -32,7 +32,8 @@ use Rattle.image.proofs.Soundness.{sound-facts, sound-tree}
 use Rattle.image.proofs.Values.{page-fits}
 use Rattle.image.proofs.Order.{leaf_records-append, table-rising, table-ok}
 use Rattle.image.proofs.Belonging.{tree-good}
-use Rattle.image.proofs.CodePages.{drop-next, record-here}
+use Rattle.page.proofs.AtSlots.{record-here}
+use Rattle.image.proofs.CodePages.{drop-next}
 use Rattle.image.proofs.CodeTree.{index-laid, index-records, index-two, index-leaf}
 use Rattle.merge.specs.Cursors.{left_at, Stands}
 use Rattle.merge.specs.declared.Cursor.{Cursor}

@@ -18,7 +18,8 @@ use Rattle.image.specs.Image.{child_of, children, first_key, pages_in, IsEntry, 
 use Rattle.image.specs.Facts.{Spans, Under}
 use Rattle.image.specs.Route.{route}
 use Rattle.image.proofs.Routing.{routed}
-use Rattle.image.proofs.CodePages.{All-at, child-two}
+use Rattle.page.proofs.Listed.{All-at}
+use Rattle.image.proofs.CodePages.{child-two}
 use Rattle.image.proofs.OneHeight.{height-one, pages-one}
 use Rattle.tree.specs.State.{State}
 use Rattle.tree.specs.Edits.{low_of}

@@ -51,9 +51,6 @@ module _ {n : ℕ} {st : State} {q : ℕ} {new : Put} {v : List ℕ} (can : CanT
 
   -- as x, and the number of its records with the new one
   module _ (x : List ℕ) (page : x ≡ page_of st.image q) where
-    pub old-laid : laid_out x ≡ true
-    old-laid = rw page can.put.ok
-
     pub made-count : (m : ℕ) → m ≡ pick new.ins (suc (length (records x))) (length (records x)) → m ≡ length (made_by new v (page_of st.image q))
     made-count m listed =
         listed

@@ -13,8 +13,8 @@ use Rattle.tree_edit.proofs.split.fits_one.Goals as goal
 
 pub returns-then-made_count-gt28 : goal.returns-then-made_count-gt28
 returns-then-made_count-gt28 c =
-    rw (lt-leb (length (made_by c.args.new c.args.value.now c.args.page.now)) slot_count (omega (arith, made-listed c.requires, c.made_count.ensures)))
+    rw (lt-leb (length (made_by c.args.new c.args.value.now c.args.page.bytes.now)) slot_count (omega (arith, made-listed c.requires, c.made_count.ensures)))
 
 pub returns : goal.returns
 returns c =
-    rw (le-leb (length (made_by c.args.new c.args.value.now c.args.page.now)) slot_count (omega (arith, made-listed c.requires, c.made_count.ensures))) (ap (λ (n : ℕ). leb n 960) c.total_made.ensures)
+    rw (le-leb (length (made_by c.args.new c.args.value.now c.args.page.bytes.now)) slot_count (omega (arith, made-listed c.requires, c.made_count.ensures))) (ap (λ (n : ℕ). leb n 960) c.total_made.ensures)

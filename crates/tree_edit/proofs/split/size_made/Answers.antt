@@ -10,7 +10,7 @@ returns-then-k-new c =
 
 pub size_at-requires : goal.size_at-requires
 size_at-requires c =
-    (c.requires.0.ok, old-less c.requires.0 _ c.requires.1 c.if-k-new.false _ (slot-before c.args.new.ins _ _ c.if-k-new-2.true))
+    old-less c.requires.0 _ c.requires.1 c.if-k-new.false _ (slot-before c.args.new.ins _ _ c.if-k-new-2.true)
 
 pub returns-then-k-new-2 : goal.returns-then-k-new-2
 returns-then-k-new-2 c =
@@ -18,7 +18,7 @@ returns-then-k-new-2 c =
 
 pub size_at-requires-then-new : goal.size_at-requires-then-new
 size_at-requires-then-new c =
-    (c.requires.0.ok, old-less c.requires.0 _ c.requires.1 c.if-k-new.false _ (slot-after _ _ _ c.if-k-new-2.false c.if-new.true))
+    old-less c.requires.0 _ c.requires.1 c.if-k-new.false _ (slot-after _ _ _ c.if-k-new-2.false c.if-new.true)
 
 pub returns-then-new : goal.returns-then-new
 returns-then-new c =
@@ -26,7 +26,7 @@ returns-then-new c =
 
 pub size_at-requires-2 : goal.size_at-requires-2
 size_at-requires-2 c =
-    (c.requires.0.ok, old-less c.requires.0 _ c.requires.1 c.if-k-new.false _ (slot_same _ _ _ c.if-new.false))
+    old-less c.requires.0 _ c.requires.1 c.if-k-new.false _ (slot_same _ _ _ c.if-new.false)
 
 pub returns : goal.returns
 returns c =

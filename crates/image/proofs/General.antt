@@ -1,10 +1,9 @@
 -- Lists in general: what codec's laws lack.
 -- Assumes nothing.
-use Prim.Native.Nat.{ℕ, zero, suc, ◌+◌, ◌≤◌, ◌<◌}
+use Prim.Native.Nat.{ℕ, zero, suc, ◌+◌, ◌≤◌}
 use mathlib.Core.Path.{◌≡◌, refl, sym, ap, ◌∙◌}
 use mathlib.Core.List.{List, [], ◌∷◌, ◌++◌, map}
 use native.Mathlib.Omega.{arith}
-use native.Mathlib.Nat.{not-suc-le-zero}
 use lib.ListN.{length, get_or, take, drop, replicate}
 use lib.Seq.{take-take, take-nil, drop-drop, take_at, drop-append-add}
 use Rattle.codec.specs.Lists.{part, All}

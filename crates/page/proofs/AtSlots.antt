@@ -1,6 +1,6 @@
 -- The i-th record of a page that is laid out, read where its slot says.
 -- Assumes nothing.
-use Rattle.std.proofs.Common.{◌≡◌, ℕ, ◌+◌, ◌*◌, ◌<◌, ◌≤◌, true, List, [], map, length, get_or, drop, sym, ap, ◌∙◌, arith}
+use Rattle.std.proofs.Common.{◌≡◌, ℕ, ◌+◌, ◌*◌, ◌<◌, ◌≤◌, true, List, [], map, length, get_or, sym, ap, ◌∙◌, arith}
 use lib.ListN.{get_or-map}
 use Rattle.codec.specs.Lists.{part}
 use Rattle.codec.specs.Numbers.{number}

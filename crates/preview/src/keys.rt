@@ -58,7 +58,13 @@ fn in_leaf(image: &[u8], root: usize, judged: &mut [u8], key: u64) -> Result<boo
 }
 
 // Whether a key is there after the edits that are noted: as the last of them that has it leaves it, else as the image has it.
-fn is_there(image: &[u8], root: usize, judged: &mut [u8], noted: &[Noted], key: u64) -> Result<bool, Refusal>
+fn is_there(
+    image: &[u8],
+    root: usize,
+    judged: &mut [u8],
+    noted: &[Noted],
+    key: u64,
+) -> Result<bool, Refusal>
     requires { (index_call image.now ≡ Ok root) × Marks image.now root judged.old }
     ensures value { result ≡ there_by (kind_noted noted.now key) (presence key (records_for image.now root key)) }
     ensures marks { Marks image.now root judged.new }

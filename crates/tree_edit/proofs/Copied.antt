@@ -2,14 +2,13 @@
 -- Assumes nothing.
 use Prim.Native.Nat.{ℕ, suc, ◌+◌, ◌*◌, ◌≤◌, ◌<◌}
 use mathlib.Core.Path.{◌≡◌, sym, ap, ◌∙◌}
-use mathlib.Core.Bool.{true}
 use mathlib.Core.List.{List, [], ◌∷◌}
 use native.Mathlib.Omega.{arith}
 use lib.ListN.{length}
 use lib.Dec.{eqb}
 use Rattle.codec.specs.Lists.{pick, All}
 use Rattle.page.specs.Layout.{page_size, Rec}
-use Rattle.page.specs.Page.{records, laid_out, RecOk}
+use Rattle.page.specs.Page.{records, RecOk}
 use Rattle.page.specs.Operations.{between, fill, page_of, put_page}
 use Rattle.page.specs.PageFormat.{format1}
 use Rattle.page.proofs.Made.{All-made, length-made, between-all}

@@ -9,7 +9,7 @@ use native.Mathlib.Nat.{zero-add}
 use lib.ListN.{length, get_or, drop, drop_of_length-le}
 use borrow.Author.Tests.{lt-ltb, le-ltb, le-leb, lt-leb}
 use Rattle.codec.specs.Lists.{pick}
-use Rattle.page.specs.Layout.{page_size, line_size, slot_count, value_most, Rec, rec_of, up8, size}
+use Rattle.page.specs.Layout.{page_size, line_size, slot_count, Rec, rec_of, up8, size}
 use Rattle.page.specs.Page.{records}
 use Rattle.page.specs.Operations.{sizes}
 use Rattle.page.proofs.Facts.{ok-is}

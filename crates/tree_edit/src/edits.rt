@@ -121,7 +121,12 @@ pub(crate) fn update_edit(
 }
 
 // Drops a key that is there.
-pub(crate) fn delete_edit(work: &mut [u8], before: &[u8; 64], t: Tree, key: u64) -> Result<Tree, Cause>
+pub(crate) fn delete_edit(
+    work: &mut [u8],
+    before: &[u8; 64],
+    t: Tree,
+    key: u64,
+) -> Result<Tree, Cause>
     requires { Good (page_count work.old) (state_of before.now work.old t) × (t.top ≤ 64) }
     ensures { Says before.now work.new result (edited (delete key) (state_of before.now work.old t)) }
 {

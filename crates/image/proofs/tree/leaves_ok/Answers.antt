@@ -1,14 +1,13 @@
 -- `leaves_ok` tests what `leaves_ok` says: what is left to test of the leaves from the i-th on is the whole test.
 -- Assumes nothing.
 use Prim.Native.Nat.{ℕ}
-use mathlib.Core.Path.{◌≡◌, refl, sym, ap, ◌∙◌}
-use mathlib.Core.Bool.{true}
+use mathlib.Core.Path.{refl, sym, ap, ◌∙◌}
 use mathlib.Core.List.{List, []}
 use native.Mathlib.Omega.{arith}
 use lib.ListN.{length, get_or}
 use lib.Dec.{eqb}
 use Rattle.page.specs.Layout.{Rec, rec_of}
-use Rattle.page.specs.Page.{records, laid_out}
+use Rattle.page.specs.Page.{records}
 use Rattle.image.specs.Image.{child_of, leaves_ok}
 use Rattle.image.specs.Facts.{Index}
 use Rattle.image.proofs.Values.{page-fits}

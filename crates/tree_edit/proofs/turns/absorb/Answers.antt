@@ -2,12 +2,12 @@
 -- Assumes nothing.
 use Rattle.std.proofs.lemmas.Result.{err_from_is_err_and}
 use Prim.Native.Nat.{ℕ}
-use mathlib.Core.Path.{◌≡◌, refl, sym, ap, ◌∙◌}
+use mathlib.Core.Path.{◌≡◌, refl}
 use mathlib.Core.List.{List}
 use native.Mathlib.Omega.{arith}
 use Rattle.page.specs.PageFormat.{format1}
 use Rattle.page.proofs.Listed.{few-listed}
-use Rattle.tree.specs.Edits.{no_keep, PageStep, put, then_into, absorbed, onto}
+use Rattle.tree.specs.Edits.{no_keep, then_into, absorbed, onto}
 use Rattle.tree_edit.specs.Steps.{turn_of}
 use Rattle.tree_edit.specs.declared.Turned.{Turned}
 use Rattle.tree_edit.specs.declared.Turned.TheVariants.{Kept, Gone, One, Two}

@@ -1,7 +1,6 @@
 -- `root_step`: the tree with its root, with a new one, or a refusal, as `rooted` says.
 -- Assumes nothing.
 use mathlib.Core.Path.{sym, ap}
-use native.Mathlib.Omega.{arith}
 use Rattle.page.specs.PageFormat.{format1}
 use Rattle.tree.specs.Edits.{rooted}
 use Rattle.tree_edit.specs.Steps.{turn_of}

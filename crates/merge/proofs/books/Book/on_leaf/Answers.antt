@@ -6,7 +6,7 @@ use mathlib.Core.List.{List, []}
 use native.Mathlib.Omega.{arith}
 use lib.ListN.{length, get_or}
 use Rattle.page.specs.Layout.{rec_of}
-use Rattle.page.specs.Page.{records, laid_out}
+use Rattle.page.specs.Page.{records}
 use Rattle.page.specs.Operations.{page_of}
 use Rattle.merge.proofs.Standing.{leaf-asked, leaf-fits, leaf-laid, empty-last, left-none, left-leaf, stands-end, stands_at}
 use Rattle.merge.proofs.books.Book.on_leaf.Goals as goal

@@ -17,6 +17,7 @@ use Rattle.page.specs.Layout.{top_key, Rec, rec_of}
 use Rattle.page.specs.Page.{Entry, records}
 use Rattle.page.specs.PageFormat.{format1}
 use Rattle.page.specs.Operations.{page_of}
+use Rattle.page.proofs.Listed.{get_or-inside}
 use Rattle.image.specs.PageZero.{page_count, is_page, root_of}
 use Rattle.image.specs.Image.{child_of, children, among, distinct, joined, gathered, height_of, first_key, start_of, next_sep, places, top_place, leaf_at, sound}
 use Rattle.image.specs.Facts.{Rising, Index, Leaves, Spans, Under}
@@ -25,7 +26,7 @@ use Rattle.image.specs.Route.{last_from, route}
 use Rattle.image.specs.Descent.{down, descend, leaf_for, leaf_sound}
 use Rattle.image.specs.Says.{Belongs, GoodLeaf}
 use Rattle.image.specs.declared.Place.{Place}
-use Rattle.image.proofs.General.{get_or-inside, map_same, All-any, All-unmap, All-middle}
+use Rattle.image.proofs.General.{map_same, All-any, All-unmap, All-middle}
 use Rattle.image.proofs.Apart.{distinct-true}
 use Rattle.image.proofs.Rising.{From, rising_le, rising-from, rising-split}
 use Rattle.image.proofs.Ranges.{spans-cut, joined-append, joined-map, joined_same}

@@ -16,6 +16,7 @@ use Rattle.page.specs.Page.{records, laid_out, page_ok}
 use Rattle.page.specs.Operations.{page_of}
 use Rattle.page.proofs.Facts.{page_ok-true}
 use Rattle.page.proofs.CheckBytes.{same_test}
+use Rattle.page.proofs.Listed.{All-at}
 use Rattle.image.specs.PageZero.{page_count, is_page}
 use Rattle.image.specs.Image.{child_of, children, index_ok, first_key, places, bound_ok, leaf_ok, leaf_at, leaves_ok, tree_ok}
 use Rattle.image.specs.Facts.{Rising, Index}
@@ -23,7 +24,7 @@ use Rattle.image.proofs.Zero.{Size}
 use Rattle.image.proofs.Rising.{From, Below, rising-from}
 use Rattle.image.proofs.Soundness.{index-facts, facts-index, index-rising, page-rising, leaves-facts, facts-leaves, tree-facts, facts-tree}
 use Rattle.image.proofs.CodeMarks.{claims, claims-none, claims-on, claims-past, claims-twice, claims-apart, apart-claims}
-use Rattle.image.proofs.CodePages.{All-at, drop-next, child-two}
+use Rattle.image.proofs.CodePages.{drop-next, child-two}
 
 -- ---- the index
 

@@ -1,10 +1,9 @@
 -- Lists in general: what codec's laws lack.
 -- Assumes nothing.
-use Prim.Native.Nat.{ℕ, zero, suc, ◌+◌, ◌≤◌, ◌<◌}
+use Prim.Native.Nat.{ℕ, zero, suc, ◌+◌, ◌≤◌}
 use mathlib.Core.Path.{◌≡◌, refl, sym, ap, ◌∙◌}
 use mathlib.Core.List.{List, [], ◌∷◌, ◌++◌, map}
 use native.Mathlib.Omega.{arith}
-use native.Mathlib.Nat.{not-suc-le-zero}
 use lib.ListN.{length, get_or, take, drop, replicate}
 use lib.Seq.{take-take, take-nil, drop-drop, take_at, drop-append-add}
 use Rattle.codec.specs.Lists.{part, All}
@@ -35,12 +34,6 @@ pub zeros-at : (n i : ℕ) → ◌≡◌ {A = ℕ} (get_or (replicate n 0) i 0) 
 zeros-at zero i = refl
 zeros-at (suc n) zero = refl
 zeros-at (suc n) (suc i) = zeros-at n i
-
--- an element that is there, whatever the default
-pub get_or-inside : {A : Type 0} (l : List A) (i : ℕ) (a b : A) → i < length l → get_or l i a ≡ get_or l i b
-get_or-inside [] i a b h = absurd (not-suc-le-zero h)
-get_or-inside (x ∷ l) zero a b h = refl
-get_or-inside (x ∷ l) (suc i) a b h = get_or-inside l i a b (omega arith)
 
 pub map-append : {A B : Type 0} (f : A → B) (a b : List A) → map f (a ++ b) ≡ map f a ++ map f b
 map-append f [] b = refl

@@ -22,7 +22,7 @@ use Rattle.page.specs.Search.{searched}
 use Rattle.page.proofs.Facts.{recs-entries, length-entries, length-records}
 use Rattle.image.specs.Facts.{Rising}
 use Rattle.image.specs.Table.{in_image, find, found_in, above}
-use Rattle.image.proofs.General.{get_or-inside, map_same, All-unmap}
+use Rattle.image.proofs.General.{map_same, All-unmap}
 use Rattle.image.proofs.Rising.{rising-from}
 use Rattle.image.proofs.Soundness.{page-rising}
 use Rattle.image.proofs.Order.{recs-in_image}
@@ -88,11 +88,6 @@ module _ (k lo : ℕ) (l : List Rec) (hi : ℕ) (z : Rec) (h : Rising lo l hi) (
 
   pub search-none : searched k 0 l ≡ Err j → find k l ≡ None
   search-none e = find-seek k l ∙ search-nothing same (λ (r : Rec). Some r.value) None k lo l hi z rising j (ap (searched k 0) (map_same l) ∙ e)
-
--- the record that the j-th slot names
-pub record-slot : (p : List ℕ) (j : ℕ) (z : Rec) → j < length (records p) → get_or (records p) j z ≡ record_at p (get_or (read_head p).slots j 0)
-unfolding records
-record-slot p j z h = get_or-inside (map (record_at p) (read_head p).slots) j z (record_at p 0) h ∙ get_or-map (record_at p) (read_head p).slots j 0
 
 module _ (kind own q : ℕ) (p : List ℕ) (ok : page_ok kind own p ≡ true) (k : ℕ) where
   abbrev es : List Entry

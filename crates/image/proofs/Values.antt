@@ -8,12 +8,13 @@ use native.Mathlib.Omega.{arith}
 use lib.ListN.{length}
 use Rattle.codec.specs.Lists.{part, All}
 use Rattle.codec.specs.Numbers.{number}
-use Rattle.page.specs.Layout.{page_size, leaf_kind, Rec, size, read_head}
+use Rattle.page.specs.Layout.{page_size, leaf_kind, Rec, read_head}
 use Rattle.page.specs.Page.{Entry, entries, page_ok, Held}
 use Rattle.page.specs.PageFormat.{format1}
 use Rattle.page.specs.Operations.{page_of}
-use Rattle.page.proofs.Records.{up8-least, record-at, length_at, record_is}
+use Rattle.page.proofs.Records.{record-at, length_at, record_is}
 use Rattle.page.proofs.Facts.{page_ok-true, ok-is}
+use Rattle.page.proofs.AtSlots.{held-room}
 use Rattle.image.specs.PageZero.{page_count, is_page, root_of}
 use Rattle.image.specs.Image.{height_of, sound}
 use Rattle.image.specs.Table.{in_image, page_entries, listing}
@@ -26,10 +27,6 @@ pub value-at : (p : List ℕ) (start : ℕ) (e : Entry) → Held p start e → p
 value-at p start e h =
     let len : length e.rec.value ≡ number (part p (e.at + 8) 2) = sym (length_at p e.at e.rec h.ok h.bytes) in
     ap (λ (r : Rec). r.value) (sym (record_is p e.at (length e.rec.value) len) ∙ record-at p e.at e.rec h.ok h.bytes)
-
-pub held-room : {p : List ℕ} {start : ℕ} (e : Entry) → Held p start e → e.at + 16 + length e.rec.value ≤ page_size
-unfolding size
-held-room e h = omega (arith, h.high, up8-least (length e.rec.value))
 
 -- the value of the listed record e, in the image
 pub record Listed (img : List ℕ) (e : Entry) : Type 0 where

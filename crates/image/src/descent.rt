@@ -1,7 +1,7 @@
 // One descent from the root to a leaf, and what the leaf answers. The index is sound; the leaf is judged as it is read.
 ghost use Rattle.std.specs.Prelude.{◌≡◌, true, Ok, map, ◌+◌, ◌*◌, ◌≤◌, ◌<◌, length, get_or};
 ghost use Rattle.page.specs.Layout.{page_size, leaf_kind, index_kind, top_key};
-ghost use Rattle.page.specs.Page.{records, entries, laid_out, page_ok, keys_rise};
+ghost use Rattle.page.specs.Page.{records, entries, page_ok, keys_rise};
 ghost use Rattle.image.specs.PageZero.{root_of};
 ghost use Rattle.image.specs.Image.{places};
 ghost use Rattle.image.specs.Table.{in_image, found_in, above};
@@ -12,7 +12,7 @@ ghost use Rattle.image.specs.Calls.{index_call, leaf_lookup, leaf_next, next_fro
 use crate::tree::{leaf_ok, sep_after};
 use crate::{Part, Place, pages};
 use device::{Cause, Refusal};
-use page::find;
+use page::laid::Page;
 
 // The root page's number.
 pub fn root_of(image: &[u8]) -> usize
@@ -23,11 +23,11 @@ pub fn root_of(image: &[u8]) -> usize
 }
 
 // The slot of the index record that a key belongs to: of the last separator that is not above it, else of the first.
-pub fn route(page: &[u8], key: u64) -> usize
-    requires { (laid_out page.now ≡ true) × (keys_rise (records page.now) ≡ true) }
-    ensures { result ≡ route key (records page.now) }
+pub fn route(page: Page, key: u64) -> usize
+    requires { keys_rise (records page.bytes.now) ≡ true }
+    ensures { result ≡ route key (records page.entry.bytes.now) }
 {
-    match find(page, key) {
+    match page.find(key) {
         Ok(i) => i,
         Err(i) => {
             if i == 0 {
@@ -44,6 +44,7 @@ pub fn down(page: &[u8], at: Place, key: u64) -> Place
     requires { (page_ok index_kind at.page page.now ≡ true) × (1 ≤ length (records page.now)) }
     ensures { result ≡ get_or (places at.from (records page.now) at.below) (route key (records page.now)) at }
 {
+    let page = Page { bytes: page };
     let i = route(page, key);
     let below = sep_after(page, i, at.below);
     let child = pages::child_at(page, i);
@@ -56,7 +57,7 @@ pub fn down(page: &[u8], at: Place, key: u64) -> Place
     }
     Place {
         page: child,
-        from: pages::key_at(page, i),
+        from: page.key_at(i),
         below,
     }
 }
@@ -79,7 +80,7 @@ pub fn leaf_sound(image: &[u8], root: usize, leaf: Place) -> bool
     requires { (index_call image.now ≡ Ok root) × (page_size * leaf.page + page_size ≤ length image.now) }
     ensures { result ≡ leaf_sound image.now root leaf }
 {
-    let only = pages::count(pages::page_of(image, root)) == 1;
+    let only = pages::laid_page(image, root).count() == 1;
     leaf_ok(image, only, leaf.from, leaf.below, leaf.page)
 }
 
@@ -88,9 +89,10 @@ pub fn find_in(page: &[u8], own: usize, key: u64) -> Option<Part>
     requires { page_ok leaf_kind own page.now ≡ true }
     ensures { Ok result ≡ found_in key (map (in_image own) (entries page.now)) }
 {
-    match find(page, key) {
+    let laid = Page { bytes: page };
+    match laid.find(key) {
         Ok(i) => {
-            let at = pages::slot_at(page, i);
+            let at = laid.slot_at(i);
             Some(Part {
                 offset: pages::PAGE_SIZE * own + at + 16,
                 length: codec::number_at(page, at + 8),
@@ -113,15 +115,15 @@ pub fn find_key(image: &[u8], root: usize, key: u64) -> Result<Option<Part>, Ref
 }
 
 // The smallest key of a page above a key that is not the largest: the first that is not below the number after it.
-pub fn next_in(page: &[u8], key: u64) -> Option<u64>
-    requires { (laid_out page.now ≡ true) × (key < top_key) }
-    ensures { Ok result ≡ above key (records page.now) }
+pub fn next_in(page: Page, key: u64) -> Option<u64>
+    requires { key < top_key }
+    ensures { Ok result ≡ above key (records page.entry.bytes.now) }
 {
-    match find(page, key + 1) {
-        Ok(i) => Some(pages::key_at(page, i)),
+    match page.find(key + 1) {
+        Ok(i) => Some(page.key_at(i)),
         Err(i) => {
-            if i < pages::count(page) {
-                return Some(pages::key_at(page, i));
+            if i < page.count() {
+                return Some(page.key_at(i));
             }
             None
         }
@@ -139,7 +141,7 @@ pub fn next_at(image: &[u8], root: usize, key: u64, leaf: Place) -> Result<Optio
     if pages::TOP_KEY <= key {
         return Ok(None);
     }
-    Ok(next_in(pages::page_of(image, leaf.page), key))
+    Ok(next_in(pages::laid_page(image, leaf.page), key))
 }
 
 // The smallest key above a number: in the leaf that it belongs to, and only if that has none, in the leaf after it.

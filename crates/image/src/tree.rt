@@ -2,13 +2,14 @@
 ghost use Rattle.std.specs.Prelude.{◌≡◌, true, ◌+◌, ◌*◌, ◌≤◌, ◌<◌, length, drop, eqb};
 ghost use Rattle.device.specs.Calls.{is_image_size};
 ghost use Rattle.page.specs.Layout.{page_size};
-ghost use Rattle.page.specs.Page.{records, laid_out};
+ghost use Rattle.page.specs.Page.{records};
 ghost use Rattle.page.specs.Operations.{page_of};
 ghost use Rattle.image.specs.PageZero.{page_count, is_page};
 ghost use Rattle.image.specs.Image.{children, index_ok, first_key, leaf_ok, leaves_ok, tree_ok};
 
 use crate::pages;
 use page::check::page_ok;
+use page::laid::Page;
 
 // Whether the root is an index whose pages are distinct, in 1 to N-1, none the root: page 0 and the root are marked, and then
 // each page as it is named.
@@ -16,12 +17,13 @@ pub fn index_ok(image: &[u8], root: usize) -> bool
     requires { (is_image_size (length image.now) ≡ true) × (is_page (page_count image.now) root ≡ true) }
     ensures { result ≡ index_ok image.now root }
 {
-    let page = pages::page_of(image, root);
-    if !page_ok(page, pages::INDEX, root) {
+    let bytes = pages::page_of(image, root);
+    if !page_ok(bytes, pages::INDEX, root) {
         return false;
     }
+    let page = Page { bytes };
     let n = image.len() / pages::PAGE_SIZE;
-    let leaves = pages::count(page);
+    let leaves = page.count();
     if leaves == 0 {
         return false;
     }
@@ -46,27 +48,28 @@ pub fn leaf_ok(image: &[u8], only: bool, lo: u64, hi: u64, own: usize) -> bool
     requires { page_size * own + page_size ≤ length image.now }
     ensures { result ≡ leaf_ok only lo hi own (page_of image.now own) }
 {
-    let page = pages::page_of(image, own);
-    if !page_ok(page, pages::LEAF, own) {
+    let bytes = pages::page_of(image, own);
+    if !page_ok(bytes, pages::LEAF, own) {
         return false;
     }
-    let n = pages::count(page);
+    let page = Page { bytes };
+    let n = page.count();
     if n == 0 {
         return only;
     }
-    if pages::key_at(page, 0) < lo {
+    if page.key_at(0) < lo {
         return false;
     }
-    pages::key_at(page, n - 1) < hi
+    page.key_at(n - 1) < hi
 }
 
 // Where the keys of the page in slot i end: at the next separator, or with the range of them all.
-pub fn sep_after(page: &[u8], i: usize, end: u64) -> u64
-    requires { (laid_out page.now ≡ true) × (i < length (records page.now)) }
-    ensures { result ≡ first_key (drop (i + 1) (records page.now)) end }
+pub fn sep_after(page: Page, i: usize, end: u64) -> u64
+    requires { i < length (records page.bytes.now) }
+    ensures { result ≡ first_key (drop (i + 1) (records page.entry.bytes.now)) end }
 {
-    if i + 1 < pages::count(page) {
-        return pages::key_at(page, i + 1);
+    if i + 1 < page.count() {
+        return page.key_at(i + 1);
     }
     end
 }
@@ -76,8 +79,8 @@ pub fn leaves_ok(image: &[u8], root: usize) -> bool
     requires { (is_image_size (length image.now) ≡ true) × (is_page (page_count image.now) root ≡ true) × (index_ok image.now root ≡ true) }
     ensures { result ≡ leaves_ok image.now (eqb (length (children image.now root)) 1) 0 (children image.now root) }
 {
-    let page = pages::page_of(image, root);
-    let leaves = pages::count(page);
+    let page = pages::laid_page(image, root);
+    let leaves = page.count();
     let only = leaves == 1;
     let mut lo = 0;
     for i in 0..leaves {

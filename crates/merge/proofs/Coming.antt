@@ -13,7 +13,7 @@ use Rattle.page.specs.Layout.{top_key, Rec, rec_of}
 use Rattle.page.specs.Page.{RecOk}
 use Rattle.image.specs.Image.{first_key}
 use Rattle.image.specs.Facts.{Rising}
-use Rattle.image.proofs.CodePages.{All-at}
+use Rattle.page.proofs.Listed.{All-at}
 use Rattle.merge.specs.Tables.{merged, apart}
 use Rattle.merge.specs.Cursors.{left_at, Ready, left_of, apart_at, Passed}
 use Rattle.merge.specs.declared.Cursors.{Cursors}

@@ -32,7 +32,8 @@ use Rattle.image.proofs.Soundness.{sound-facts, sound-tree}
 use Rattle.image.proofs.Values.{page-fits}
 use Rattle.image.proofs.Order.{leaf_records-append, table-rising, table-ok}
 use Rattle.image.proofs.Belonging.{tree-good}
-use Rattle.image.proofs.CodePages.{drop-next, record-here}
+use Rattle.page.proofs.AtSlots.{record-here}
+use Rattle.image.proofs.CodePages.{drop-next}
 use Rattle.image.proofs.CodeTree.{index-laid, index-records, index-two, index-leaf}
 use Rattle.merge.specs.Cursors.{left_at, Stands}
 use Rattle.merge.specs.declared.Cursor.{Cursor}
@@ -73,8 +74,8 @@ module _ (img : List ℕ) (h : sound img ≡ true) where
     few-leaves = omega (arith, leaf-count, few-listed p index_ok)
 
     module _ (i : ℕ) (less : i < length (records p)) where
-      pub child-asked : (laid_out p ≡ true) × (i < length (records p)) × (length (get_or (records p) i (rec_of 0 [])).value ≡ 2)
-      child-asked = (index_ok, less, index-two img (root_of img) (sound-facts img h).index p e i (rec_of 0 []) less)
+      pub child-asked : (i < length (records p)) × (length (get_or (records p) i (rec_of 0 [])).value ≡ 2)
+      child-asked = (less, index-two img (root_of img) (sound-facts img h).index p e i (rec_of 0 []) less)
 
       pub child-leaf : (q : ℕ) → q ≡ child_of (get_or (records p) i (rec_of 0 [])) → IsLeaf img i q
       child-leaf q w = record { is_sound = h; less = omega (arith, less, leaf-count); page = w ∙ ap (λ (l : List Rec). child_of (get_or l i (rec_of 0 []))) leaves-are }

@@ -31,11 +31,11 @@ impl Book<'_> {
         requires { (leaf < length (children self.now.image.now (root_of self.now.image.now))) × (page ≡ child_of (get_or (children self.now.image.now (root_of self.now.image.now)) leaf (rec_of 0 []))) }
         ensures { Stands self.now.image.now result × (left_at self.now.image.now result ≡ leaf_records self.now.image.now (drop leaf (children self.now.image.now (root_of self.now.image.now)))) }
     {
-        let p = pages::page_of(self.image, page);
-        let key = if pages::count(p) == 0 {
+        let p = pages::laid_page(self.image, page);
+        let key = if p.count() == 0 {
             pages::KEYS_END
         } else {
-            pages::key_at(p, 0)
+            p.key_at(0)
         };
         Cursor {
             leaf,
@@ -49,7 +49,7 @@ impl Book<'_> {
     fn begin(&self) -> Cursor
         ensures { Stands self.now.image.now result × (left_at self.now.image.now result ≡ table self.now.image.now) }
     {
-        let index = pages::page_of(self.image, root_of(self.image));
+        let index = pages::laid_page(self.image, root_of(self.image));
         self.on_leaf(0, pages::child_at(index, 0))
     }
 
@@ -58,15 +58,15 @@ impl Book<'_> {
         requires { Stands self.now.image.now at × (at.key < suc top_key) }
         ensures { Stands self.now.image.now result × (left_at self.now.image.now result ≡ drop 1 (left_at self.now.image.now at)) }
     {
-        let p = pages::page_of(self.image, at.page);
+        let p = pages::laid_page(self.image, at.page);
         let slot = at.slot + 1;
-        if slot < pages::count(p) {
-            let key = pages::key_at(p, slot);
+        if slot < p.count() {
+            let key = p.key_at(slot);
             return Cursor { slot, key, ..at };
         }
-        let index = pages::page_of(self.image, root_of(self.image));
+        let index = pages::laid_page(self.image, root_of(self.image));
         let leaf = at.leaf + 1;
-        if leaf < pages::count(index) {
+        if leaf < index.count() {
             return self.on_leaf(leaf, pages::child_at(index, leaf));
         }
         Cursor {
@@ -81,7 +81,7 @@ impl Book<'_> {
         requires { Stands self.now.image.now at × (at.key < suc top_key) }
         ensures { result ≡ size (get_or (left_at self.now.image.now at) 0 (rec_of 0 [])) }
     {
-        pages::size_at(pages::page_of(self.image, at.page), at.slot)
+        pages::laid_page(self.image, at.page).size_at(at.slot)
     }
 
     // Copies the record that comes next to a page that is being filled.
@@ -89,8 +89,8 @@ impl Book<'_> {
         requires { (length page.old ≡ page_size) × Stands self.now.image.now at × (at.key < suc top_key) × Room h (take 1 (left_at self.now.image.now at)) }
         ensures { Filled h page.old (take 1 (left_at self.now.image.now at)) result page.new }
     {
-        let p = pages::page_of(self.image, at.page);
-        append_copy(page, h, p, pages::slot_at(p, at.slot))
+        let p = pages::laid_page(self.image, at.page);
+        append_copy(page, h, p.bytes, p.slot_at(at.slot))
     }
 }
 

@@ -1,14 +1,9 @@
 -- The search for a key, record by record.
 -- Assumes nothing.
 use Rattle.std.specs.Prelude.{Err, Ok}
-use Rattle.std.proofs.Common.{◌≡◌, ℕ, ◌+◌, ◌*◌, ◌<◌, ◌≤◌, List, ◌∷◌, length, drop, sym, ap, ◌∙◌, arith, drop_of_length-le, le-ltb, lt-ltb, eq-eqb, ne_eqb}
-use Rattle.codec.specs.Lists.{part}
-use Rattle.codec.specs.Numbers.{number}
-use Rattle.page.specs.Layout.{Rec, record_at}
-use Rattle.page.specs.Page.{records}
+use Rattle.std.proofs.Common.{◌≡◌, ℕ, ◌+◌, ◌<◌, ◌≤◌, List, [], ◌∷◌, length, get_or, drop, sym, ap, ◌∙◌, add-one, arith, drop-cons, drop_of_length-le, le-ltb, lt-ltb, eq-eqb, ne_eqb}
+use Rattle.page.specs.Layout.{Rec, rec_of}
 use Rattle.page.specs.Search.{searched}
-use Rattle.page.proofs.Records.{key-at}
-use Rattle.page.proofs.Listed.{records-next}
 
 -- ---- one record more
 
@@ -29,19 +24,16 @@ pub searched-end : (k i : ℕ) (rs : List Rec) → length rs ≤ i → searched 
 unfolding searched
 searched-end k i rs h = rw (drop_of_length-le rs {i = i} h)
 
--- the same of the i-th record of a page, where its slot and its key are read
-module _ (p : List ℕ) (k i : ℕ) (less : i < length (records p)) (o key : ℕ) (slot : o ≡ number (part p (8 + 2 * i) 2)) (found : key ≡ number (part p o 8)) where
-  here : drop i (records p) ≡ record_at p o ∷ drop (i + 1) (records p)
-  here = records-next p i less o slot
+-- the same of the i-th record, where its key is read
+module _ (k i : ℕ) (rs : List Rec) (less : i < length rs) (key : ℕ) (found : key ≡ (get_or rs i (rec_of 0 [])).key) where
+  here : drop i rs ≡ get_or rs i (rec_of 0 []) ∷ drop (i + 1) rs
+  here = rw add-one (drop-cons rs i (rec_of 0 []) less)
 
-  its : (record_at p o).key ≡ key
-  its = sym (found ∙ key-at p o)
+  pub find-on : key < k → searched k i (drop i rs) ≡ searched k (i + 1) (drop (i + 1) rs)
+  find-on h = ap (searched k i) here ∙ searched-on k i (get_or rs i (rec_of 0 [])) (drop (i + 1) rs) (omega (arith, found))
 
-  pub find-on : key < k → searched k i (drop i (records p)) ≡ searched k (i + 1) (drop (i + 1) (records p))
-  find-on h = ap (searched k i) here ∙ searched-on k i (record_at p o) (drop (i + 1) (records p)) (omega (arith, its))
+  pub find_at : key ≡ k → searched k i (drop i rs) ≡ Ok i
+  find_at h = ap (searched k i) here ∙ searched-at k i (get_or rs i (rec_of 0 [])) (drop (i + 1) rs) (sym found ∙ h)
 
-  pub find_at : key ≡ k → searched k i (drop i (records p)) ≡ Ok i
-  find_at h = ap (searched k i) here ∙ searched-at k i (record_at p o) (drop (i + 1) (records p)) (its ∙ h)
-
-  pub find_past : k ≤ key → (key ≡ k → ⊥) → searched k i (drop i (records p)) ≡ Err i
-  find_past h n = ap (searched k i) here ∙ searched-past k i (record_at p o) (drop (i + 1) (records p)) (omega (arith, its)) (λ e. n (sym its ∙ e))
+  pub find_past : k ≤ key → (key ≡ k → ⊥) → searched k i (drop i rs) ≡ Err i
+  find_past h n = ap (searched k i) here ∙ searched-past k i (get_or rs i (rec_of 0 [])) (drop (i + 1) rs) (omega (arith, found)) (λ e. n (found ∙ e))

@@ -3,6 +3,7 @@ pub mod Headers
 pub mod Slots
 pub mod Facts
 pub mod Listed
+pub mod AtSlots
 pub mod Keys
 pub mod Rising
 pub mod Writes

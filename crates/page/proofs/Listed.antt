@@ -13,10 +13,16 @@ use Rattle.page.proofs.Facts.{length-records, length-entries, ok-is}
 
 -- ---- general list laws that codec does not have
 
-all-at : {A : Type 0} (P : A → Type 0) (l : List A) (i : ℕ) (d : A) → All P l → i < length l → P (get_or l i d)
-all-at P [] i d a h = absurd (not-suc-le-zero h)
-all-at P (x ∷ l) zero d a h = a.0
-all-at P (x ∷ l) (suc i) d a h = all-at P l i d a.1 (omega arith)
+pub All-at : {A : Type 0} (P : A → Type 0) (l : List A) (i : ℕ) (d : A) → All P l → i < length l → P (get_or l i d)
+All-at P [] i d a h = absurd (not-suc-le-zero h)
+All-at P (x ∷ l) zero d a h = a.0
+All-at P (x ∷ l) (suc i) d a h = All-at P l i d a.1 (omega arith)
+
+-- an element that is there, whatever the default
+pub get_or-inside : {A : Type 0} (l : List A) (i : ℕ) (a b : A) → i < length l → get_or l i a ≡ get_or l i b
+get_or-inside [] i a b h = absurd (not-suc-le-zero h)
+get_or-inside (x ∷ l) zero a b h = refl
+get_or-inside (x ∷ l) (suc i) a b h = get_or-inside l i a b (omega arith)
 
 map_next : {A : Type 0} (f : ℕ → A) (l : List ℕ) (i : ℕ) → i < length l → drop i (map f l) ≡ f (get_or l i 0) ∷ drop (i + 1) (map f l)
 map_next f l i h =
@@ -75,7 +81,7 @@ module _ (p : List ℕ) (i : ℕ) (less : i < length (records p)) where
     pub slot_held : All (Held p (read_head p).start) (entries p) → Held p (read_head p).start (entry_at p o)
     unfolding entries
     slot_held held =
-        let a = all-at (Held p (read_head p).start) (entries p) i (entry_at p 0) held (omega (arith, in-slots, length-entries p)) in
+        let a = All-at (Held p (read_head p).start) (entries p) i (entry_at p 0) held (omega (arith, in-slots, length-entries p)) in
         rw (e, slot_at) (rw (get_or-map (entry_at p) (read_head p).slots i 0) at a)
 
     pub slot-end : laid_out p ≡ true → o + 16 ≤ length p

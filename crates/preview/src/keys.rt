@@ -1,7 +1,7 @@
 // The key rules of a list: "8 insert of a key present; 9 other edit of a missing key", each edit seeing those before it and the one leaf that its
 // key belongs to.
 ghost use Rattle.std.specs.Prelude.{◌≡◌, true, Ok, ◌≤◌, eqb};
-ghost use Rattle.page.specs.Page.{records, laid_out, keys_rise};
+ghost use Rattle.page.specs.Page.{records, keys_rise};
 ghost use Rattle.image.specs.Descent.{records_for};
 ghost use Rattle.image.specs.Calls.{index_call};
 ghost use Rattle.edit.specs.EditList.{listed, edits_of, edit_list};
@@ -10,8 +10,8 @@ ghost use Rattle.preview.specs.Noted.{kind_noted, presence, there_by, fault_by, 
 
 use device::{Cause, Refusal};
 use image::descent::{leaf_for, leaf_sound};
-use image::pages::page_of;
-use page::find;
+use image::pages::laid_page;
+use page::laid::Page;
 
 // An edit that is judged: its key and its kind.
 #[derive(Clone, Copy)]
@@ -32,11 +32,11 @@ fn kind_noted(noted: &[Noted], key: u64) -> Option<u8>
 }
 
 // Whether a sound page holds a key.
-fn in_page(page: &[u8], key: u64) -> bool
-    requires { (laid_out page.now ≡ true) × (keys_rise (records page.now) ≡ true) }
-    ensures { result ≡ holds key (records page.now) }
+fn in_page(page: Page, key: u64) -> bool
+    requires { keys_rise (records page.bytes.now) ≡ true }
+    ensures { result ≡ holds key (records page.entry.bytes.now) }
 {
-    find(page, key).is_ok()
+    page.find(key).is_ok()
 }
 
 // Whether the image holds a key, by the leaf that it belongs to. A leaf that is found sound is marked by its page, and not judged again.
@@ -48,17 +48,23 @@ fn in_leaf(image: &[u8], root: usize, judged: &mut [u8], key: u64) -> Result<boo
     let leaf = leaf_for(image, root, key);
     let own = leaf.page;
     if judged[own] != 0 {
-        return Ok(in_page(page_of(image, own), key));
+        return Ok(in_page(laid_page(image, own), key));
     }
     if !leaf_sound(image, root, leaf) {
         return Err(Refusal::of(Cause::Unsound));
     }
     judged[own] = 1;
-    Ok(in_page(page_of(image, own), key))
+    Ok(in_page(laid_page(image, own), key))
 }
 
 // Whether a key is there after the edits that are noted: as the last of them that has it leaves it, else as the image has it.
-fn is_there(image: &[u8], root: usize, judged: &mut [u8], noted: &[Noted], key: u64) -> Result<bool, Refusal>
+fn is_there(
+    image: &[u8],
+    root: usize,
+    judged: &mut [u8],
+    noted: &[Noted],
+    key: u64,
+) -> Result<bool, Refusal>
     requires { (index_call image.now ≡ Ok root) × Marks image.now root judged.old }
     ensures value { result ≡ there_by (kind_noted noted.now key) (presence key (records_for image.now root key)) }
     ensures marks { Marks image.now root judged.new }

@@ -21,7 +21,7 @@ use Rattle.image.specs.Image.{child_of, children, among, distinct, next_sep, sou
 use Rattle.image.specs.Facts.{Leaves}
 use Rattle.image.specs.Table.{in_image, leaf_entries, listing}
 use Rattle.image.proofs.Zero.{is_page-true}
-use Rattle.image.proofs.Values.{held-room}
+use Rattle.page.proofs.AtSlots.{held-room}
 use Rattle.image.proofs.OneHeight.{listing-one}
 use Rattle.image.proofs.Soundness.{sound-facts}
 use Rattle.sheet.specs.Rows.{Shown, leaf_rows, rows_in, rows_of, next_slot, rows_after}

@@ -2,13 +2,12 @@
 -- Assumes nothing.
 use Prim.Native.Nat.{ℕ, suc, ◌+◌, ◌*◌, ◌≤◌, ◌<◌}
 use mathlib.Core.Path.{◌≡◌, sym, ap, ◌∙◌}
-use mathlib.Core.Bool.{true}
 use mathlib.Core.List.{List, [], ◌∷◌}
 use native.Mathlib.Omega.{arith}
 use lib.ListN.{length}
 use Rattle.codec.specs.Lists.{pick, All}
 use Rattle.page.specs.Layout.{page_size, Rec}
-use Rattle.page.specs.Page.{records, laid_out, RecOk}
+use Rattle.page.specs.Page.{records, RecOk}
 use Rattle.page.specs.Operations.{between, fill, page_of, put_page}
 use Rattle.page.specs.PageFormat.{format1}
 use Rattle.page.proofs.Made.{All-made, length-made, between-all}
@@ -50,9 +49,6 @@ module _ {n : ℕ} {st : State} {q : ℕ} {new : Put} {v : List ℕ} (can : CanT
 
   -- as x, and the number of its records with the new one
   module _ (x : List ℕ) (page : x ≡ page_of st.image q) where
-    pub old-laid : laid_out x ≡ true
-    old-laid = rw page can.put.ok
-
     pub made-count : (m : ℕ) → m ≡ pick new.ins (suc (length (records x))) (length (records x)) → m ≡ length (made_by new v (page_of st.image q))
     made-count m listed =
         listed

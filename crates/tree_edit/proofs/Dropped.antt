@@ -36,12 +36,12 @@ module _ (work : List ℕ) (page j : ℕ) (fits : page_size * page + page_size �
   unfolding dropped
   drop-only only z root f = rw (z, only_keeps (eqb (length (records (delete (page_of work page) j))) 0), ← x)
 
+  pub left-ok : laid_out (page_of w page) ≡ true
+  left-ok = rw here left_laid
+
   -- ---- the page y, with c records left
 
   module _ (y : List ℕ) (is : y ≡ page_of w page) where
-    pub left-ok : laid_out y ≡ true
-    left-ok = rw (is, here) left_laid
-
     module _ (c : ℕ) (some : c ≡ length (records y)) (only : Bool) (z : only ≡ false) (root : ℕ) (f : List ℕ) where
       records-left : length (records left) ≡ c
       records-left = sym (some ∙ ap (λ (p : List ℕ). length (records p)) (is ∙ here))

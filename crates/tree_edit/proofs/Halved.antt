@@ -150,15 +150,18 @@ module _ {n : ℕ} {st : State} {page : ℕ} {new : Put} {v : List ℕ} (can : C
           right-page : Filled format1 no_keep st.free (filled format1 kind p left s) t kind q right
           right-page = new-filled can q right-free kind small (filled format1 kind p left s) (left-page.long ∙ can.long) right parts.1 halves.right
 
-          pub key_fits : page_size * q + page_size ≤ length z
-          key_fits = omega (arith, ap length z-right, right-page.long, left-page.long, new-fits can q right-free)
+          pub key-read : (page_size * q + page_size ≤ length z) × (laid_out (page_of z q) ≡ true)
+          key-read = (
+            omega (arith, ap length z-right, right-page.long, left-page.long, new-fits can q right-free),
+            ap (λ (i : List ℕ). laid_out (page_of i q)) z-right ∙ right-page.lists.laid,
+          )
 
           module _ (y : List ℕ) (at : y ≡ page_of z q) where
             right-lists : Lists format1 y kind q right
             right-lists = subst (λ (b : List ℕ). Lists format1 b kind q right) (sym (at ∙ ap (λ (i : List ℕ). page_of i q) z-right)) right-page.lists
 
-            pub key-ready : (laid_out y ≡ true) × (0 < length (records y))
-            key-ready = (right-lists.laid, rw right-lists.recs halves.right.some)
+            pub key-some : 0 < length (records y)
+            key-some = rw right-lists.recs halves.right.some
 
             pub split-is : (sep : ℕ) → sep ≡ (get_or (records y) 0 (rec_of 0 [])).key →
                 now (two p sep q) (record { image = z; root = st.root; free = g }) ≡ split format1 kind (made_by new v (page_of st.image page)) st

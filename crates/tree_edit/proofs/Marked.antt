@@ -19,7 +19,8 @@ use Rattle.image.specs.PageZero.{is_page}
 use Rattle.image.specs.Image.{child_of, children, reached, among, IsEntry}
 use Rattle.image.proofs.Zero.{is_page-true}
 use Rattle.image.proofs.OneHeight.{reached-one}
-use Rattle.image.proofs.CodePages.{All-at, drop-next}
+use Rattle.page.proofs.Listed.{All-at}
+use Rattle.image.proofs.CodePages.{drop-next}
 use Rattle.tree.specs.State.{State}
 use Rattle.tree.specs.Good.{Good}
 use Rattle.tree.proofs.Counts.{inside-pages}

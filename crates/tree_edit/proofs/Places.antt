@@ -18,7 +18,8 @@ use Rattle.image.specs.Image.{child_of, children, first_key, pages_in, IsEntry, 
 use Rattle.image.specs.Facts.{Spans, Under}
 use Rattle.image.specs.Route.{route}
 use Rattle.image.proofs.Routing.{routed}
-use Rattle.image.proofs.CodePages.{All-at, child-two}
+use Rattle.page.proofs.Listed.{All-at}
+use Rattle.image.proofs.CodePages.{child-two}
 use Rattle.image.proofs.OneHeight.{height-one, pages-one}
 use Rattle.tree.specs.State.{State}
 use Rattle.tree.specs.Edits.{low_of}
@@ -54,9 +55,6 @@ module _ {n : ℕ} {st : State} (G : Good n st) where
   pub root_ok : PageOk index_kind st.root (page_of st.image st.root)
   root_ok = page_ok-true index_kind st.root (page_of st.image st.root) under.0.page
 
-  pub root-laid : (x : List ℕ) → x ≡ page_of st.image st.root → laid_out x ≡ true
-  root-laid x e = rw e root_ok.laid
-
   -- the root and the pages that it names are distinct, in range and not free
   apart-one : (x : ℕ) → hit x st.root + named x (records (page_of st.image st.root)) + count x st.free ≤ inside n x
   unfolding children
@@ -73,6 +71,9 @@ module _ {n : ℕ} {st : State} (G : Good n st) where
 
   pub root-fits : page_size * st.root + page_size ≤ length st.image
   root-fits = omega (arith, G.size, inside-range n st.root root-inside)
+
+  pub root-read : (page_size * st.root + page_size ≤ length st.image) × (laid_out (page_of st.image st.root) ≡ true)
+  root-read = (root-fits, root_ok.laid)
 
   pub root-entries : Entries (records (page_of st.image st.root))
   root-entries = All-map (λ (r : Rec). form_ok index_kind r ≡ true) IsEntry (λ r h. index-form r h) cs root_ok.forms
@@ -144,15 +145,15 @@ module _ {n : ℕ} {st : State} {c : Child} (at : AtChild n st c) where
       (page_ok-true leaf_kind (child_of d) (page_of st.image (child_of d))
       (All-at (λ (x : Rec). page_ok leaf_kind (child_of x) (page_of st.image (child_of x)) ≡ true) rs c.slot (rec_of 0 []) (leaves at.good) at.slot))
 
-  pub child-laid : (x : List ℕ) → x ≡ page_of st.image c.page → laid_out x ≡ true
-  child-laid x e = rw e child-ok.laid
-
   -- it is not the root, and neither is free
   pub child-apart : (x : ℕ) → hit x st.root + hit x c.page + count x st.free ≤ inside n x
   child-apart x = omega (arith, apart-one at.good x, named-hit x rs c.slot at.slot, ap (hit x) page-is)
 
   pub child_fits : page_size * c.page + page_size ≤ length st.image
   child_fits = omega (arith, at.good.size, inside-range n c.page (omega (arith, child-apart c.page, hit-self c.page)))
+
+  pub child-read : (page_size * c.page + page_size ≤ length st.image) × (laid_out (page_of st.image c.page) ≡ true)
+  child-read = (child_fits, child-ok.laid)
 
   pub child-takes : (new : Put) (v : List ℕ) → CanPut (page_of st.image c.page) new v → CanTake n st c.page new v
   child-takes new v can = record { few = at.good.few; long = at.good.size; apart = λ x. omega (arith, child-apart x); put = can }

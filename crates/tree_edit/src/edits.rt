@@ -18,18 +18,17 @@ use crate::turns::{absorb, drop_record, put_record, root_step};
 use crate::{Child, Put, Tree, Turned};
 use device::{Cause, Refusal};
 use image::descent::route;
-use image::pages::{child_at, count, key_at, page_of};
-use page::find;
+use image::pages::{child_at, laid_page};
 
 // The page under the root that a key belongs to: "keeps its separator, or takes 0 if first".
 pub(crate) fn child_of(work: &[u8], root: usize, key: u64) -> Child
     requires { Good (page_count work.now) (record { image = work.now; root = root; free = [] }) }
     ensures { result ≡ child_at work.now root (route key (records (page_of work.now root))) }
 {
-    let index = page_of(work, root);
+    let index = laid_page(work, root);
     let slot = route(index, key);
     let page = child_at(index, slot);
-    let low = if slot == 0 { 0 } else { key_at(index, slot) };
+    let low = if slot == 0 { 0 } else { index.key_at(slot) };
     Child { slot, low, page }
 }
 
@@ -60,7 +59,7 @@ pub(crate) fn put_under(
     requires { AtChild (page_count work.old) (state_of before.now work.old t) under × CanPut (page_of work.old under.page) new value.now × (t.top ≤ 64) }
     ensures { Says before.now work.new result (upward t.root under (put format1 no_keep leaf_kind (leb slot_count (length (records (page_of work.old t.root)))) new.ins new.at (rec_by new value.now) under.page (state_of before.now work.old t))) }
 {
-    let full = 28 <= count(page_of(work, t.root));
+    let full = 28 <= laid_page(work, t.root).count();
     let below = put_record(work, before, t, 1, full, under.page, new, value)?;
     raise(work, before, t.root, under, below)
 }
@@ -76,7 +75,7 @@ pub(crate) fn drop_under(
     requires { AtChild (page_count work.old) (state_of before.now work.old t) under × (j < length (records (page_of work.old under.page))) × (t.top ≤ 64) }
     ensures { Says before.now work.new result (upward t.root under (dropped format1 (eqb (length (records (page_of work.old t.root))) 1) j under.page (state_of before.now work.old t))) }
 {
-    let only = count(page_of(work, t.root)) == 1;
+    let only = laid_page(work, t.root).count() == 1;
     let below = drop_record(work, t, under.page, only, j);
     raise(work, before, t.root, under, below)
 }
@@ -93,7 +92,7 @@ pub(crate) fn insert_edit(
     ensures { Says before.now work.new result (edited (insert key value.now) (state_of before.now work.old t)) }
 {
     let under = child_of(work, t.root, key);
-    match find(page_of(work, under.page), key) {
+    match laid_page(work, under.page).find(key) {
         Ok(_) => Err(Cause::KeyPresent),
         Err(at) => put_under(work, before, t, under, Put { ins: true, at, key }, value),
     }
@@ -111,7 +110,7 @@ pub(crate) fn update_edit(
     ensures { Says before.now work.new result (edited (update key value.now) (state_of before.now work.old t)) }
 {
     let under = child_of(work, t.root, key);
-    let Ok(at) = find(page_of(work, under.page), key) else {
+    let Ok(at) = laid_page(work, under.page).find(key) else {
         return Err(Cause::KeyMissing);
     };
     put_under(
@@ -139,7 +138,7 @@ pub(crate) fn delete_edit(
     ensures { Says before.now work.new result (edited (delete key) (state_of before.now work.old t)) }
 {
     let under = child_of(work, t.root, key);
-    let Ok(at) = find(page_of(work, under.page), key) else {
+    let Ok(at) = laid_page(work, under.page).find(key) else {
         return Err(Cause::KeyMissing);
     };
     drop_under(work, before, t, under, at)

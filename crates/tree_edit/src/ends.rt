@@ -8,7 +8,7 @@ ghost use Rattle.tree_edit.specs.Steps.{is_marked, Marks, state_of};
 ghost use Rattle.tree_edit.specs.Asked.{CanMark, CanPutBack, Spared};
 
 use crate::Tree;
-use image::pages::{child_at, count, page_of};
+use image::pages::{child_at, laid_page, page_of};
 
 // Marks the root and the pages that it names.
 pub fn marks_of(image: &[u8], root: usize) -> [u8; 64]
@@ -16,10 +16,10 @@ pub fn marks_of(image: &[u8], root: usize) -> [u8; 64]
     ensures marks { Marks result (reached image.now root) }
     ensures by_index { ((p : ℕ) → get_or result p 0 ≤ 1) × (length result ≡ 64) }
 {
-    let page = page_of(image, root);
+    let page = laid_page(image, root);
     let mut marks = [0u8; 64];
     marks[root] = 1;
-    for i in 0..count(page) {
+    for i in 0..page.count() {
         let leaf = child_at(page, i);
         marks[leaf] = 1;
     }

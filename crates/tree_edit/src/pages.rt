@@ -12,7 +12,8 @@ ghost use Rattle.tree_edit.specs.Steps.{unmarked, rec_by, made_by};
 ghost use Rattle.tree_edit.specs.Asked.{CanPut};
 
 use crate::Put;
-use image::pages::{count, page_of};
+use image::pages::page_of;
+use page::laid::Page;
 use page_edit::{delete_record, fill_made, insert_record, update_record};
 
 // The highest page below top that is not marked, if there is one: "the highest-numbered one neither reached before the transaction nor
@@ -30,19 +31,17 @@ pub(crate) fn free_below(before: &[u8; 64], top: usize) -> Option<usize>
 }
 
 // Whether a page has no room for a record of s bytes: "If s exceeds start minus 64, or an insert finds 28 records".
-pub(crate) fn is_full(page: &[u8], ins: bool, s: usize) -> bool
-    requires { laid_out page.now ≡ true }
-    ensures { result ≡ is_full format1 tt ins s page.now }
+pub(crate) fn is_full(page: Page, ins: bool, s: usize) -> bool
+    ensures { result ≡ is_full format1 tt ins s page.entry.bytes.now }
 {
-    codec::number_at(page, 2) - 64 < s || (ins && 28 <= count(page))
+    codec::number_at(page.bytes, 2) - 64 < s || (ins && 28 <= page.count())
 }
 
 // How many records a page lists once the new one is put in.
-pub(crate) fn made_count(page: &[u8], ins: bool) -> usize
-    requires { laid_out page.now ≡ true }
-    ensures { result ≡ pick ins (suc (length (records page.now))) (length (records page.now)) }
+pub(crate) fn made_count(page: Page, ins: bool) -> usize
+    ensures { result ≡ pick ins (suc (length (records page.entry.bytes.now))) (length (records page.entry.bytes.now)) }
 {
-    count(page) + usize::from(ins)
+    page.count() + usize::from(ins)
 }
 
 // Puts a record into page p, which has room for it. Here and below the page is lent by its own range: a function that gives the part as a `&mut`

@@ -16,7 +16,8 @@ use crate::pages::{copy_made, delete_at, free_below, is_full, made_count, put_in
 use crate::split::{fits_one, split_point};
 use crate::{Child, Put, Tree, Turned};
 use device::Cause;
-use image::pages::{count, key_at, page_of, size_of};
+use image::pages::laid_page;
+use page::laid::size_of;
 
 // Copies a page's records, with the new one put in, to one new page.
 pub(crate) fn copy_page(
@@ -35,7 +36,7 @@ pub(crate) fn copy_page(
     let Some(p) = free_below(before, t.top) else {
         return Err(Cause::PagesOut);
     };
-    let n = made_count(page_of(work, page), new.ins);
+    let n = made_count(laid_page(work, page), new.ins);
     copy_made(work, page, p, kind, new, value, 0, n);
     Ok(Turned::One { page: p, top: p })
 }
@@ -60,12 +61,12 @@ pub(crate) fn split_page(
     let Some(q) = free_below(before, p) else {
         return Err(Cause::PagesOut);
     };
-    let old = page_of(work, page);
+    let old = laid_page(work, page);
     let m = split_point(old, new, value);
     let n = made_count(old, new.ins);
     copy_made(work, page, p, kind, new, value, 0, m);
     copy_made(work, page, q, kind, new, value, m, n);
-    let sep = key_at(page_of(work, q), 0);
+    let sep = laid_page(work, q).key_at(0);
     Ok(Turned::Two {
         left: p,
         sep,
@@ -89,7 +90,7 @@ pub(crate) fn move_records(
     requires { CanTake (page_count work.old) (state_of before.now work.old t) page new value.now × (t.top ≤ 64) }
     ensures { Turns before.now work.new t.root result (moved format1 kind full (made_by new value.now (page_of work.old page)) (state_of before.now work.old t)) }
 {
-    if fits_one(page_of(work, page), new, value) {
+    if fits_one(laid_page(work, page), new, value) {
         return copy_page(work, before, t, kind, page, new, value);
     }
     if full {
@@ -112,7 +113,7 @@ pub(crate) fn put_record(
     requires { CanTake (page_count work.old) (state_of before.now work.old t) page new value.now × (t.top ≤ 64) }
     ensures { Turns before.now work.new t.root result (put format1 no_keep kind full new.ins new.at (rec_by new value.now) page (state_of before.now work.old t)) }
 {
-    if is_full(page_of(work, page), new.ins, size_of(value.len())) {
+    if is_full(laid_page(work, page), new.ins, size_of(value.len())) {
         return move_records(work, before, t, kind, full, page, new, value);
     }
     put_in_place(work, page, new, value);
@@ -174,7 +175,7 @@ pub(crate) fn drop_record(work: &mut [u8], t: Tree, page: usize, only: bool, j: 
     if only {
         return Turned::Kept { top: t.top };
     }
-    if count(page_of(work, page)) == 0 {
+    if laid_page(work, page).count() == 0 {
         return Turned::Gone { top: t.top };
     }
     Turned::Kept { top: t.top }

@@ -12,16 +12,16 @@ use Rattle.codec.specs.Numbers.{number}
 use Rattle.page.specs.Layout.{page_size, leaf_kind, Rec, rec_of, record_at}
 use Rattle.page.specs.Page.{records, laid_out}
 use Rattle.page.proofs.Facts.{page_ok-true, ok-is}
+use Rattle.page.proofs.AtSlots.{slot, value_in, length-here, record-here}
 use Rattle.image.proofs.Search.{search-at, search-missing}
-use Rattle.image.proofs.CodePages.{slot, value_in, length-here, record-here}
 use Rattle.image.proofs.descent.find_in.Goals as goal
 use Rattle.image.proofs.descent.find_in.Goals.{After-slot_at-at, In-Ok, Start}
 
 laid : (c : Start) → laid_out c.args.page.now ≡ true
 laid c = (page_ok-true leaf_kind c.args.own c.args.page.now c.requires).laid
 
-pub find-requires : goal.find-requires
-find-requires c = laid (goal.at.find-requires c).Start
+pub invariant_of-laid : goal.invariant_of-laid
+invariant_of-laid c = record { laid = laid (goal.at.invariant_of-laid c).Start }
 
 found : (c : In-Ok) → c.in-Ok.i < length (records c.args.page.now)
 found c =
@@ -29,7 +29,7 @@ found c =
     (search-at leaf_kind a.own a.own a.page.now c.requires a.key c.in-Ok.i (sym c.find.ensures ∙ c.in-Ok.is)).0
 
 pub slot_at-at-requires : goal.slot_at-at-requires
-slot_at-at-requires c = (laid (goal.at.slot_at-at-requires c).Start, found (goal.at.slot_at-at-requires c).In-Ok)
+slot_at-at-requires c = found (goal.at.slot_at-at-requires c).In-Ok
 
 -- the page's number is of two bytes, and the record's head lies in the page
 room : (c : After-slot_at-at) →

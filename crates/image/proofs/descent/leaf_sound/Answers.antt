@@ -1,7 +1,7 @@
 -- `leaf_sound`: `leaf_ok` in the place's range; the index tells whether the leaf is the only one.
 -- Assumes nothing.
 use Prim.Native.Nat.{ℕ}
-use mathlib.Core.Path.{ap, ◌∙◌}
+use mathlib.Core.Path.{refl, ap, ◌∙◌}
 use mathlib.Core.List.{List}
 use lib.ListN.{length}
 use lib.Dec.{eqb}
@@ -13,11 +13,9 @@ use Rattle.image.proofs.CodeTree.{index-laid}
 use Rattle.image.proofs.CodeDescent.{index, root-fits}
 use Rattle.image.proofs.descent.leaf_sound.Goals as goal
 
-pub page_of-requires : goal.page_of-requires
-page_of-requires c = root-fits c.args.image.now c.args.root c.requires.0
-
-pub count-only-requires : goal.count-only-requires
-count-only-requires c = index-laid c.args.image.now c.args.root (index c.args.image.now c.args.root c.requires.0) _ c.page_of.ensures
+pub laid_page-requires : goal.laid_page-requires
+laid_page-requires c =
+    (root-fits _ _ c.requires.0, index-laid _ _ (index _ _ c.requires.0) _ refl)
 
 pub returns : goal.returns
 unfolding leaf_sound leaf_at children
@@ -25,4 +23,4 @@ returns c =
     let a = c.args in
     let p = a.leaf in
     c.leaf_ok.ensures
-    ∙ ap (λ (n : ℕ). leaf_ok (eqb n 1) p.from p.below p.page (page_of a.image.now p.page)) (c.count-only.ensures ∙ ap (λ (q : List ℕ). length (records q)) c.page_of.ensures)
+    ∙ ap (λ (n : ℕ). leaf_ok (eqb n 1) p.from p.below p.page (page_of a.image.now p.page)) (c.count-only.ensures ∙ ap (λ (q : List ℕ). length (records q)) c.laid_page.ensures)

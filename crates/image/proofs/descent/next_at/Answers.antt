@@ -38,10 +38,13 @@ pub returns-then-key-ge-TOP_KEY : goal.returns-then-key-ge-TOP_KEY
 unfolding leaf_next
 returns-then-key-ge-TOP_KEY c = sym (above-largest leaf_kind _ _ (good (goal.at.returns-then-key-ge-TOP_KEY c).Else-not-leaf_sound) _ c.if-key-ge-TOP_KEY.true) ∙ rw (judged (goal.at.returns-then-key-ge-TOP_KEY c).Else-not-leaf_sound)
 
+pub laid_page-requires : goal.laid_page-requires
+laid_page-requires c = (c.requires.1, (page_ok-true leaf_kind _ _ (good (goal.at.laid_page-requires c).Else-not-leaf_sound)).laid)
+
 pub next_in-requires : goal.next_in-requires
-next_in-requires c = (rw c.page_of.ensures (page_ok-true leaf_kind _ _ (good (goal.at.next_in-requires c).Else-not-leaf_sound)).laid, omega (arith, c.if-key-ge-TOP_KEY.false))
+next_in-requires c = omega (arith, c.if-key-ge-TOP_KEY.false)
 
 pub returns : goal.returns
 unfolding leaf_next
 returns c =
-    c.next_in.ensures ∙ ap (λ (p : List ℕ). above c.args.key (records p)) c.page_of.ensures ∙ rw (judged (goal.at.returns c).Else-not-leaf_sound)
+    c.next_in.ensures ∙ ap (λ (p : List ℕ). above c.args.key (records p)) c.laid_page.ensures ∙ rw (judged (goal.at.returns c).Else-not-leaf_sound)

@@ -15,27 +15,27 @@ use Rattle.image.proofs.descent.next_in.Goals.{After-find}
 
 sought : (c : After-find) (s : Result ℕ ℕ) →
     let a = c.args in
-    c.find.result ≡ s → searched (suc a.key) 0 (records a.page.now) ≡ s
+    c.find.result ≡ s → searched (suc a.key) 0 (records a.page.bytes.now) ≡ s
 sought c s e =
     let a = c.args in
-    ap (λ (k : ℕ). searched k 0 (records a.page.now)) (sym (add-one a.key)) ∙ sym c.find.ensures ∙ e
+    ap (λ (k : ℕ). searched k 0 (records a.page.bytes.now)) (sym (add-one a.key)) ∙ sym c.find.ensures ∙ e
 
 pub key_at-requires : goal.key_at-requires
 key_at-requires c =
     let a = c.args in
-    (c.requires.0, (above_at a.key (records a.page.now) (rec_of 0 []) c.in-Ok.i (sought (goal.at.key_at-requires c).After-find _ c.in-Ok.is)).0)
+    (above_at a.key (records a.page.bytes.now) (rec_of 0 []) c.in-Ok.i (sought (goal.at.key_at-requires c).After-find _ c.in-Ok.is)).0
 
 pub returns-then-i-count : goal.returns-then-i-count
 returns-then-i-count c =
     let a = c.args in
-    ap (λ (k : ℕ). Ok (Some k)) c.key_at-then-i-count.ensures ∙ sym (above-missing a.key (records a.page.now) (rec_of 0 []) c.in-Err.i (sought (goal.at.returns-then-i-count c).After-find _ c.in-Err.is) (omega (arith, c.count.ensures, c.if-i-count.true)))
+    ap (λ (k : ℕ). Ok (Some k)) c.key_at-then-i-count.ensures ∙ sym (above-missing a.key (records a.page.bytes.now) (rec_of 0 []) c.in-Err.i (sought (goal.at.returns-then-i-count c).After-find _ c.in-Err.is) (omega (arith, c.count.ensures, c.if-i-count.true)))
 
 pub returns-in-Ok : goal.returns-in-Ok
 returns-in-Ok c =
     let a = c.args in
-    ap (λ (k : ℕ). Ok (Some k)) c.key_at.ensures ∙ sym (above_at a.key (records a.page.now) (rec_of 0 []) c.in-Ok.i (sought (goal.at.returns-in-Ok c).After-find _ c.in-Ok.is)).1
+    ap (λ (k : ℕ). Ok (Some k)) c.key_at.ensures ∙ sym (above_at a.key (records a.page.bytes.now) (rec_of 0 []) c.in-Ok.i (sought (goal.at.returns-in-Ok c).After-find _ c.in-Ok.is)).1
 
 pub returns-else-i-count : goal.returns-else-i-count
 returns-else-i-count c =
     let a = c.args in
-    sym (above-end a.key (records a.page.now) (rec_of 0 []) c.in-Err.i (sought (goal.at.returns-else-i-count c).After-find _ c.in-Err.is) (omega (arith, c.count.ensures, c.if-i-count.false)))
+    sym (above-end a.key (records a.page.bytes.now) (rec_of 0 []) c.in-Err.i (sought (goal.at.returns-else-i-count c).After-find _ c.in-Err.is) (omega (arith, c.count.ensures, c.if-i-count.false)))

@@ -8,14 +8,14 @@ use Rattle.image.proofs.descent.route.Goals as goal
 pub returns-then-i-eq0 : goal.returns-then-i-eq0
 returns-then-i-eq0 c =
     let a = c.args in
-    sym (ap (λ (i : ℕ). i - 1) c.if-i-eq0.true) ∙ route-searched a.page.now c.requires.0 c.requires.1 a.key _ (sym c.in-Err.is ∙ c.find.ensures)
+    sym (ap (λ (i : ℕ). i - 1) c.if-i-eq0.true) ∙ route-searched _ a.page.laid c.requires a.key _ (sym c.in-Err.is ∙ c.find.ensures)
 
 pub returns-in-Ok : goal.returns-in-Ok
 returns-in-Ok c =
     let a = c.args in
-    route-searched a.page.now c.requires.0 c.requires.1 a.key _ (sym c.in-Ok.is ∙ c.find.ensures)
+    route-searched _ a.page.laid c.requires a.key _ (sym c.in-Ok.is ∙ c.find.ensures)
 
 pub returns-else-i-eq0 : goal.returns-else-i-eq0
 returns-else-i-eq0 c =
     let a = c.args in
-    route-searched a.page.now c.requires.0 c.requires.1 a.key _ (sym c.in-Err.is ∙ c.find.ensures)
+    route-searched _ a.page.laid c.requires a.key _ (sym c.in-Err.is ∙ c.find.ensures)

@@ -7,20 +7,17 @@ use native.Mathlib.Omega.{arith}
 use Rattle.codec.specs.Lists.{part}
 use Rattle.codec.specs.Numbers.{number}
 use Rattle.page.specs.Layout.{rec_of}
-use Rattle.image.proofs.CodePages.{value_in, child-here}
+use Rattle.page.proofs.AtSlots.{value_in}
+use Rattle.image.proofs.CodePages.{child-here}
 use Rattle.image.proofs.pages.child_at.Goals as goal
 
 pub overflow_add-slot_at : goal.overflow_add-slot_at
-overflow_add-slot_at c =
-    let a = c.args in
-    omega (arith, c.slot_at.ensures, value_in a.page.now c.requires.0 a.i c.requires.1 (rec_of 0 []))
+overflow_add-slot_at c = omega (arith, c.slot_at.ensures, value_in _ c.args.page.laid _ c.requires.0 (rec_of 0 []))
 
 pub number_at-requires : goal.number_at-requires
-number_at-requires c =
-    let a = c.args in
-    omega (arith, c.slot_at.ensures, value_in a.page.now c.requires.0 a.i c.requires.1 (rec_of 0 []))
+number_at-requires c = omega (arith, c.slot_at.ensures, value_in _ c.args.page.laid _ c.requires.0 (rec_of 0 []))
 
 pub returns : goal.returns
 returns c =
-    let a = c.args in
-    c.number_at.ensures.0 ∙ ap (λ (o : ℕ). number (part a.page.now (o + 16) 2)) c.slot_at.ensures ∙ child-here a.page.now c.requires.0 a.i c.requires.1 (rec_of 0 []) c.requires.2
+    let p = c.args.page in
+    c.number_at.ensures.0 ∙ ap (λ (o : ℕ). number (part p.bytes.now (o + 16) 2)) c.slot_at.ensures ∙ child-here _ p.laid _ c.requires.0 (rec_of 0 []) c.requires.1

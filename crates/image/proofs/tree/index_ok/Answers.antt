@@ -18,25 +18,25 @@ use Rattle.image.proofs.CodeTree.{not-index, index-claims, marks-end, marks-on, 
 use Rattle.image.proofs.tree.index_ok.Goals as goal
 use Rattle.image.proofs.tree.index_ok.Goals.{Else-not-page_ok}
 
-pub page_of-page-requires : goal.page_of-page-requires
-page_of-page-requires c = page-fits c.args.image.now c.args.root c.requires.1
+pub page_of-bytes-requires : goal.page_of-bytes-requires
+page_of-bytes-requires c = page-fits c.args.image.now c.args.root c.requires.1
 
 pub returns-then-not-page_ok : goal.returns-then-not-page_ok
 returns-then-not-page_ok c =
     let a = c.args in
-    sym (not-index a.image.now a.root (λ k. true≢false (sym k.page ∙ ap (page_ok index_kind a.root) (sym c.page_of-page.ensures) ∙ sym c.page_ok.ensures ∙ c.if-not-page_ok.true)))
+    sym (not-index a.image.now a.root (λ k. true≢false (sym k.page ∙ ap (page_ok index_kind a.root) (sym c.page_of-bytes.ensures) ∙ sym c.page_ok.ensures ∙ c.if-not-page_ok.true)))
 
-page-is : (c : Else-not-page_ok) → page_ok index_kind c.args.root c.page_of-page.result.now ≡ true
+page-is : (c : Else-not-page_ok) → page_ok index_kind c.args.root c.page_of-bytes.result.now ≡ true
 page-is c = sym c.page_ok.ensures ∙ c.if-not-page_ok.false
 
-pub count-leaves-requires : goal.count-leaves-requires
-count-leaves-requires c = (page_ok-true _ _ _ (page-is (goal.at.count-leaves-requires c).Else-not-page_ok)).laid
+pub invariant_of-page : goal.invariant_of-page
+invariant_of-page c = record { laid = (page_ok-true _ _ _ (page-is (goal.at.invariant_of-page c).Else-not-page_ok)).laid }
 
 pub returns-then-leaves-eq0 : goal.returns-then-leaves-eq0
 unfolding children
 returns-then-leaves-eq0 c =
     let a = c.args in
-    sym (not-index a.image.now a.root (λ k. let e = ap (λ (p : List ℕ). length (records p)) c.page_of-page.ensures in omega (arith, k.some, c.count-leaves.ensures, c.if-leaves-eq0.true)))
+    sym (not-index a.image.now a.root (λ k. let e = ap (λ (p : List ℕ). length (records p)) c.page_of-bytes.ensures in omega (arith, k.some, c.count-leaves.ensures, c.if-leaves-eq0.true)))
 
 pub bounds-marks-root : goal.bounds-marks-root
 bounds-marks-root c =
@@ -46,11 +46,11 @@ bounds-marks-root c =
 pub loop-i-init : goal.loop-i-init
 loop-i-init c =
     let a = c.args in
-    index-claims a.image.now a.root (size-true _ c.requires.0) c.requires.1 _ c.page_of-page.ensures (page-is (goal.at.loop-i-init c).Else-not-page_ok) (omega (arith, c.count-leaves.ensures, c.if-leaves-eq0.false))
+    index-claims a.image.now a.root (size-true _ c.requires.0) c.requires.1 _ c.page_of-bytes.ensures (page-is (goal.at.loop-i-init c).Else-not-page_ok) (omega (arith, c.count-leaves.ensures, c.if-leaves-eq0.false))
 
 pub child_at-leaf-requires : goal.child_at-leaf-requires
 child_at-leaf-requires c =
-    ((page_ok-true _ _ _ (page-is (goal.at.child_at-leaf-requires c).Else-not-page_ok)).laid, omega (arith, c.count-leaves.ensures, c.loop-i-test.true), child-two c.args.root _ c.loop-i.i (rec_of 0 []) (page-is (goal.at.child_at-leaf-requires c).Else-not-page_ok) (omega (arith, c.count-leaves.ensures, c.loop-i-test.true)))
+    (omega (arith, c.count-leaves.ensures, c.loop-i-test.true), child-two c.args.root _ c.loop-i.i (rec_of 0 []) (page-is (goal.at.child_at-leaf-requires c).Else-not-page_ok) (omega (arith, c.count-leaves.ensures, c.loop-i-test.true)))
 
 pub returns-then-n-leaf : goal.returns-then-n-leaf
 returns-then-n-leaf c =

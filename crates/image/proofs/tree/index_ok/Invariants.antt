@@ -9,4 +9,4 @@ use Rattle.image.proofs.CodeMarks.{claims}
 use Rattle.image.proofs.tree.index_ok.Given as goal
 
 abbrev pub invariant-loop-i : goal.invariant-loop-i
-invariant-loop-i l = claims l.n l.marks (map child_of (drop l.i (records l.page))) ≡ index_ok l.image l.root
+invariant-loop-i l = claims l.n l.marks (map child_of (drop l.i (records l.page.0.now))) ≡ index_ok l.image l.root

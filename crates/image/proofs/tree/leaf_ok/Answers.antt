@@ -15,48 +15,48 @@ use Rattle.page.proofs.Facts.{page_ok-true}
 use Rattle.image.specs.Image.{leaf_ok}
 use Rattle.image.proofs.CodeTree.{leaf-unsound, leaf-empty, leaf-low, leaf-ends}
 use Rattle.image.proofs.tree.leaf_ok.Goals as goal
-use Rattle.image.proofs.tree.leaf_ok.Goals.{After-page_of-page, Else-not-page_ok}
+use Rattle.image.proofs.tree.leaf_ok.Goals.{After-page_of-bytes, Else-not-page_ok}
 
 pub page_ok-requires : goal.page_ok-requires
 page_ok-requires c = tt
 
-on-page : (c : After-page_of-page) (b : Bool) →
+on-page : (c : After-page_of-bytes) (b : Bool) →
     let a = c.args in
-    leaf_ok a.only a.lo a.hi a.own c.page_of-page.result.now ≡ b → b ≡ leaf_ok a.only a.lo a.hi a.own (page_of a.image.now a.own)
+    leaf_ok a.only a.lo a.hi a.own c.page_of-bytes.result.now ≡ b → b ≡ leaf_ok a.only a.lo a.hi a.own (page_of a.image.now a.own)
 on-page c b e =
     let a = c.args in
-    sym e ∙ ap (leaf_ok a.only a.lo a.hi a.own) c.page_of-page.ensures
+    sym e ∙ ap (leaf_ok a.only a.lo a.hi a.own) c.page_of-bytes.ensures
 
 pub returns-then-not-page_ok : goal.returns-then-not-page_ok
 returns-then-not-page_ok c =
     let a = c.args in
-    on-page (goal.at.returns-then-not-page_ok c).After-page_of-page _ (leaf-unsound a.only a.lo a.hi a.own _ (sym c.page_ok.ensures ∙ not-true _ c.if-not-page_ok.true-raw))
+    on-page (goal.at.returns-then-not-page_ok c).After-page_of-bytes _ (leaf-unsound a.only a.lo a.hi a.own _ (sym c.page_ok.ensures ∙ not-true _ c.if-not-page_ok.true-raw))
 
-page-is : (c : Else-not-page_ok) → page_ok leaf_kind c.args.own c.page_of-page.result.now ≡ true
+page-is : (c : Else-not-page_ok) → page_ok leaf_kind c.args.own c.page_of-bytes.result.now ≡ true
 page-is c = sym c.page_ok.ensures ∙ not-false _ c.if-not-page_ok.false-raw
 
-pub count-n-requires : goal.count-n-requires
-count-n-requires c = (page_ok-true _ _ _ (page-is (goal.at.count-n-requires c).Else-not-page_ok)).laid
+pub invariant_of-page : goal.invariant_of-page
+invariant_of-page c = record { laid = (page_ok-true _ _ _ (page-is (goal.at.invariant_of-page c).Else-not-page_ok)).laid }
 
 pub returns-then-n-eq0 : goal.returns-then-n-eq0
 returns-then-n-eq0 c =
     let a = c.args in
-    on-page (goal.at.returns-then-n-eq0 c).After-page_of-page _ (leaf-empty a.only a.lo a.hi a.own _ (page-is (goal.at.returns-then-n-eq0 c).Else-not-page_ok) (sym c.count-n.ensures ∙ c.if-n-eq0.true))
+    on-page (goal.at.returns-then-n-eq0 c).After-page_of-bytes _ (leaf-empty a.only a.lo a.hi a.own _ (page-is (goal.at.returns-then-n-eq0 c).Else-not-page_ok) (sym c.count-n.ensures ∙ c.if-n-eq0.true))
 
 pub key_at-requires : goal.key_at-requires
-key_at-requires c = ((page_ok-true _ _ _ (page-is (goal.at.key_at-requires c).Else-not-page_ok)).laid, omega (arith, c.count-n.ensures, c.if-n-eq0.false))
+key_at-requires c = omega (arith, c.count-n.ensures, c.if-n-eq0.false)
 
 pub returns-then-key_at-lo : goal.returns-then-key_at-lo
 returns-then-key_at-lo c =
     let a = c.args in
-    on-page (goal.at.returns-then-key_at-lo c).After-page_of-page _ (leaf-low a.only a.lo a.hi a.own _ (page-is (goal.at.returns-then-key_at-lo c).Else-not-page_ok) (rec_of 0 []) (omega (arith, c.count-n.ensures, c.if-n-eq0.false)) (omega (arith, c.key_at.ensures, c.if-key_at-lo.true)))
+    on-page (goal.at.returns-then-key_at-lo c).After-page_of-bytes _ (leaf-low a.only a.lo a.hi a.own _ (page-is (goal.at.returns-then-key_at-lo c).Else-not-page_ok) (rec_of 0 []) (omega (arith, c.count-n.ensures, c.if-n-eq0.false)) (omega (arith, c.key_at.ensures, c.if-key_at-lo.true)))
 
 pub key_at-requires-2 : goal.key_at-requires-2
-key_at-requires-2 c = ((page_ok-true _ _ _ (page-is (goal.at.key_at-requires-2 c).Else-not-page_ok)).laid, omega (arith, c.count-n.ensures, c.if-n-eq0.false))
+key_at-requires-2 c = omega (arith, c.count-n.ensures, c.if-n-eq0.false)
 
 pub returns : goal.returns
 returns c =
     let a = c.args in
-    let e : ltb c.key_at-2.result a.hi ≡ ltb (get_or (records c.page_of-page.result.now) (length (records c.page_of-page.result.now) - 1) (rec_of 0 [])).key a.hi =
-    ap (λ (k : ℕ). ltb k a.hi) (c.key_at-2.ensures ∙ ap (λ (n : ℕ). (get_or (records c.page_of-page.result.now) (n - 1) (rec_of 0 [])).key) c.count-n.ensures) in
-    e ∙ on-page (goal.at.returns c).After-page_of-page _ (leaf-ends a.only a.lo a.hi a.own c.page_of-page.result.now (page-is (goal.at.returns c).Else-not-page_ok) (rec_of 0 []) (omega (arith, c.count-n.ensures, c.if-n-eq0.false)) (omega (arith, c.key_at.ensures, c.if-key_at-lo.false)))
+    let e : ltb c.key_at-2.result a.hi ≡ ltb (get_or (records c.page_of-bytes.result.now) (length (records c.page_of-bytes.result.now) - 1) (rec_of 0 [])).key a.hi =
+    ap (λ (k : ℕ). ltb k a.hi) (c.key_at-2.ensures ∙ ap (λ (n : ℕ). (get_or (records c.page_of-bytes.result.now) (n - 1) (rec_of 0 [])).key) c.count-n.ensures) in
+    e ∙ on-page (goal.at.returns c).After-page_of-bytes _ (leaf-ends a.only a.lo a.hi a.own c.page_of-bytes.result.now (page-is (goal.at.returns c).Else-not-page_ok) (rec_of 0 []) (omega (arith, c.count-n.ensures, c.if-n-eq0.false)) (omega (arith, c.key_at.ensures, c.if-key_at-lo.false)))

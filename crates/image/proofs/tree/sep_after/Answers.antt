@@ -11,14 +11,14 @@ use Rattle.image.proofs.CodeTree.{sep-here, sep-end}
 use Rattle.image.proofs.tree.sep_after.Goals as goal
 
 pub overflow_add-i : goal.overflow_add-i
-overflow_add-i c = omega (arith, few-listed c.args.page.now c.requires.0)
+overflow_add-i c = omega (arith, few-listed _ c.args.page.laid)
 
 pub returns-then-i-count : goal.returns-then-i-count
 returns-then-i-count c =
     let a = c.args in
-    c.key_at.ensures ∙ sym (sep-here (records a.page.now) (a.i + 1) (rec_of 0 []) a.end (omega (arith, c.count.ensures, c.if-i-count.true)))
+    c.key_at.ensures ∙ sym (sep-here (records a.page.bytes.now) (a.i + 1) (rec_of 0 []) a.end (omega (arith, c.count.ensures, c.if-i-count.true)))
 
 pub returns : goal.returns
 returns c =
     let a = c.args in
-    sym (sep-end (records a.page.now) (a.i + 1) a.end (omega (arith, c.count.ensures, c.if-i-count.false)))
+    sym (sep-end (records a.page.bytes.now) (a.i + 1) a.end (omega (arith, c.count.ensures, c.if-i-count.false)))

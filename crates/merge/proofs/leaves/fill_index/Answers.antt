@@ -4,7 +4,7 @@ use Prim.Native.Nat.{ℕ, ◌≤◌}
 use mathlib.Core.Path.{◌∙◌}
 use Rattle.page.specs.Layout.{top_key}
 use Rattle.page_edit.proofs.Filled.{left-all, left-room, left-next, left-none, filled-page}
-use Rattle.image.proofs.CodePages.{All-at}
+use Rattle.page.proofs.Listed.{All-at}
 use Rattle.merge.proofs.Indexed.{named-next, named-none, index-room}
 use Rattle.merge.proofs.leaves.fill_index.Goals as goal
 

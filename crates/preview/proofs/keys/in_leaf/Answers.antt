@@ -9,8 +9,8 @@ use native.Mathlib.Omega.{arith}
 use lib.ListN.{length, get_or, set}
 use borrow.Author.Tests.{not-true, not-false}
 use Rattle.page.specs.Layout.{page_size, leaf_kind}
-use Rattle.page.specs.Page.{records, laid_out, keys_rise}
 use Rattle.page.specs.Operations.{page_of}
+use Rattle.page.specs.PageFormat.{PageOk}
 use Rattle.page.proofs.Facts.{page_ok-true}
 use Rattle.image.specs.Descent.{leaf_for, leaf_sound}
 use Rattle.image.specs.declared.Place.{Place}
@@ -34,17 +34,11 @@ few c =
     omega (arith, c.requires.1.enough, leaf-few c.args.image.now c.args.root c.requires.0 c.args.key c.leaf_for-leaf.result c.leaf_for-leaf.ensures)
 
 -- a page that is the sound leaf's
-page-good : (img : List ℕ) (root k : ℕ) (leaf : Place) → leaf ≡ leaf_for img root k → leaf_sound img root (leaf_for img root k) ≡ true → (p : List ℕ) → p ≡ page_of img leaf.page →
-    (laid_out p ≡ true) × (keys_rise (records p) ≡ true)
-page-good img root k leaf e h p f =
-    let t = page_ok-true leaf_kind leaf.page (page_of img leaf.page) (sound-page img root leaf (ap (leaf_sound img root) e ∙ h)) in
-    (ap laid_out f ∙ t.laid, ap (λ (q : List ℕ). keys_rise (records q)) f ∙ t.rise)
+page-good : (img : List ℕ) (root k : ℕ) (leaf : Place) → leaf ≡ leaf_for img root k → leaf_sound img root (leaf_for img root k) ≡ true → PageOk leaf_kind leaf.page (page_of img leaf.page)
+page-good img root k leaf e h = page_ok-true leaf_kind leaf.page (page_of img leaf.page) (sound-page img root leaf (ap (leaf_sound img root) e ∙ h))
 
 pub bounds-judged-own : goal.bounds-judged-own
 bounds-judged-own c = few (goal.at.bounds-judged-own c).After-leaf_for-leaf
-
-pub page_of-requires : goal.page_of-requires
-page_of-requires c = fits (goal.at.page_of-requires c).After-leaf_for-leaf
 
 marked : (c : Then-judged-own-ne0) →
     let a = c.args in
@@ -52,12 +46,16 @@ marked : (c : Then-judged-own-ne0) →
 marked c =
     c.requires.1.only-sound c.args.key (λ z. c.if-judged-own-ne0.true (ap (λ (p : Place). get_or c.args.judged.now p.page 0) c.leaf_for-leaf.ensures ∙ z))
 
+pub laid_page-requires : goal.laid_page-requires
+laid_page-requires c =
+    (fits (goal.at.laid_page-requires c).After-leaf_for-leaf, (page-good _ _ _ _ c.leaf_for-leaf.ensures (marked (goal.at.laid_page-requires c).Then-judged-own-ne0)).laid)
+
 pub in_page-requires : goal.in_page-requires
-in_page-requires c = page-good _ _ _ _ c.leaf_for-leaf.ensures (marked (goal.at.in_page-requires c).Then-judged-own-ne0) _ c.page_of.ensures
+in_page-requires c = rw c.laid_page.ensures (page-good _ _ _ _ c.leaf_for-leaf.ensures (marked (goal.at.in_page-requires c).Then-judged-own-ne0)).rise
 
 pub returns-then-judged-own-ne0 : goal.returns-then-judged-own-ne0
 returns-then-judged-own-ne0 c =
-    let a = c.args in record { value = ap Ok c.in_page.ensures ∙ sound-presence a.image.now a.root a.key (marked (goal.at.returns-then-judged-own-ne0 c).Then-judged-own-ne0) _ (c.page_of.ensures ∙ ap (λ (p : Place). page_of a.image.now p.page) c.leaf_for-leaf.ensures); marks = c.requires.1 }
+    let a = c.args in record { value = ap Ok c.in_page.ensures ∙ sound-presence a.image.now a.root a.key (marked (goal.at.returns-then-judged-own-ne0 c).Then-judged-own-ne0) _ (c.laid_page.ensures ∙ ap (λ (p : Place). page_of a.image.now p.page) c.leaf_for-leaf.ensures); marks = c.requires.1 }
 
 pub leaf_sound-requires : goal.leaf_sound-requires
 leaf_sound-requires c = (c.requires.0, fits (goal.at.leaf_sound-requires c).After-leaf_for-leaf)
@@ -69,9 +67,6 @@ returns-then-not-leaf_sound c =
 pub bounds-judged-own-2 : goal.bounds-judged-own-2
 bounds-judged-own-2 c = few (goal.at.bounds-judged-own-2 c).After-leaf_for-leaf
 
-pub page_of-requires-2 : goal.page_of-requires-2
-page_of-requires-2 c = fits (goal.at.page_of-requires-2 c).After-leaf_for-leaf
-
 judged : (c : Else-not-leaf_sound) →
     let a = c.args in
     leaf_sound a.image.now a.root (leaf_for a.image.now a.root a.key) ≡ true
@@ -79,14 +74,18 @@ judged c =
     let a = c.args in
     ap (leaf_sound a.image.now a.root) (sym c.leaf_for-leaf.ensures) ∙ sym c.leaf_sound.ensures ∙ not-false _ c.if-not-leaf_sound.false-raw
 
+pub laid_page-requires-2 : goal.laid_page-requires-2
+laid_page-requires-2 c =
+    (fits (goal.at.laid_page-requires-2 c).After-leaf_for-leaf, (page-good _ _ _ _ c.leaf_for-leaf.ensures (judged (goal.at.laid_page-requires-2 c).Else-not-leaf_sound)).laid)
+
 pub in_page-requires-2 : goal.in_page-requires-2
-in_page-requires-2 c = page-good _ _ _ _ c.leaf_for-leaf.ensures (judged (goal.at.in_page-requires-2 c).Else-not-leaf_sound) _ c.page_of-2.ensures
+in_page-requires-2 c = rw c.laid_page-2.ensures (page-good _ _ _ _ c.leaf_for-leaf.ensures (judged (goal.at.in_page-requires-2 c).Else-not-leaf_sound)).rise
 
 pub returns : goal.returns
 returns c =
     let a = c.args in
     record {
-      value = ap Ok c.in_page-2.ensures ∙ sound-presence a.image.now a.root a.key (judged (goal.at.returns c).Else-not-leaf_sound) _ (c.page_of-2.ensures ∙ ap (λ (p : Place). page_of a.image.now p.page) c.leaf_for-leaf.ensures);
+      value = ap Ok c.in_page-2.ensures ∙ sound-presence a.image.now a.root a.key (judged (goal.at.returns c).Else-not-leaf_sound) _ (c.laid_page-2.ensures ∙ ap (λ (p : Place). page_of a.image.now p.page) c.leaf_for-leaf.ensures);
       marks = subst (λ (p : Place). Marks a.image.now a.root (set a.judged.now p.page 1)) (sym c.leaf_for-leaf.ensures)
           (marks-set a.image.now a.root (call-opened _ _ c.requires.0).index a.judged.now c.requires.1 a.key (judged (goal.at.returns c).Else-not-leaf_sound));
     }

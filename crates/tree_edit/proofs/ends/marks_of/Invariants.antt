@@ -10,4 +10,4 @@ use Rattle.tree_edit.proofs.ends.marks_of.Given as goal
 
 abbrev pub invariant-loop-i : goal.invariant-loop-i
 invariant-loop-i l =
-    record { long : length l.marks ≡ 64; left : Marking l.marks (drop l.i (records l.page)) (reached l.image l.root); most : (p : ℕ) → get_or l.marks p 0 ≤ 1 }
+    record { long : length l.marks ≡ 64; left : Marking l.marks (drop l.i (records l.page.bytes.now)) (reached l.image l.root); most : (p : ℕ) → get_or l.marks p 0 ≤ 1 }

@@ -11,11 +11,11 @@ use Rattle.tree_edit.proofs.Room.{full-bytes, full-count, full-not}
 use Rattle.tree_edit.proofs.pages.is_full.Goals as goal
 
 pub number_at-requires : goal.number_at-requires
-number_at-requires c = omega (arith, (ok-is _ c.requires).body.whole)
+number_at-requires c = omega (arith, (ok-is _ c.args.page.laid).body.whole)
 
 pub overflow_sub-number_at : goal.overflow_sub-number_at
 unfolding read_head
-overflow_sub-number_at c = omega (arith, c.number_at.ensures.0, (ok-is _ c.requires).body.head.low)
+overflow_sub-number_at c = omega (arith, c.number_at.ensures.0, (ok-is _ c.args.page.laid).body.head.low)
 
 pub returns-then-number_at-s : goal.returns-then-number_at-s
 returns-then-number_at-s c =

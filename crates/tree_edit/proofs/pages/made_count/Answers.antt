@@ -5,4 +5,4 @@ use Rattle.page.proofs.Listed.{few-listed}
 use Rattle.tree_edit.proofs.pages.made_count.Goals as goal
 
 pub overflow_add-result : goal.overflow_add-result
-overflow_add-result c = grind (arith, few-listed c.args.page.now c.requires)
+overflow_add-result c = grind (arith, few-listed _ c.args.page.laid)

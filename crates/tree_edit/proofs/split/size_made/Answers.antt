@@ -25,7 +25,7 @@ slot_is c =
 
 pub size_at-requires : goal.size_at-requires
 size_at-requires c =
-    (c.requires.0.ok, old-less c.requires.0 _ c.requires.1 c.if-k-new.false _ (slot_is (goal.at.size_at-requires c).Joined-new))
+    (old-less c.requires.0 _ c.requires.1 c.if-k-new.false _ (slot_is (goal.at.size_at-requires c).Joined-new))
 
 pub returns : goal.returns
 returns c =

@@ -7,7 +7,7 @@ use Rattle.tree_edit.proofs.Sized.{Searched}
 use Rattle.tree_edit.proofs.split.split_point.Given as goal
 
 abbrev pub invariant-loop-seen : goal.invariant-loop-seen
-invariant-loop-seen l = Searched (made_by l.new l.value l.page) l.total l.seen l.m
+invariant-loop-seen l = Searched (made_by l.new l.value l.page.bytes.now) l.total l.seen l.m
 
 abbrev pub decreases-loop-seen : goal.decreases-loop-seen
-decreases-loop-seen l = length (made_by l.new l.value l.page) - l.m
+decreases-loop-seen l = length (made_by l.new l.value l.page.bytes.now) - l.m

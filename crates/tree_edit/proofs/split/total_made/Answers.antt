@@ -9,7 +9,7 @@ use Rattle.tree_edit.proofs.split.total_made.Goals as goal
 use Rattle.tree_edit.proofs.split.total_made.Goals.{In-loop-k}
 
 -- one record more is left
-left : (c : In-loop-k) → let a = c.args in c.loop-k.k < length (made_by a.new a.value.now a.page.now)
+left : (c : In-loop-k) → let a = c.args in c.loop-k.k < length (made_by a.new a.value.now a.page.bytes.now)
 left c = omega (arith, c.loop-k-test.true, c.made_count-k-end.ensures, made-listed c.requires)
 
 pub size_made-sum-requires : goal.size_made-sum-requires
@@ -26,4 +26,4 @@ loop-k-preserved c =
 pub returns : goal.returns
 returns c =
     let l = c.loop-k in
-    omega (arith, l.invariant, sizes-none (made_by c.args.new c.args.value.now c.args.page.now) l.k (omega (arith, c.loop-k-test.false, c.made_count-k-end.ensures, made-listed c.requires)))
+    omega (arith, l.invariant, sizes-none (made_by c.args.new c.args.value.now c.args.page.bytes.now) l.k (omega (arith, c.loop-k-test.false, c.made_count-k-end.ensures, made-listed c.requires)))

@@ -8,4 +8,4 @@ use Rattle.tree_edit.specs.Steps.{made_by}
 use Rattle.tree_edit.proofs.split.total_made.Given as goal
 
 abbrev pub invariant-loop-k : goal.invariant-loop-k
-invariant-loop-k l = l.sum + sizes (drop l.k (made_by l.new l.value l.page)) ≡ sizes (made_by l.new l.value l.page)
+invariant-loop-k l = l.sum + sizes (drop l.k (made_by l.new l.value l.page.bytes.now)) ≡ sizes (made_by l.new l.value l.page.bytes.now)

@@ -6,20 +6,19 @@ use mathlib.Core.List.{List, []}
 use native.Mathlib.Omega.{arith}
 use lib.ListN.{length, get_or}
 use Rattle.page.specs.Layout.{rec_of}
-use Rattle.page.specs.Page.{records, laid_out}
+use Rattle.page.specs.Page.{records}
 use Rattle.page.specs.Operations.{page_of}
 use Rattle.merge.proofs.Standing.{leaf-asked, leaf-fits, leaf-laid, empty-last, left-none, left-leaf, stands-end, stands_at}
 use Rattle.merge.proofs.books.Book.on_leaf.Goals as goal
 use Rattle.merge.proofs.books.Book.on_leaf.Goals.{After-count}
 
 listed : (c : After-count) → c.count.result ≡ length (records (page_of c.args.self.now.image.now c.args.page))
-listed c = c.count.ensures ∙ ap (λ (p : List ℕ). length (records p)) c.page_of-p.ensures
+listed c = c.count.ensures ∙ ap (λ (p : List ℕ). length (records p)) c.laid_page-p.ensures
 
-pub page_of-p-requires : goal.page_of-p-requires
-page_of-p-requires c = leaf-fits (leaf-asked _ _ _ c.args.self.now.is_sound c.requires)
-
-pub count-requires : goal.count-requires
-count-requires c = ap laid_out c.page_of-p.ensures ∙ leaf-laid (leaf-asked _ _ _ c.args.self.now.is_sound c.requires)
+pub laid_page-p-requires : goal.laid_page-p-requires
+laid_page-p-requires c =
+    let f = leaf-asked _ _ _ c.args.self.now.is_sound c.requires in
+    (leaf-fits f, leaf-laid f)
 
 pub returns-then-count-eq0 : goal.returns-then-count-eq0
 returns-then-count-eq0 c =
@@ -28,10 +27,9 @@ returns-then-count-eq0 c =
     (stands-end f 0 _ refl (left-none f 0 _ (omega (arith, n, c.if-count-eq0.true)) (empty-last f (omega (arith, n, c.if-count-eq0.true)))), left-leaf f _)
 
 pub key_at-key-requires : goal.key_at-key-requires
-key_at-key-requires c =
-    (ap laid_out c.page_of-p.ensures ∙ leaf-laid (leaf-asked _ _ _ c.args.self.now.is_sound c.requires), omega (arith, c.count.ensures, c.if-count-eq0.false))
+key_at-key-requires c = omega (arith, c.count.ensures, c.if-count-eq0.false)
 
 pub returns-else-count-eq0 : goal.returns-else-count-eq0
 returns-else-count-eq0 c =
     let f = leaf-asked _ _ _ c.args.self.now.is_sound c.requires in
-    (stands_at f 0 _ (omega (arith, listed (goal.at.returns-else-count-eq0 c).After-count, c.if-count-eq0.false)) (c.key_at-key.ensures ∙ ap (λ (p : List ℕ). (get_or (records p) 0 (rec_of 0 [])).key) c.page_of-p.ensures), left-leaf f _)
+    (stands_at f 0 _ (omega (arith, listed (goal.at.returns-else-count-eq0 c).After-count, c.if-count-eq0.false)) (c.key_at-key.ensures ∙ ap (λ (p : List ℕ). (get_or (records p) 0 (rec_of 0 [])).key) c.laid_page-p.ensures), left-leaf f _)

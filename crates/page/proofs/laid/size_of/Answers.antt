@@ -2,7 +2,7 @@
 -- Assumes nothing.
 use native.Mathlib.Omega.{arith}
 use Rattle.page.specs.Layout.{up8}
-use Rattle.image.proofs.pages.size_of.Goals as goal
+use Rattle.page.proofs.laid.size_of.Goals as goal
 
 pub returns : goal.returns
 unfolding up8

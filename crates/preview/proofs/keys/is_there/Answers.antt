@@ -11,8 +11,8 @@ returns-in-None c = record { value = c.in_leaf.ensures.value ∙ rw (sym c.in-No
 
 pub returns-in-Some-eq3 : goal.returns-in-Some-eq3
 unfolding there_by
-returns-in-Some-eq3 c = record { value = rw (sym c.in-Some-eq3.ensures, c.in-Some-eq3.field-0-test); marks = c.requires.1 }
+returns-in-Some-eq3 c = record { value = rw (sym c.in-Some-eq3.ensures, c.in-Some-eq3.field-0-test); marks = c.requires }
 
 pub returns-in-Some : goal.returns-in-Some
 unfolding there_by
-returns-in-Some c = record { value = rw (sym c.in-Some.ensures, ne_eqb _ 3 c.in-Some.field-0-test.1); marks = c.requires.1 }
+returns-in-Some c = record { value = rw (sym c.in-Some.ensures, ne_eqb _ 3 c.in-Some.field-0-test.1); marks = c.requires }

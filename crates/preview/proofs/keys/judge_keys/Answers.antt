@@ -17,7 +17,7 @@ use Rattle.preview.proofs.keys.judge_keys.Goals.{After-is_there}
 
 pub loop-at-init : goal.loop-at-init
 loop-at-init c =
-    (omega arith, refl, upto-start (records_for c.args.image.now c.args.root) c.args.list.now _ _ c.requires.1, marks-none c.args.image.now c.args.root)
+    (omega arith, refl, upto-start (records_for c.args.index.now.image.now c.args.index.now.root) c.args.list.now _ _ c.requires, marks-none c.args.index.now.image.now c.args.index.now.root)
 
 pub long_at-key-requires : goal.long_at-key-requires
 long_at-key-requires c = omega (arith, head-fits c.loop-at.invariant.2.ahead c.loop-at-test.true _ refl)
@@ -26,7 +26,7 @@ long_at-key-requires c = omega (arith, head-fits c.loop-at.invariant.2.ahead c.l
 says : (c : After-is_there) (there : Result Bool Refusal) → c.is_there.result ≡ there →
     let l = c.loop-at in
     let a = c.args in
-    fault_by l.n (eqb (get_or a.list.now l.at 0) 1) there ≡ fault_by l.n (eqb (get_or a.list.now l.at 0) 1) (there_by (kind_noted (take l.n l.noted) c.long_at-key.result) (presence c.long_at-key.result (records_for a.image.now a.root c.long_at-key.result)))
+    fault_by l.n (eqb (get_or a.list.now l.at 0) 1) there ≡ fault_by l.n (eqb (get_or a.list.now l.at 0) 1) (there_by (kind_noted (take l.n l.noted) c.long_at-key.result) (presence c.long_at-key.result (records_for a.index.now.image.now a.index.now.root c.long_at-key.result)))
 says c there is = ap (fault_by c.loop-at.n (eqb (get_or c.args.list.now c.loop-at.at 0) 1)) (sym is ∙ c.is_there.ensures.value)
 
 pub returns-in_err-there : goal.returns-in_err-there

@@ -57,7 +57,12 @@ fn in_leaf(index: &Indexed<'_>, judged: &mut [u8], key: u64) -> Result<bool, Ref
 }
 
 // Whether a key is there after the edits that are noted: as the last of them that has it leaves it, else as the image has it.
-fn is_there(index: &Indexed<'_>, judged: &mut [u8], noted: &[Noted], key: u64) -> Result<bool, Refusal>
+fn is_there(
+    index: &Indexed<'_>,
+    judged: &mut [u8],
+    noted: &[Noted],
+    key: u64,
+) -> Result<bool, Refusal>
     requires { Marks index.now.image.now index.now.root judged.old }
     ensures value { result ≡ there_by (kind_noted noted.now key) (presence key (records_for index.now.image.now index.now.root key)) }
     ensures marks { Marks index.now.image.now index.now.root judged.new }

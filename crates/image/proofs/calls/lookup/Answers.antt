@@ -1,9 +1,8 @@
 -- `lookup`: page 0 and the index, then the leaf, then the key's range.
 -- Assumes nothing.
-use Rattle.std.specs.Prelude.{Ok, Err}
 use Rattle.std.proofs.lemmas.Result.{err_from_is_err_and}
-use mathlib.Core.Path.{sym, ap, ◌∙◌}
-use Rattle.image.specs.Calls.{ranged, leaf_lookup, lookup_from, lookup_call}
+use mathlib.Core.Path.{sym, ◌∙◌}
+use Rattle.image.specs.Calls.{ranged, lookup_from, lookup_call}
 use Rattle.image.proofs.calls.lookup.Goals as goal
 
 pub returns-in_err-index_in : goal.returns-in_err-index_in

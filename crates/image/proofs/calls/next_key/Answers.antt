@@ -1,7 +1,7 @@
 -- `next_key`: page 0 and the index, then the descent.
 -- Assumes nothing.
 use Rattle.std.proofs.lemmas.Result.{err_from_is_err_and}
-use mathlib.Core.Path.{sym, ◌∙◌}
+use mathlib.Core.Path.{◌∙◌}
 use Rattle.image.specs.Calls.{next_from, next_call}
 use Rattle.image.proofs.calls.next_key.Goals as goal
 

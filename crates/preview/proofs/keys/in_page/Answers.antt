@@ -1,7 +1,7 @@
 -- `in_page`: a search finds the key, or not.
 -- Assumes nothing.
-use Rattle.std.specs.Prelude.{Bool, ◌≡◌, ℕ, Result, Ok, Err, is_ok}
-use mathlib.Core.Path.{refl, sym, ap, ◌∙◌}
+use Rattle.std.specs.Prelude.{◌≡◌, ℕ, Result, Ok, Err, is_ok}
+use mathlib.Core.Path.{refl, sym, ◌∙◌}
 use Rattle.edit.specs.Keys.{holds}
 use Rattle.page.specs.Page.{records}
 use Rattle.preview.proofs.Judging.{search-present, search-absent}

@@ -40,7 +40,6 @@ returns-in_err-key_fault c =
     let p = err_from_is_err_and c.from_residual-in_err-key_fault.result c.from_residual-in_err-key_fault.ensures.1 in
     rw (p.1, p.2) (upto-stop c.loop-at.invariant.2 c.loop-at-test.true _ refl _ c.long_at-key.ensures _ refl _ (sym c.in_err-key_fault.was ∙ c.key_fault.ensures ∙ says (goal.at.returns-in_err-key_fault c).After-is_there _ c.in_ok-there.was) _ refl)
 
-
 pub bounds-list-at-in-loop-at : goal.bounds-list-at-in-loop-at
 bounds-list-at-in-loop-at c = omega (arith, head-fits c.loop-at.invariant.2.ahead c.loop-at-test.true _ refl)
 

@@ -1,7 +1,7 @@
 -- `see`: what the edits that are left make of what is seen so far, or of the image's answer, is what all of them make of the image's answer.
 -- Assumes nothing.
 use Rattle.std.proofs.lemmas.Result.{err_from_is_err_and}
-use Rattle.std.specs.Prelude.{Ok, Some, None, MatchOption, IsSomeAnd, Option, Result}
+use Rattle.std.specs.Prelude.{Ok, Some, None, MatchOption, IsSomeAnd, Option}
 use Prim.Native.Nat.{◌+◌, ◌≤◌}
 use mathlib.Core.Path.{◌≡◌, refl, sym, ap, ◌∙◌}
 use native.Mathlib.Omega.{arith}
@@ -9,7 +9,6 @@ use lib.ListN.{length}
 use Rattle.preview.specs.declared.Preview.{Preview}
 use Rattle.preview.specs.declared.Preview.TheVariants.{InImage}
 use Rattle.image.specs.declared.Part.{Part}
-use Rattle.device.specs.declared.Refusal.{Refusal}
 use Rattle.image.specs.Calls.{leaf_lookup}
 use Rattle.edit.specs.EditList.{edits_of, edit_list}
 use Rattle.edit.proofs.Parsing.{list-whole}

@@ -52,16 +52,18 @@ marked c =
 pub in_page-requires : goal.in_page-requires
 in_page-requires c = page-good _ _ _ _ c.leaf_for-leaf.ensures (marked (goal.at.in_page-requires c).Then-judged-own-ne0) _ c.page_of.ensures
 
-pub returns-then-judged-own-ne0 : goal.returns-then-judged-own-ne0
-returns-then-judged-own-ne0 c =
-    let a = c.args in record { value = ap Ok c.in_page.ensures ∙ sound-presence a.index.now.image.now a.index.now.root a.key (marked (goal.at.returns-then-judged-own-ne0 c).Then-judged-own-ne0) _ (c.page_of.ensures ∙ ap (λ (p : Place). page_of a.index.now.image.now p.page) c.leaf_for-leaf.ensures); marks = c.requires }
+pub returns-then-judged-own-ne0-clause-value : goal.returns-then-judged-own-ne0-clause-value
+returns-then-judged-own-ne0-clause-value c =
+    let a = c.args in
+    ap Ok c.in_page.ensures ∙ sound-presence a.index.now.image.now a.index.now.root a.key (marked (goal.at.returns-then-judged-own-ne0-clause-value c).Then-judged-own-ne0) _ (c.page_of.ensures ∙ ap (λ (p : Place). page_of a.index.now.image.now p.page) c.leaf_for-leaf.ensures)
 
 pub leaf_sound-requires : goal.leaf_sound-requires
 leaf_sound-requires c = fits (goal.at.leaf_sound-requires c).After-leaf_for-leaf
 
-pub returns-then-not-leaf_sound : goal.returns-then-not-leaf_sound
-returns-then-not-leaf_sound c =
-    let a = c.args in record { value = ap Err c.of.ensures ∙ unsound-presence a.index.now.image.now a.index.now.root a.key (ap (leaf_sound a.index.now.image.now a.index.now.root) (sym c.leaf_for-leaf.ensures) ∙ sym c.leaf_sound.ensures ∙ not-true _ c.if-not-leaf_sound.true-raw); marks = c.requires }
+pub returns-then-not-leaf_sound-clause-value : goal.returns-then-not-leaf_sound-clause-value
+returns-then-not-leaf_sound-clause-value c =
+    let a = c.args in
+    ap Err c.of.ensures ∙ unsound-presence a.index.now.image.now a.index.now.root a.key (ap (leaf_sound a.index.now.image.now a.index.now.root) (sym c.leaf_for-leaf.ensures) ∙ sym c.leaf_sound.ensures ∙ not-true _ c.if-not-leaf_sound.true-raw)
 
 pub bounds-judged-own-2 : goal.bounds-judged-own-2
 bounds-judged-own-2 c = few (goal.at.bounds-judged-own-2 c).After-leaf_for-leaf

@@ -37,17 +37,8 @@ overflow_add-at-in-loop-at c = omega (arith, head-fits c.loop-at.invariant.1 c.l
 pub long_at-requires : goal.long_at-requires
 long_at-requires c = omega (arith, head-fits c.loop-at.invariant.1 c.loop-at-test.true _ c.wide-n.ensures.0)
 
-pub bounds-list-at-then-long_at-key : goal.bounds-list-at-then-long_at-key
-bounds-list-at-then-long_at-key c = omega arith
-
 fits : (c : Joined-long_at-key) → c.loop-at.at + 10 + c.wide-n.result ≤ length c.args.list.now
 fits c = head-fits c.loop-at.invariant.1 c.loop-at-test.true _ c.wide-n.ensures.0
-
-pub overflow_add-at-in-loop-at-2 : goal.overflow_add-at-in-loop-at-2
-overflow_add-at-in-loop-at-2 c = omega (arith, fits (goal.at.overflow_add-at-in-loop-at-2 c).Joined-long_at-key)
-
-pub loop-at-smaller : goal.loop-at-smaller
-loop-at-smaller c = omega (arith, fits (goal.at.loop-at-smaller c).Joined-long_at-key)
 
 pub loop-at-preserved : goal.loop-at-preserved
 loop-at-preserved c =

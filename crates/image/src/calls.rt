@@ -1,8 +1,8 @@
 // The calls: format, check, lookup with its companion, and next key.
-ghost use Rattle.std.specs.Prelude.{◌≡◌, Ok};
+ghost use Rattle.std.specs.Prelude.{◌≡◌, Ok, Err, MatchResult};
 ghost use Rattle.image.specs.Calls.{format_call, root_call, index_call, check_call, ranged, lookup_call, value_call, next_call};
 
-use crate::descent::{find_key, next_above};
+use crate::descent::Indexed;
 use crate::format::put_fresh;
 use crate::page_zero::page_zero;
 use crate::pages::TOP_KEY;
@@ -36,15 +36,15 @@ pub fn root_in(image: &[u8]) -> Result<usize, Refusal>
     }
 }
 
-// The root, by page 0 and the index: what every reading call reads first.
-pub fn index_in(image: &[u8]) -> Result<usize, Refusal>
-    ensures { result ≡ index_call image.now }
+// The image with its root, by page 0 and the index: what every reading call reads first.
+pub fn index_in(image: &[u8]) -> Result<Indexed<'_>, Refusal>
+    ensures { MatchResult result (λ x. (x.image.now ≡ image.now) × (index_call image.now ≡ Ok x.root)) (λ e. index_call image.now ≡ Err e) }
 {
     let root = root_in(image)?;
     if !index_ok(image, root) {
         return Err(Refusal::of(Cause::Unsound));
     }
-    Ok(root)
+    Ok(Indexed { image, root })
 }
 
 // Whether an image is sound.
@@ -75,8 +75,7 @@ fn ranged(key: u64, found: Option<Part>) -> Result<Option<Part>, Refusal>
 pub fn lookup(image: &[u8], key: u64) -> Result<Option<Part>, Refusal>
     ensures { result ≡ lookup_call image.now key }
 {
-    let root = index_in(image)?;
-    let found = find_key(image, root, key)?;
+    let found = index_in(image)?.find_key(key)?;
     ranged(key, found)
 }
 
@@ -98,6 +97,5 @@ pub fn value(image: &[u8], key: u64) -> &[u8]
 pub fn next_key(image: &[u8], key: u64) -> Result<Option<u64>, Refusal>
     ensures { result ≡ next_call image.now key }
 {
-    let root = index_in(image)?;
-    next_above(image, root, key)
+    index_in(image)?.next_above(key)
 }

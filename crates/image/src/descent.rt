@@ -14,6 +14,14 @@ use crate::{Part, Place, pages};
 use device::{Cause, Refusal};
 use page::laid::Page;
 
+// An image whose page 0 and index were read and found sound, with the number of its root.
+#[derive(Clone, Copy)]
+pub struct Indexed<'a> {
+    pub image: &'a [u8],
+    pub root: usize,
+    pub ghost is_opened: { index_call image.now ≡ Ok root },
+}
+
 // The root page's number.
 pub fn root_of(image: &[u8]) -> usize
     requires { 16 ≤ length image.now }
@@ -62,28 +70,6 @@ pub fn down(page: &[u8], at: Place, key: u64) -> Place
     }
 }
 
-// The leaf that a key belongs to.
-pub fn leaf_for(image: &[u8], root: usize, key: u64) -> Place
-    requires { index_call image.now ≡ Ok root }
-    ensures { result ≡ leaf_for image.now root key }
-{
-    let top = Place {
-        page: root,
-        from: 0,
-        below: pages::KEYS_END,
-    };
-    down(pages::page_of(image, root), top, key)
-}
-
-// Whether the leaf at a place is sound.
-pub fn leaf_sound(image: &[u8], root: usize, leaf: Place) -> bool
-    requires { (index_call image.now ≡ Ok root) × (page_size * leaf.page + page_size ≤ length image.now) }
-    ensures { result ≡ leaf_sound image.now root leaf }
-{
-    let only = pages::laid_page(image, root).count() == 1;
-    leaf_ok(image, only, leaf.from, leaf.below, leaf.page)
-}
-
 // Looks a key up in a leaf.
 pub fn find_in(page: &[u8], own: usize, key: u64) -> Option<Part>
     requires { page_ok leaf_kind own page.now ≡ true }
@@ -102,18 +88,6 @@ pub fn find_in(page: &[u8], own: usize, key: u64) -> Option<Part>
     }
 }
 
-// Judges the one leaf that a key belongs to, and looks the key up in it.
-pub fn find_key(image: &[u8], root: usize, key: u64) -> Result<Option<Part>, Refusal>
-    requires { index_call image.now ≡ Ok root }
-    ensures { result ≡ leaf_lookup image.now root key }
-{
-    let leaf = leaf_for(image, root, key);
-    if !leaf_sound(image, root, leaf) {
-        return Err(Refusal::of(Cause::Unsound));
-    }
-    Ok(find_in(pages::page_of(image, leaf.page), leaf.page, key))
-}
-
 // The smallest key of a page above a key that is not the largest: the first that is not below the number after it.
 pub fn next_in(page: Page, key: u64) -> Option<u64>
     requires { key < top_key }
@@ -130,29 +104,62 @@ pub fn next_in(page: Page, key: u64) -> Option<u64>
     }
 }
 
-// Judges the leaf at a place, and takes its smallest key above a number.
-pub fn next_at(image: &[u8], root: usize, key: u64, leaf: Place) -> Result<Option<u64>, Refusal>
-    requires { (index_call image.now ≡ Ok root) × (page_size * leaf.page + page_size ≤ length image.now) }
-    ensures { result ≡ leaf_next image.now root key leaf }
-{
-    if !leaf_sound(image, root, leaf) {
-        return Err(Refusal::of(Cause::Unsound));
+impl Indexed<'_> {
+    // The leaf that a key belongs to.
+    pub fn leaf_for(&self, key: u64) -> Place
+        ensures { result ≡ leaf_for self.now.image.now self.now.root key }
+    {
+        let top = Place {
+            page: self.root,
+            from: 0,
+            below: pages::KEYS_END,
+        };
+        down(pages::page_of(self.image, self.root), top, key)
     }
-    if pages::TOP_KEY <= key {
-        return Ok(None);
-    }
-    Ok(next_in(pages::laid_page(image, leaf.page), key))
-}
 
-// The smallest key above a number: in the leaf that it belongs to, and only if that has none, in the leaf after it.
-pub fn next_above(image: &[u8], root: usize, key: u64) -> Result<Option<u64>, Refusal>
-    requires { index_call image.now ≡ Ok root }
-    ensures { result ≡ next_from image.now key (Ok root) }
-{
-    let leaf = leaf_for(image, root, key);
-    match next_at(image, root, key, leaf)? {
-        Some(next) => Ok(Some(next)),
-        None if pages::TOP_KEY < leaf.below => Ok(None),
-        None => next_at(image, root, key, leaf_for(image, root, leaf.below)),
+    // Whether the leaf at a place is sound.
+    pub fn leaf_sound(&self, leaf: Place) -> bool
+        requires { page_size * leaf.page + page_size ≤ length self.now.image.now }
+        ensures { result ≡ leaf_sound self.now.image.now self.now.root leaf }
+    {
+        let only = pages::laid_page(self.image, self.root).count() == 1;
+        leaf_ok(self.image, only, leaf.from, leaf.below, leaf.page)
+    }
+
+    // Judges the one leaf that a key belongs to, and looks the key up in it.
+    pub fn find_key(&self, key: u64) -> Result<Option<Part>, Refusal>
+        ensures { result ≡ leaf_lookup self.now.image.now self.now.root key }
+    {
+        let leaf = self.leaf_for(key);
+        if !self.leaf_sound(leaf) {
+            return Err(Refusal::of(Cause::Unsound));
+        }
+        Ok(find_in(pages::page_of(self.image, leaf.page), leaf.page, key))
+    }
+
+    // Judges the leaf at a place, and takes its smallest key above a number.
+    pub fn next_at(&self, key: u64, leaf: Place) -> Result<Option<u64>, Refusal>
+        requires { page_size * leaf.page + page_size ≤ length self.now.image.now }
+        ensures { result ≡ leaf_next self.now.image.now self.now.root key leaf }
+    {
+        if !self.leaf_sound(leaf) {
+            return Err(Refusal::of(Cause::Unsound));
+        }
+        if pages::TOP_KEY <= key {
+            return Ok(None);
+        }
+        Ok(next_in(pages::laid_page(self.image, leaf.page), key))
+    }
+
+    // The smallest key above a number: in the leaf that it belongs to, and only if that has none, in the leaf after it.
+    pub fn next_above(&self, key: u64) -> Result<Option<u64>, Refusal>
+        ensures { result ≡ next_from self.now.image.now key (Ok self.now.root) }
+    {
+        let leaf = self.leaf_for(key);
+        match self.next_at(key, leaf)? {
+            Some(next) => Ok(Some(next)),
+            None if pages::TOP_KEY < leaf.below => Ok(None),
+            None => self.next_at(key, self.leaf_for(leaf.below)),
+        }
     }
 }

@@ -1,7 +1,7 @@
 // The calls: preview, and its companion that hands back the part itself.
-ghost use Rattle.std.specs.Prelude.{◌≡◌, Ok};
+ghost use Rattle.std.specs.Prelude.{◌≡◌};
 ghost use Rattle.image.specs.Descent.{records_for};
-ghost use Rattle.image.specs.Calls.{index_call, leaf_lookup};
+ghost use Rattle.image.specs.Calls.{leaf_lookup};
 ghost use Rattle.edit.specs.EditList.{listed, edits_of, edit_list};
 ghost use Rattle.preview.specs.Calls.{keys_of, list_of, preview_call, preview_value_call};
 
@@ -11,12 +11,13 @@ use crate::seen::see;
 use device::{Cause, Refusal};
 use edit::judge;
 use image::calls::index_in;
+use image::descent::Indexed;
 use image::pages::TOP_KEY;
 
 // Judges the key that is asked and the keys of a well-formed list, and looks the key up as after the list.
-fn look(image: &[u8], root: usize, edits: &[u8], key: u64) -> Result<Option<Preview>, Refusal>
-    requires { (index_call image.now ≡ Ok root) × (edit_list edits.now ≡ listed (edits_of (edit_list edits.now))) }
-    ensures { result ≡ keys_of (records_for image.now root) (leaf_lookup image.now root key) key (edits_of (edit_list edits.now)) }
+fn look(index: &Indexed<'_>, edits: &[u8], key: u64) -> Result<Option<Preview>, Refusal>
+    requires { edit_list edits.now ≡ listed (edits_of (edit_list edits.now)) }
+    ensures { result ≡ keys_of (records_for index.now.image.now index.now.root) (leaf_lookup index.now.image.now index.now.root key) key (edits_of (edit_list edits.now)) }
 {
     if key < 1 {
         return Err(Refusal::of(Cause::KeyRange));
@@ -24,25 +25,23 @@ fn look(image: &[u8], root: usize, edits: &[u8], key: u64) -> Result<Option<Prev
     if TOP_KEY < key {
         return Err(Refusal::of(Cause::KeyRange));
     }
-    judge_keys(image, root, edits)?;
-    see(image, root, edits, key)
+    judge_keys(index, edits)?;
+    see(index, edits, key)
 }
 
 // Judges the list, under a sound index.
-fn look_after(image: &[u8], root: usize, edits: &[u8], key: u64) -> Result<Option<Preview>, Refusal>
-    requires { index_call image.now ≡ Ok root }
-    ensures { result ≡ list_of (records_for image.now root) (leaf_lookup image.now root key) key (edit_list edits.now) }
+fn look_after(index: &Indexed<'_>, edits: &[u8], key: u64) -> Result<Option<Preview>, Refusal>
+    ensures { result ≡ list_of (records_for index.now.image.now index.now.root) (leaf_lookup index.now.image.now index.now.root key) key (edit_list edits.now) }
 {
     judge(edits)?;
-    look(image, root, edits, key)
+    look(index, edits, key)
 }
 
 // Where the value of a key would stand if the edits had been committed, or that the key would be missing.
 pub fn preview(image: &[u8], edits: &[u8], key: u64) -> Result<Option<Preview>, Refusal>
     ensures { result ≡ preview_call image.now edits.now key }
 {
-    let root = index_in(image)?;
-    look_after(image, root, edits, key)
+    look_after(&index_in(image)?, edits, key)
 }
 
 // The value itself, as a part of the edit list or of the image; empty if refused or missing.

@@ -3,13 +3,12 @@
 ghost use Rattle.std.specs.Prelude.{◌≡◌, true, Ok, ◌≤◌, eqb};
 ghost use Rattle.page.specs.Page.{records, keys_rise};
 ghost use Rattle.image.specs.Descent.{records_for};
-ghost use Rattle.image.specs.Calls.{index_call};
 ghost use Rattle.edit.specs.EditList.{listed, edits_of, edit_list};
 ghost use Rattle.edit.specs.Keys.{holds, keys_from};
 ghost use Rattle.preview.specs.Noted.{kind_noted, presence, there_by, fault_by, Marks};
 
 use device::{Cause, Refusal};
-use image::descent::{leaf_for, leaf_sound};
+use image::descent::Indexed;
 use image::pages::laid_page;
 use page::laid::Page;
 
@@ -40,37 +39,36 @@ fn in_page(page: Page, key: u64) -> bool
 }
 
 // Whether the image holds a key, by the leaf that it belongs to. A leaf that is found sound is marked by its page, and not judged again.
-fn in_leaf(image: &[u8], root: usize, judged: &mut [u8], key: u64) -> Result<bool, Refusal>
-    requires { (index_call image.now ≡ Ok root) × Marks image.now root judged.old }
-    ensures value { result ≡ presence key (records_for image.now root key) }
-    ensures marks { Marks image.now root judged.new }
+fn in_leaf(index: &Indexed<'_>, judged: &mut [u8], key: u64) -> Result<bool, Refusal>
+    requires { Marks index.now.image.now index.now.root judged.old }
+    ensures value { result ≡ presence key (records_for index.now.image.now index.now.root key) }
+    ensures marks { Marks index.now.image.now index.now.root judged.new }
 {
-    let leaf = leaf_for(image, root, key);
+    let leaf = index.leaf_for(key);
     let own = leaf.page;
     if judged[own] != 0 {
-        return Ok(in_page(laid_page(image, own), key));
+        return Ok(in_page(laid_page(index.image, own), key));
     }
-    if !leaf_sound(image, root, leaf) {
+    if !index.leaf_sound(leaf) {
         return Err(Refusal::of(Cause::Unsound));
     }
     judged[own] = 1;
-    Ok(in_page(laid_page(image, own), key))
+    Ok(in_page(laid_page(index.image, own), key))
 }
 
 // Whether a key is there after the edits that are noted: as the last of them that has it leaves it, else as the image has it.
 fn is_there(
-    image: &[u8],
-    root: usize,
+    index: &Indexed<'_>,
     judged: &mut [u8],
     noted: &[Noted],
     key: u64,
 ) -> Result<bool, Refusal>
-    requires { (index_call image.now ≡ Ok root) × Marks image.now root judged.old }
-    ensures value { result ≡ there_by (kind_noted noted.now key) (presence key (records_for image.now root key)) }
-    ensures marks { Marks image.now root judged.new }
+    requires { Marks index.now.image.now index.now.root judged.old }
+    ensures value { result ≡ there_by (kind_noted noted.now key) (presence key (records_for index.now.image.now index.now.root key)) }
+    ensures marks { Marks index.now.image.now index.now.root judged.new }
 {
     match kind_noted(noted, key) {
-        None => in_leaf(image, root, judged, key),
+        None => in_leaf(index, judged, key),
         Some(3) => Ok(false),
         Some(_) => Ok(true),
     }
@@ -99,9 +97,9 @@ fn key_fault(n: u8, kind: u8, there: bool) -> Result<(), Refusal>
 }
 
 // Judges the keys of a well-formed list, edit by edit. Key and kind of each are noted, so that the edits after it need not read the list again.
-pub(crate) fn judge_keys(image: &[u8], root: usize, list: &[u8]) -> Result<(), Refusal>
-    requires { (index_call image.now ≡ Ok root) × (edit_list list.now ≡ listed (edits_of (edit_list list.now))) }
-    ensures { result ≡ keys_from 0 (edits_of (edit_list list.now)) (records_for image.now root) }
+pub(crate) fn judge_keys(index: &Indexed<'_>, list: &[u8]) -> Result<(), Refusal>
+    requires { edit_list list.now ≡ listed (edits_of (edit_list list.now)) }
+    ensures { result ≡ keys_from 0 (edits_of (edit_list list.now)) (records_for index.now.image.now index.now.root) }
 {
     let mut noted = [Noted { key: 0, kind: 0 }; 16];
     let mut judged = [0u8; 64];
@@ -111,7 +109,7 @@ pub(crate) fn judge_keys(image: &[u8], root: usize, list: &[u8]) -> Result<(), R
     while at < list.len() {
         let kind = list[at];
         let key = codec::long_at(list, at + 2);
-        let there = is_there(image, root, &mut judged, &noted[..n], key)?;
+        let there = is_there(index, &mut judged, &noted[..n], key)?;
         key_fault(n as u8, kind, there)?;
         noted[n] = Noted { key, kind };
         n += 1;

@@ -1,14 +1,14 @@
 // What is seen of a key after a list of edits.
 ghost use Rattle.std.specs.Prelude.{◌≡◌, Ok, Some, None, eqb};
 ghost use Rattle.codec.specs.Lists.{pick};
-ghost use Rattle.image.specs.Calls.{index_call, leaf_lookup};
+ghost use Rattle.image.specs.Calls.{leaf_lookup};
 ghost use Rattle.edit.specs.EditList.{listed, edits_of, edit_list};
 ghost use Rattle.preview.specs.Calls.{seen};
 
 use crate::Preview;
 use device::Refusal;
 use image::Part;
-use image::descent::find_key;
+use image::descent::Indexed;
 
 // What an edit of this kind makes of its key, if its value stands in the list at `offset`.
 fn brought(kind: u8, offset: usize, length: usize) -> Option<Preview>
@@ -21,9 +21,9 @@ fn brought(kind: u8, offset: usize, length: usize) -> Option<Preview>
 }
 
 // What is seen of a key after a well-formed list: what the last edit of the key brings; the leaf of the key is read only if no edit has the key.
-pub(crate) fn see(image: &[u8], root: usize, list: &[u8], key: u64) -> Result<Option<Preview>, Refusal>
-    requires { (index_call image.now ≡ Ok root) × (edit_list list.now ≡ listed (edits_of (edit_list list.now))) }
-    ensures { result ≡ seen (leaf_lookup image.now root key) key (edits_of (edit_list list.now)) }
+pub(crate) fn see(index: &Indexed<'_>, list: &[u8], key: u64) -> Result<Option<Preview>, Refusal>
+    requires { edit_list list.now ≡ listed (edits_of (edit_list list.now)) }
+    ensures { result ≡ seen (leaf_lookup index.now.image.now index.now.root key) key (edits_of (edit_list list.now)) }
 {
     let mut last = None;
     let mut at = 0;
@@ -38,6 +38,6 @@ pub(crate) fn see(image: &[u8], root: usize, list: &[u8], key: u64) -> Result<Op
     }
     match last {
         Some(answer) => Ok(answer),
-        None => Ok(find_key(image, root, key)?.map(Preview::InImage)),
+        None => Ok(index.find_key(key)?.map(Preview::InImage)),
     }
 }

@@ -13,7 +13,7 @@ index_ok-requires c = root-facts _ _ (sym c.root_in.ensures ∙ c.in_ok-root.was
 
 pub returns-then-not-index_ok : goal.returns-then-not-index_ok
 unfolding index_call index_from
-returns-then-not-index_ok c = ap Err c.of.ensures ∙ rw (sym c.root_in.ensures ∙ c.in_ok-root.was, sym c.index_ok.ensures ∙ not-true _ c.if-not-index_ok.true-raw)
+returns-then-not-index_ok c = sym (ap Err c.of.ensures ∙ rw (sym c.root_in.ensures ∙ c.in_ok-root.was, sym c.index_ok.ensures ∙ not-true _ c.if-not-index_ok.true-raw))
 
 pub returns-in_err-root : goal.returns-in_err-root
 unfolding index_call index_from
@@ -21,6 +21,6 @@ returns-in_err-root c =
     let p = err_from_is_err_and c.from_residual.result c.from_residual.ensures.1 in
     rw (p.1, p.2, sym c.root_in.ensures ∙ c.in_err-root.was)
 
-pub returns : goal.returns
+pub invariant_of-result : goal.invariant_of-result
 unfolding index_call index_from
-returns c = rw (sym c.root_in.ensures ∙ c.in_ok-root.was, sym c.index_ok.ensures ∙ not-false _ c.if-not-index_ok.false-raw)
+invariant_of-result c = record { is_opened = rw (sym c.root_in.ensures ∙ c.in_ok-root.was, sym c.index_ok.ensures ∙ not-false _ c.if-not-index_ok.false-raw) }

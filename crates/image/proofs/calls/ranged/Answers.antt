@@ -1,7 +1,7 @@
 -- `ranged`: 6 for a key out of range.
 -- Assumes nothing.
 use Rattle.std.specs.Prelude.{Err}
-use mathlib.Core.Path.{sym, ap, ◌∙◌}
+use mathlib.Core.Path.{ap, ◌∙◌}
 use mathlib.Core.Logic.{inl, inr}
 use Rattle.image.specs.Calls.{ranged}
 use Rattle.image.proofs.KeyRange.{true-key_ok, false-key_ok}

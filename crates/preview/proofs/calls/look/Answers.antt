@@ -18,9 +18,6 @@ pub returns-then-key-gt-TOP_KEY : goal.returns-then-key-gt-TOP_KEY
 unfolding keys_of key_ok
 returns-then-key-gt-TOP_KEY c = ap Err c.of-then-key-gt-TOP_KEY.ensures ∙ rw (le-leb 1 _ c.if-key-lt1.false, lt-leb _ 999999999999 c.if-key-gt-TOP_KEY.true)
 
-pub see-requires : goal.see-requires
-see-requires c = c.requires
-
 ranged : (c : Else-key-gt-TOP_KEY) → key_ok c.args.key ≡ true
 unfolding key_ok
 ranged c = rw (le-leb 1 _ c.if-key-lt1.false, le-leb _ 999999999999 c.if-key-gt-TOP_KEY.false)

@@ -11,8 +11,7 @@ use Rattle.preview.specs.Calls.{list_of}
 use Rattle.preview.proofs.calls.look_after.Goals as goal
 
 pub look-requires : goal.look-requires
-look-requires c =
-    (c.requires, good-listed (edit_list c.args.edits.now) (sym c.judge.ensures ∙ c.in_ok-judge.was))
+look-requires c = good-listed (edit_list c.args.edits.now) (sym c.judge.ensures ∙ c.in_ok-judge.was)
 
 pub returns-in_err-judge : goal.returns-in_err-judge
 unfolding list_of
@@ -24,4 +23,4 @@ returns-in_err-judge c =
 pub returns : goal.returns
 unfolding list_of
 returns c =
-    c.look.ensures ∙ ap (list_of (records_for c.args.image.now c.args.root) (leaf_lookup c.args.image.now c.args.root c.args.key) c.args.key) (sym (good-listed (edit_list c.args.edits.now) (sym c.judge.ensures ∙ c.in_ok-judge.was)))
+    c.look.ensures ∙ ap (list_of (records_for c.args.index.now.image.now c.args.index.now.root) (leaf_lookup c.args.index.now.image.now c.args.index.now.root c.args.key) c.args.key) (sym (good-listed (edit_list c.args.edits.now) (sym c.judge.ensures ∙ c.in_ok-judge.was)))

@@ -5,14 +5,14 @@ use borrow.Author.Tests.{ne_eqb}
 use Rattle.preview.specs.Noted.{there_by}
 use Rattle.preview.proofs.keys.is_there.Goals as goal
 
-pub returns-in-None : goal.returns-in-None
+pub returns-in-None-clause-value : goal.returns-in-None-clause-value
 unfolding there_by
-returns-in-None c = record { value = c.in_leaf.ensures.value ∙ rw (sym c.in-None.ensures); marks = c.in_leaf.ensures.marks }
+returns-in-None-clause-value c = c.in_leaf.ensures.value ∙ rw (sym c.in-None.ensures)
 
-pub returns-in-Some-eq3 : goal.returns-in-Some-eq3
+pub returns-in-Some-eq3-clause-value : goal.returns-in-Some-eq3-clause-value
 unfolding there_by
-returns-in-Some-eq3 c = record { value = rw (sym c.in-Some-eq3.ensures, c.in-Some-eq3.field-0-test); marks = c.requires.1 }
+returns-in-Some-eq3-clause-value c = rw (sym c.in-Some-eq3.ensures, c.in-Some-eq3.field-0-test)
 
-pub returns-in-Some : goal.returns-in-Some
+pub returns-in-Some-clause-value : goal.returns-in-Some-clause-value
 unfolding there_by
-returns-in-Some c = record { value = rw (sym c.in-Some.ensures, ne_eqb _ 3 c.in-Some.field-0-test.1); marks = c.requires.1 }
+returns-in-Some-clause-value c = rw (sym c.in-Some.ensures, ne_eqb _ 3 c.in-Some.field-0-test.1)

@@ -17,7 +17,7 @@ use Rattle.preview.proofs.keys.judge_keys.Goals.{After-is_there}
 
 pub loop-at-init : goal.loop-at-init
 loop-at-init c =
-    (omega arith, refl, upto-start (records_for c.args.image.now c.args.root) c.args.list.now _ _ c.requires.1, marks-none c.args.image.now c.args.root)
+    (omega arith, refl, upto-start (records_for c.args.index.now.image.now c.args.index.now.root) c.args.list.now _ _ c.requires, marks-none c.args.index.now.image.now c.args.index.now.root)
 
 pub long_at-key-requires : goal.long_at-key-requires
 long_at-key-requires c = omega (arith, head-fits c.loop-at.invariant.2.ahead c.loop-at-test.true _ refl)
@@ -26,7 +26,7 @@ long_at-key-requires c = omega (arith, head-fits c.loop-at.invariant.2.ahead c.l
 says : (c : After-is_there) (there : Result Bool Refusal) → c.is_there.result ≡ there →
     let l = c.loop-at in
     let a = c.args in
-    fault_by l.n (eqb (get_or a.list.now l.at 0) 1) there ≡ fault_by l.n (eqb (get_or a.list.now l.at 0) 1) (there_by (kind_noted (take l.n l.noted) c.long_at-key.result) (presence c.long_at-key.result (records_for a.image.now a.root c.long_at-key.result)))
+    fault_by l.n (eqb (get_or a.list.now l.at 0) 1) there ≡ fault_by l.n (eqb (get_or a.list.now l.at 0) 1) (there_by (kind_noted (take l.n l.noted) c.long_at-key.result) (presence c.long_at-key.result (records_for a.index.now.image.now a.index.now.root c.long_at-key.result)))
 says c there is = ap (fault_by c.loop-at.n (eqb (get_or c.args.list.now c.loop-at.at 0) 1)) (sym is ∙ c.is_there.ensures.value)
 
 pub returns-in_err-there : goal.returns-in_err-there
@@ -39,7 +39,6 @@ pub returns-in_err-key_fault : goal.returns-in_err-key_fault
 returns-in_err-key_fault c =
     let p = err_from_is_err_and c.from_residual-in_err-key_fault.result c.from_residual-in_err-key_fault.ensures.1 in
     rw (p.1, p.2) (upto-stop c.loop-at.invariant.2 c.loop-at-test.true _ refl _ c.long_at-key.ensures _ refl _ (sym c.in_err-key_fault.was ∙ c.key_fault.ensures ∙ says (goal.at.returns-in_err-key_fault c).After-is_there _ c.in_ok-there.was) _ refl)
-
 
 pub bounds-list-at-in-loop-at : goal.bounds-list-at-in-loop-at
 bounds-list-at-in-loop-at c = omega (arith, head-fits c.loop-at.invariant.2.ahead c.loop-at-test.true _ refl)

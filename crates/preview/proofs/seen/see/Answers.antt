@@ -1,7 +1,7 @@
 -- `see`: what the edits that are left make of what is seen so far, or of the image's answer, is what all of them make of the image's answer.
 -- Assumes nothing.
 use Rattle.std.proofs.lemmas.Result.{err_from_is_err_and}
-use Rattle.std.specs.Prelude.{Ok, Some, None, MatchOption, IsSomeAnd, Option, Result}
+use Rattle.std.specs.Prelude.{Ok, Some, None, MatchOption, IsSomeAnd, Option}
 use Prim.Native.Nat.{◌+◌, ◌≤◌}
 use mathlib.Core.Path.{◌≡◌, refl, sym, ap, ◌∙◌}
 use native.Mathlib.Omega.{arith}
@@ -9,7 +9,6 @@ use lib.ListN.{length}
 use Rattle.preview.specs.declared.Preview.{Preview}
 use Rattle.preview.specs.declared.Preview.TheVariants.{InImage}
 use Rattle.image.specs.declared.Part.{Part}
-use Rattle.device.specs.declared.Refusal.{Refusal}
 use Rattle.image.specs.Calls.{leaf_lookup}
 use Rattle.edit.specs.EditList.{edits_of, edit_list}
 use Rattle.edit.proofs.Parsing.{list-whole}
@@ -21,7 +20,7 @@ use Rattle.preview.proofs.seen.see.Goals.{After-loop-at, Joined-long_at-key, the
 
 pub loop-at-init : goal.loop-at-init
 unfolding seen
-loop-at-init c = (omega arith, record { edits = _; reads = (list-whole _ _ c.requires.1).reads }, refl)
+loop-at-init c = (omega arith, record { edits = _; reads = (list-whole _ _ c.requires).reads }, refl)
 
 pub overflow_add-value : goal.overflow_add-value
 overflow_add-value c = omega (arith, head-fits c.loop-at.invariant.1 c.loop-at-test.true _ refl)
@@ -38,17 +37,8 @@ overflow_add-at-in-loop-at c = omega (arith, head-fits c.loop-at.invariant.1 c.l
 pub long_at-requires : goal.long_at-requires
 long_at-requires c = omega (arith, head-fits c.loop-at.invariant.1 c.loop-at-test.true _ c.wide-n.ensures.0)
 
-pub bounds-list-at-then-long_at-key : goal.bounds-list-at-then-long_at-key
-bounds-list-at-then-long_at-key c = omega arith
-
 fits : (c : Joined-long_at-key) → c.loop-at.at + 10 + c.wide-n.result ≤ length c.args.list.now
 fits c = head-fits c.loop-at.invariant.1 c.loop-at-test.true _ c.wide-n.ensures.0
-
-pub overflow_add-at-in-loop-at-2 : goal.overflow_add-at-in-loop-at-2
-overflow_add-at-in-loop-at-2 c = omega (arith, fits (goal.at.overflow_add-at-in-loop-at-2 c).Joined-long_at-key)
-
-pub loop-at-smaller : goal.loop-at-smaller
-loop-at-smaller c = omega (arith, fits (goal.at.loop-at-smaller c).Joined-long_at-key)
 
 pub loop-at-preserved : goal.loop-at-preserved
 loop-at-preserved c =
@@ -56,7 +46,7 @@ loop-at-preserved c =
     let more = c.loop-at-test.true in
     let rest = head-rest l.invariant.1 more _ c.wide-n.ensures.0 in
     let a = c.args in
-    let stored = in_image (leaf_lookup a.image.now a.root a.key) in
+    let stored = in_image (leaf_lookup a.index.now.image.now a.index.now.root a.key) in
     let to : (last : Option (Option Preview)) → c.if-long_at-key.last ≡ last → _ =
     λ last p. ap (λ (x : Option (Option Preview)). seen_from a.key (l.at + 10 + c.wide-n.result) (seen_by x stored) rest.edits) p in (
       fits (goal.at.loop-at-preserved c).Joined-long_at-key,
@@ -71,19 +61,16 @@ loop-at-preserved c =
 
 -- no edit is left
 ended : (c : After-loop-at) (last : Option (Option Preview)) → c.loop-at.last ≡ last →
-    seen_by last (in_image (leaf_lookup c.args.image.now c.args.root c.args.key)) ≡ seen (leaf_lookup c.args.image.now c.args.root c.args.key) c.args.key (edits_of (edit_list c.args.list.now))
+    seen_by last (in_image (leaf_lookup c.args.index.now.image.now c.args.index.now.root c.args.key)) ≡ seen (leaf_lookup c.args.index.now.image.now c.args.index.now.root c.args.key) c.args.key (edits_of (edit_list c.args.list.now))
 unfolding seen_from
 ended c last e =
     let l = c.loop-at in
     let a = c.args in
-    let stored = in_image (leaf_lookup a.image.now a.root a.key) in
+    let stored = in_image (leaf_lookup a.index.now.image.now a.index.now.root a.key) in
     ap (λ (o : Option (Option Preview)). seen_by o stored) (sym e) ∙ sym (ap (seen_from a.key l.at (seen_by l.last stored)) (head-none l.invariant.1 c.loop-at-test.false)) ∙ l.invariant.2
 
 pub returns-in-Some : goal.returns-in-Some
 returns-in-Some c = ended (goal.at.returns-in-Some c).After-loop-at _ c.in-Some.is
-
-pub find_key-requires : goal.find_key-requires
-find_key-requires c = c.requires.0
 
 pub returns-in_err-find_key-in-None : goal.returns-in_err-find_key-in-None
 unfolding in_image

@@ -11,7 +11,7 @@ use Rattle.preview.proofs.Walk.{seen_by}
 use Rattle.preview.proofs.seen.see.Given as goal
 
 abbrev pub invariant-loop-at : goal.invariant-loop-at
-invariant-loop-at l = (l.at ≤ length l.list) × (A : Ahead l.list l.at) × (seen_from l.key l.at (seen_by l.last (in_image (leaf_lookup l.image l.root l.key))) A.edits ≡ seen (leaf_lookup l.image l.root l.key) l.key (edits_of (edit_list l.list)))
+invariant-loop-at l = (l.at ≤ length l.list) × (A : Ahead l.list l.at) × (seen_from l.key l.at (seen_by l.last (in_image (leaf_lookup l.index.image.now l.index.root l.key))) A.edits ≡ seen (leaf_lookup l.index.image.now l.index.root l.key) l.key (edits_of (edit_list l.list)))
 
 abbrev pub decreases-loop-at : goal.decreases-loop-at
 decreases-loop-at l = length l.list - l.at

@@ -15,22 +15,22 @@ use Rattle.image.specs.Descent.{leaf_for, leaf_sound}
 use Rattle.image.specs.Calls.{leaf_lookup}
 use Rattle.image.specs.declared.Place.{Place}
 use Rattle.image.proofs.CodeDescent.{leaf-fits, sound-page}
-use Rattle.image.proofs.descent.find_key.Goals as goal
-use Rattle.image.proofs.descent.find_key.Goals.{After-leaf_for-leaf, After-leaf_sound, Else-not-leaf_sound}
+use Rattle.image.proofs.descent.Indexed.find_key.Goals as goal
+use Rattle.image.proofs.descent.Indexed.find_key.Goals.{After-leaf_for-leaf, After-leaf_sound, Else-not-leaf_sound}
 
-fits : (c : After-leaf_for-leaf) → page_size * c.leaf_for-leaf.result.page + page_size ≤ length c.args.image.now
+fits : (c : After-leaf_for-leaf) → page_size * c.leaf_for-leaf.result.page + page_size ≤ length c.args.self.now.image.now
 fits c =
-    leaf-fits c.args.image.now c.args.root c.requires c.args.key _ c.leaf_for-leaf.ensures
+    leaf-fits c.args.self.now.image.now c.args.self.now.root c.args.self.now.is_opened c.args.key _ c.leaf_for-leaf.ensures
 
 pub leaf_sound-requires : goal.leaf_sound-requires
-leaf_sound-requires c = (c.requires, fits (goal.at.leaf_sound-requires c).After-leaf_for-leaf)
+leaf_sound-requires c = fits (goal.at.leaf_sound-requires c).After-leaf_for-leaf
 
 judged : (c : After-leaf_sound) →
     let a = c.args in
-    leaf_sound a.image.now a.root (leaf_for a.image.now a.root a.key) ≡ c.leaf_sound.result
+    leaf_sound a.self.now.image.now a.self.now.root (leaf_for a.self.now.image.now a.self.now.root a.key) ≡ c.leaf_sound.result
 judged c =
     let a = c.args in
-    ap (leaf_sound a.image.now a.root) (sym c.leaf_for-leaf.ensures) ∙ sym c.leaf_sound.ensures
+    ap (leaf_sound a.self.now.image.now a.self.now.root) (sym c.leaf_for-leaf.ensures) ∙ sym c.leaf_sound.ensures
 
 pub returns-then-not-leaf_sound : goal.returns-then-not-leaf_sound
 unfolding leaf_lookup
@@ -43,10 +43,10 @@ page_of-requires c = fits (goal.at.page_of-requires c).After-leaf_for-leaf
 
 good : (c : Else-not-leaf_sound) →
     let a = c.args in
-    page_ok leaf_kind c.leaf_for-leaf.result.page (page_of a.image.now c.leaf_for-leaf.result.page) ≡ true
+    page_ok leaf_kind c.leaf_for-leaf.result.page (page_of a.self.now.image.now c.leaf_for-leaf.result.page) ≡ true
 good c =
     let a = c.args in
-    sound-page a.image.now a.root c.leaf_for-leaf.result (sym c.leaf_sound.ensures ∙ not-false _ c.if-not-leaf_sound.false-raw)
+    sound-page a.self.now.image.now a.self.now.root c.leaf_for-leaf.result (sym c.leaf_sound.ensures ∙ not-false _ c.if-not-leaf_sound.false-raw)
 
 pub find_in-requires : goal.find_in-requires
 find_in-requires c = ap (page_ok leaf_kind c.leaf_for-leaf.result.page) c.page_of.ensures ∙ good (goal.at.find_in-requires c).Else-not-leaf_sound
@@ -57,5 +57,5 @@ returns c =
     let a = c.args in
     c.find_in.ensures
     ∙ ap (λ (p : List ℕ). found_in a.key (map (in_image c.leaf_for-leaf.result.page) (entries p))) c.page_of.ensures
-    ∙ ap (λ (p : Place). found_in a.key (page_entries a.image.now p.page)) c.leaf_for-leaf.ensures
+    ∙ ap (λ (p : Place). found_in a.key (page_entries a.self.now.image.now p.page)) c.leaf_for-leaf.ensures
     ∙ rw (judged (goal.at.returns c).After-leaf_sound ∙ not-false _ c.if-not-leaf_sound.false-raw)

@@ -15,8 +15,8 @@ use Rattle.image.specs.Table.{above}
 use Rattle.image.specs.Descent.{leaf_sound}
 use Rattle.image.specs.Calls.{leaf_next}
 use Rattle.image.proofs.CodeDescent.{sound-page, above-largest}
-use Rattle.image.proofs.descent.next_at.Goals as goal
-use Rattle.image.proofs.descent.next_at.Goals.{Else-not-leaf_sound}
+use Rattle.image.proofs.descent.Indexed.next_at.Goals as goal
+use Rattle.image.proofs.descent.Indexed.next_at.Goals.{Else-not-leaf_sound}
 
 pub returns-then-not-leaf_sound : goal.returns-then-not-leaf_sound
 unfolding leaf_next
@@ -24,22 +24,22 @@ returns-then-not-leaf_sound c = ap Err c.of.ensures ∙ rw (sym c.leaf_sound.ens
 
 judged : (c : Else-not-leaf_sound) →
     let a = c.args in
-    leaf_sound a.image.now a.root a.leaf ≡ true
+    leaf_sound a.self.now.image.now a.self.now.root a.leaf ≡ true
 judged c = sym c.leaf_sound.ensures ∙ not-false _ c.if-not-leaf_sound.false-raw
 
 good : (c : Else-not-leaf_sound) →
     let a = c.args in
-    page_ok leaf_kind a.leaf.page (page_of a.image.now a.leaf.page) ≡ true
+    page_ok leaf_kind a.leaf.page (page_of a.self.now.image.now a.leaf.page) ≡ true
 good c =
     let a = c.args in
-    sound-page a.image.now a.root a.leaf (judged c)
+    sound-page a.self.now.image.now a.self.now.root a.leaf (judged c)
 
 pub returns-then-key-ge-TOP_KEY : goal.returns-then-key-ge-TOP_KEY
 unfolding leaf_next
 returns-then-key-ge-TOP_KEY c = sym (above-largest leaf_kind _ _ (good (goal.at.returns-then-key-ge-TOP_KEY c).Else-not-leaf_sound) _ c.if-key-ge-TOP_KEY.true) ∙ rw (judged (goal.at.returns-then-key-ge-TOP_KEY c).Else-not-leaf_sound)
 
 pub laid_page-requires : goal.laid_page-requires
-laid_page-requires c = (c.requires.1, (page_ok-true leaf_kind _ _ (good (goal.at.laid_page-requires c).Else-not-leaf_sound)).laid)
+laid_page-requires c = (c.requires, (page_ok-true leaf_kind _ _ (good (goal.at.laid_page-requires c).Else-not-leaf_sound)).laid)
 
 pub next_in-requires : goal.next_in-requires
 next_in-requires c = omega (arith, c.if-key-ge-TOP_KEY.false)

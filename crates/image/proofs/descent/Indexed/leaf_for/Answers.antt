@@ -11,21 +11,21 @@ use Rattle.image.specs.Descent.{down}
 use Rattle.image.proofs.OneHeight.{leaf-one}
 use Rattle.image.proofs.CodeTree.{index-page}
 use Rattle.image.proofs.CodeDescent.{index, root-fits}
-use Rattle.image.proofs.descent.leaf_for.Goals as goal
+use Rattle.image.proofs.descent.Indexed.leaf_for.Goals as goal
 
 pub page_of-requires : goal.page_of-requires
-page_of-requires c = root-fits c.args.image.now c.args.root c.requires
+page_of-requires c = root-fits c.args.self.now.image.now c.args.self.now.root c.args.self.now.is_opened
 
 pub down-requires : goal.down-requires
 unfolding children
 down-requires c =
-    let i = index c.args.image.now c.args.root c.requires in
-    (index-page c.args.image.now c.args.root i _ c.page_of.ensures, rw c.page_of.ensures i.some)
+    let i = index c.args.self.now.image.now c.args.self.now.root c.args.self.now.is_opened in
+    (index-page c.args.self.now.image.now c.args.self.now.root i _ c.page_of.ensures, rw c.page_of.ensures i.some)
 
 pub returns : goal.returns
 unfolding down top_place children
 returns c =
     let a = c.args in
     c.down.ensures
-    ∙ ap (λ (p : List ℕ). get_or (places 0 (records p) 1000000000000) (route a.key (records p)) (top_place a.root)) c.page_of.ensures
-    ∙ sym (leaf-one a.image.now a.root a.key)
+    ∙ ap (λ (p : List ℕ). get_or (places 0 (records p) 1000000000000) (route a.key (records p)) (top_place a.self.now.root)) c.page_of.ensures
+    ∙ sym (leaf-one a.self.now.image.now a.self.now.root a.key)

@@ -14,9 +14,6 @@ use Rattle.device.proofs.count_commands.Goals as goal
 pub loop-at-init : goal.loop-at-init
 loop-at-init c = (omega arith, omega arith, refl, omega arith)
 
-pub size_at-requires : goal.size_at-requires
-size_at-requires c = omega arith
-
 pub returns-in_err-size : goal.returns-in_err-size
 unfolding well_formed
 returns-in_err-size c =
@@ -24,15 +21,6 @@ returns-in_err-size c =
     let l = c.loop-at in
     let f : well_formed (decode a.n a.tape.now) ≡ false = sym l.invariant.2 ∙ ap well_formed (broken-at a.n l.at a.tape.now c.loop-at-test.true (sized-none _ c.in_err-size.ensures.value)) in
     rw (c.from_residual.ensures, f)
-
-pub overflow_add-at : goal.overflow_add-at
-overflow_add-at c = omega (arith, c.in_ok-size.ensures.inside)
-
-pub overflow_add-count : goal.overflow_add-count
-overflow_add-count c = omega (arith, c.in_ok-size.ensures.inside)
-
-pub loop-at-smaller : goal.loop-at-smaller
-loop-at-smaller c = omega (arith, c.in_ok-size.ensures.inside, (sized-some _ _ c.in_ok-size.ensures.value).1)
 
 pub loop-at-preserved : goal.loop-at-preserved
 loop-at-preserved c =

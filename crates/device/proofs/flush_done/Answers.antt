@@ -2,11 +2,8 @@
 -- Assumes nothing.
 use native.Mathlib.Omega.{arith}
 use lib.ListN.{get_or}
-use borrow.Author.Tests.{le-leb, lt-leb}
+use borrow.Author.Tests.{lt-leb}
 use Rattle.device.proofs.flush_done.Goals as goal
-
-pub returns-then-last-fence : goal.returns-then-last-fence
-returns-then-last-fence c = let a = c.args in rw (le-leb (get_or a.flushes.now a.line 0) a.fence (omega (arith, c.if-last-fence.true)))
 
 pub returns : goal.returns
 returns c = let a = c.args in rw (lt-leb (get_or a.flushes.now a.line 0) a.fence (omega (arith, c.if-last-fence.false)))

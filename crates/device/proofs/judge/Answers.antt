@@ -20,12 +20,6 @@ loop-at-init c =
     let a = c.args in
     (omega arith, omega arith, refl, refl, omega arith, simp sub-zero (noting-start a.flushes.now (take a.c (decode a.n a.tape.now)) c.requires.1))
 
-pub size_at-requires : goal.size_at-requires
-size_at-requires c = omega arith
-
-pub shape_of-flushes-in_err-size : goal.shape_of-flushes-in_err-size
-shape_of-flushes-in_err-size c = c.loop-at.invariant.2
-
 pub returns-in_err-size : goal.returns-in_err-size
 unfolding well_formed Found
 returns-in_err-size c =
@@ -40,15 +34,6 @@ note-fence-requires c =
     let l = c.loop-at in
     let is = some-command a.n l.at a.tape.now (omega (arith, sized-some _ _ c.in_ok-size.ensures.value)) in
     (head_at a.n l.at a.tape.now loop-test.true is, λ q. omega (arith, c.requires.0, l.invariant.2, flush-inside a.n l.at a.tape.now loop-test.true is q))
-
-pub overflow_add-at : goal.overflow_add-at
-overflow_add-at c = omega (arith, c.in_ok-size.ensures.inside)
-
-pub overflow_add-count : goal.overflow_add-count
-overflow_add-count c = omega arith
-
-pub loop-at-smaller : goal.loop-at-smaller
-loop-at-smaller c = omega (arith, c.in_ok-size.ensures.inside, (sized-some _ _ c.in_ok-size.ensures.value).1)
 
 pub loop-at-preserved : goal.loop-at-preserved
 loop-at-preserved c =
@@ -75,9 +60,6 @@ loop-at-preserved c =
       omega (arith, ap length next, size),
       noted.1,
     )
-
-pub shape_of-flushes : goal.shape_of-flushes
-shape_of-flushes c = c.loop-at.invariant.2
 
 pub returns : goal.returns
 unfolding well_formed Found

@@ -22,9 +22,6 @@ bounds-tape-at c = omega arith
 here : (c : In-loop-at) → is_command (length c.args.work.now) (drop c.loop-at.at c.args.tape.now) ≡ true
 here c = good-command _ _ _ c.loop-at-test.true c.loop-at.invariant.2
 
-pub overflow_add-at : goal.overflow_add-at
-overflow_add-at c = let k = head_at _ _ _ c.loop-at-test.true (here (goal.at.overflow_add-at c).In-loop-at) in omega arith
-
 pub number_at-place-requires : goal.number_at-place-requires
 number_at-place-requires c = let k = head_at _ _ _ c.loop-at-test.true (here (goal.at.number_at-place-requires c).In-loop-at) in omega arith
 
@@ -38,20 +35,8 @@ line c here = line_at _ _ _ c.loop-at-test.true here _ c.number_at-place.ensures
 quiet : (c : Else-kind-eq2) → (is_command (length c.args.work.now) (drop c.loop-at.at c.args.tape.now) ≡ true) → QuietAt (length c.args.work.now) c.args.tape.now c.loop-at.at c.number_at-place.result
 quiet c here = quiet_at _ _ _ c.loop-at-test.true here _ c.number_at-place.ensures.0 c.if-kind-eq1.false c.if-kind-eq2.false
 
-pub overflow_mul-place : goal.overflow_mul-place
-overflow_mul-place c = let k = word (goal.at.overflow_mul-place c).Then-kind-eq1 (here (goal.at.overflow_mul-place c).In-loop-at) in omega arith
-
-pub overflow_add-at-then-kind-eq1 : goal.overflow_add-at-then-kind-eq1
-overflow_add-at-then-kind-eq1 c = let k = word (goal.at.overflow_add-at-then-kind-eq1 c).Then-kind-eq1 (here (goal.at.overflow_add-at-then-kind-eq1 c).In-loop-at) in omega arith
-
 pub copy_word-requires : goal.copy_word-requires
 copy_word-requires c = let k = word (goal.at.copy_word-requires c).Then-kind-eq1 (here (goal.at.copy_word-requires c).In-loop-at) in (omega arith, omega arith)
-
-pub overflow_add-at-then-kind-eq1-2 : goal.overflow_add-at-then-kind-eq1-2
-overflow_add-at-then-kind-eq1-2 c = let k = word (goal.at.overflow_add-at-then-kind-eq1-2 c).Then-kind-eq1 (here (goal.at.overflow_add-at-then-kind-eq1-2 c).In-loop-at) in omega arith
-
-pub loop-at-smaller-then-kind-eq1 : goal.loop-at-smaller-then-kind-eq1
-loop-at-smaller-then-kind-eq1 c = let k = word (goal.at.loop-at-smaller-then-kind-eq1 c).Then-kind-eq1 (here (goal.at.loop-at-smaller-then-kind-eq1 c).In-loop-at) in omega arith
 
 pub loop-at-preserved-then-kind-eq1 : goal.loop-at-preserved-then-kind-eq1
 loop-at-preserved-then-kind-eq1 c =
@@ -59,20 +44,8 @@ loop-at-preserved-then-kind-eq1 c =
     let l = c.loop-at in
     (k.in_tape, omega (arith, c.copy_word.auto.dst), store-good _ _ _ _ _ k l.invariant.2, play-store _ _ _ _ _ l.work _ k l.invariant.1 c.copy_word.ensures ∙ l.invariant.3)
 
-pub overflow_mul-place-then-kind-eq2 : goal.overflow_mul-place-then-kind-eq2
-overflow_mul-place-then-kind-eq2 c = let k = line (goal.at.overflow_mul-place-then-kind-eq2 c).Then-kind-eq2 (here (goal.at.overflow_mul-place-then-kind-eq2 c).In-loop-at) in omega arith
-
-pub overflow_add-at-then-kind-eq2 : goal.overflow_add-at-then-kind-eq2
-overflow_add-at-then-kind-eq2 c = let k = line (goal.at.overflow_add-at-then-kind-eq2 c).Then-kind-eq2 (here (goal.at.overflow_add-at-then-kind-eq2 c).In-loop-at) in omega arith
-
 pub copy_line-requires : goal.copy_line-requires
 copy_line-requires c = let k = line (goal.at.copy_line-requires c).Then-kind-eq2 (here (goal.at.copy_line-requires c).In-loop-at) in (omega arith, omega arith)
-
-pub overflow_add-at-then-kind-eq2-2 : goal.overflow_add-at-then-kind-eq2-2
-overflow_add-at-then-kind-eq2-2 c = let k = line (goal.at.overflow_add-at-then-kind-eq2-2 c).Then-kind-eq2 (here (goal.at.overflow_add-at-then-kind-eq2-2 c).In-loop-at) in omega arith
-
-pub loop-at-smaller-then-kind-eq2 : goal.loop-at-smaller-then-kind-eq2
-loop-at-smaller-then-kind-eq2 c = let k = line (goal.at.loop-at-smaller-then-kind-eq2 c).Then-kind-eq2 (here (goal.at.loop-at-smaller-then-kind-eq2 c).In-loop-at) in omega arith
 
 pub loop-at-preserved-then-kind-eq2 : goal.loop-at-preserved-then-kind-eq2
 loop-at-preserved-then-kind-eq2 c =
@@ -80,20 +53,11 @@ loop-at-preserved-then-kind-eq2 c =
     let l = c.loop-at in
     (k.in_tape, omega (arith, c.copy_line.auto.dst), store-good _ _ _ _ _ k l.invariant.2, play-store _ _ _ _ _ l.work _ k l.invariant.1 c.copy_line.ensures ∙ l.invariant.3)
 
-pub overflow_add-at-else-kind-eq2 : goal.overflow_add-at-else-kind-eq2
-overflow_add-at-else-kind-eq2 c = let k = quiet (goal.at.overflow_add-at-else-kind-eq2 c).Else-kind-eq2 (here (goal.at.overflow_add-at-else-kind-eq2 c).In-loop-at) in omega arith
-
-pub loop-at-smaller : goal.loop-at-smaller
-loop-at-smaller c = let k = quiet (goal.at.loop-at-smaller c).Else-kind-eq2 (here (goal.at.loop-at-smaller c).In-loop-at) in omega arith
-
 pub loop-at-preserved : goal.loop-at-preserved
 loop-at-preserved c =
     let k = quiet (goal.at.loop-at-preserved c).Else-kind-eq2 (here (goal.at.loop-at-preserved c).In-loop-at) in
     let l = c.loop-at in
     (k.in_tape, l.invariant.1, quiet-good _ _ _ _ k l.invariant.2, play-quiet _ _ _ _ l.work k ∙ l.invariant.3)
-
-pub shape_of-work : goal.shape_of-work
-shape_of-work c = c.loop-at.invariant.1
 
 pub returns : goal.returns
 unfolding after

@@ -10,7 +10,7 @@ use Rattle.device.specs.Tape.{decode, well_formed}
 use Rattle.device.specs.Cut.{after}
 use Rattle.device.specs.Calls.{is_image_size, accepted, refused, run_call}
 use Rattle.std.specs.Prelude.{Err}
-use Rattle.device.proofs.Calls.{holds, fails, said, image-size-le, scanned-none, scanned-some}
+use Rattle.device.proofs.Calls.{holds, fails, said, scanned-none, scanned-some}
 use Rattle.device.proofs.run.Goals as goal
 use Rattle.device.proofs.run.Goals.{Else-not-is_image_size, In-Some}
 
@@ -34,12 +34,6 @@ returns-then-work-n c =
 -- the tape is well formed
 formed : (c : In-Some) → well_formed (decode (length c.args.image.now) c.args.tape.now) ≡ true
 formed c = (scanned-some _ _ (sym c.count_commands.ensures ∙ c.in-Some.is)).0
-
-pub copy_all-requires : goal.copy_all-requires
-copy_all-requires c = (c.if-work-n.false, image-size-le _ (sized (goal.at.copy_all-requires c).Else-not-is_image_size))
-
-pub play-requires : goal.play-requires
-play-requires c = ap (λ (w : List ℕ). well_formed (decode (length w) c.args.tape.now)) c.copy_all.ensures ∙ formed (goal.at.play-requires c).In-Some
 
 pub returns-in_default : goal.returns-in_default
 unfolding run_call

@@ -7,11 +7,10 @@ use mathlib.Core.Bool.{Bool, true, false}
 use mathlib.Core.List.{List}
 use lib.ListN.{length}
 use lib.Dec.{leb}
-use Rattle.device.specs.declared.Cause.TheVariants.{LogFull, TapeShort}
 use Rattle.journal.specs.declared.Commit.{Commit}
 use Rattle.device.specs.declared.Cause.{Cause}
 use Rattle.device.specs.Tape.{tape_bytes}
-use Rattle.device.specs.Calls.{image_size, work_size, log_full, tape_short, refusal, is_image_size, refusal_at, of_cause, number_in}
+use Rattle.device.specs.Calls.{image_size, work_size, refusal, is_image_size, of_cause, number_in}
 use Rattle.device.specs.declared.Refusal.{Refusal}
 use Rattle.image.specs.Calls.{check_call}
 use Rattle.edit.specs.EditList.{Edit, Listed, listed, edits_of, edit_list}

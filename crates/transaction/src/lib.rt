@@ -17,9 +17,9 @@ use image::calls::check;
 use image::descent::root_of;
 use journal::{Commit, Way};
 use tape_write::commit;
+use tree_edit::Tree;
 use tree_edit::edits::edit_list;
 use tree_edit::ends::{finish, marks_of};
-use tree_edit::Tree;
 
 // Commits the edited image that work holds, or puts the image back into work. The pages that image reaches are marked.
 fn commit_edits(
@@ -45,7 +45,13 @@ fn commit_edits(
 }
 
 // Makes the edits of a well-formed list on a copy of a sound image, and commits them.
-fn make_edits(way: Way, image: &[u8], work: &mut [u8], tape: &mut [u8], list: &[u8]) -> Result<Commit, Refusal>
+fn make_edits(
+    way: Way,
+    image: &[u8],
+    work: &mut [u8],
+    tape: &mut [u8],
+    list: &[u8],
+) -> Result<Commit, Refusal>
     requires { (sound image.now ≡ true) × (length work.old ≡ length image.now) × (edit_list list.now ≡ listed (edits_of (edit_list list.now))) }
     ensures value { result ≡ (outcome_of way image.now tape.old (edits_on image.now (edits_of (edit_list list.now)))).answer }
     ensures work_after { work.new ≡ (outcome_of way image.now tape.old (edits_on image.now (edits_of (edit_list list.now)))).work }
@@ -71,7 +77,13 @@ fn make_edits(way: Way, image: &[u8], work: &mut [u8], tape: &mut [u8], list: &[
 }
 
 // Judges the list, and makes its edits on a sound image.
-fn judge_list(way: Way, image: &[u8], work: &mut [u8], tape: &mut [u8], list: &[u8]) -> Result<Commit, Refusal>
+fn judge_list(
+    way: Way,
+    image: &[u8],
+    work: &mut [u8],
+    tape: &mut [u8],
+    list: &[u8],
+) -> Result<Commit, Refusal>
     requires { (sound image.now ≡ true) × (length work.old ≡ length image.now) }
     ensures value { result ≡ (list_of way image.now work.old tape.old (edit_list list.now)).answer }
     ensures work_after { work.new ≡ (list_of way image.now work.old tape.old (edit_list list.now)).work }
@@ -82,7 +94,13 @@ fn judge_list(way: Way, image: &[u8], work: &mut [u8], tape: &mut [u8], list: &[
 }
 
 // Makes a list of edits on an image: work takes the image after them, tape the commands that commit them, in the device's way.
-fn transact(way: Way, image: &[u8], work: &mut [u8], tape: &mut [u8], edits: &[u8]) -> Result<Commit, Refusal>
+fn transact(
+    way: Way,
+    image: &[u8],
+    work: &mut [u8],
+    tape: &mut [u8],
+    edits: &[u8],
+) -> Result<Commit, Refusal>
     ensures value { result ≡ (transaction_call way image.now work.old tape.old edits.now).answer }
     ensures work_after { work.new ≡ (transaction_call way image.now work.old tape.old edits.now).work }
     ensures tape_after { tape.new ≡ (transaction_call way image.now work.old tape.old edits.now).tape }
@@ -99,7 +117,12 @@ fn transact(way: Way, image: &[u8], work: &mut [u8], tape: &mut [u8], edits: &[u
 }
 
 // The transaction on modules with line stores.
-pub fn transaction(image: &[u8], work: &mut [u8], tape: &mut [u8], edits: &[u8]) -> Result<Commit, Refusal>
+pub fn transaction(
+    image: &[u8],
+    work: &mut [u8],
+    tape: &mut [u8],
+    edits: &[u8],
+) -> Result<Commit, Refusal>
     ensures value { result ≡ (transaction_call ByLine image.now work.old tape.old edits.now).answer }
     ensures work_after { work.new ≡ (transaction_call ByLine image.now work.old tape.old edits.now).work }
     ensures tape_after { tape.new ≡ (transaction_call ByLine image.now work.old tape.old edits.now).tape }
@@ -108,7 +131,12 @@ pub fn transaction(image: &[u8], work: &mut [u8], tape: &mut [u8], edits: &[u8])
 }
 
 // The same on modules "atomic for 8 bytes only": its tape has no line store (document 02 (d)).
-pub fn transaction_words(image: &[u8], work: &mut [u8], tape: &mut [u8], edits: &[u8]) -> Result<Commit, Refusal>
+pub fn transaction_words(
+    image: &[u8],
+    work: &mut [u8],
+    tape: &mut [u8],
+    edits: &[u8],
+) -> Result<Commit, Refusal>
     ensures value { result ≡ (transaction_call ByWords image.now work.old tape.old edits.now).answer }
     ensures work_after { work.new ≡ (transaction_call ByWords image.now work.old tape.old edits.now).work }
     ensures tape_after { tape.new ≡ (transaction_call ByWords image.now work.old tape.old edits.now).tape }

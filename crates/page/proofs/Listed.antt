@@ -7,7 +7,6 @@ use Rattle.codec.specs.Lists.{part, All}
 use Rattle.codec.specs.Numbers.{number}
 use Rattle.page.specs.Layout.{slot_count, record_at, slots_in, read_head}
 use Rattle.page.specs.Page.{entry_at, entries, records, laid_out, Held}
-use Rattle.page.proofs.Records.{size-least}
 use Rattle.page.proofs.Headers.{length-slots_in}
 use Rattle.page.proofs.Facts.{length-records, length-entries, ok-is}
 
@@ -66,10 +65,6 @@ module _ (p : List ℕ) (i : ℕ) (less : i < length (records p)) where
 
   -- the record of the i-th slot, o
   module _ (o : ℕ) (e : o ≡ number (part p (8 + 2 * i) 2)) where
-    pub records-next : drop i (records p) ≡ record_at p o ∷ drop (i + 1) (records p)
-    unfolding records
-    records-next = rw (e, slot_at) (map_next (record_at p) (read_head p).slots i in-slots)
-
     pub entries_next : drop i (entries p) ≡ entry_at p o ∷ drop (i + 1) (entries p)
     unfolding entries
     entries_next = rw (e, slot_at) (map_next (entry_at p) (read_head p).slots i in-slots)
@@ -83,9 +78,6 @@ module _ (p : List ℕ) (i : ℕ) (less : i < length (records p)) where
     slot_held held =
         let a = All-at (Held p (read_head p).start) (entries p) i (entry_at p 0) held (omega (arith, in-slots, length-entries p)) in
         rw (e, slot_at) (rw (get_or-map (entry_at p) (read_head p).slots i 0) at a)
-
-    pub slot-end : laid_out p ≡ true → o + 16 ≤ length p
-    slot-end ok = omega (arith, (slot_held (ok-is p ok).body.held).high, size-least (record_at p o), (ok-is p ok).body.whole)
 
 -- the slots lie in the header line
 pub few-listed : (p : List ℕ) → laid_out p ≡ true → length (records p) ≤ slot_count

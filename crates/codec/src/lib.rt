@@ -94,15 +94,12 @@ pub fn copy_line(dst: &mut [u8], at: usize, src: &[u8], from: usize)
     put_bytes(dst, at, bytes_at::<64>(src, from));
 }
 
-// Copies a whole image, which has at most 65,536 bytes; likewise: one memmove, and the array is gone.
+// Copies a whole image, which has at most 65,536 bytes.
 pub fn copy_all(dst: &mut [u8], src: &[u8])
     requires { (length dst.old ≡ length src.now) × (length src.now ≤ 65536) }
     ensures { dst.new ≡ src.now }
 {
-    let n = src.len();
-    let mut whole = [0; 65536];
-    whole[..n].copy_from_slice(src);
-    dst.copy_from_slice(&whole[..n]);
+    dst.copy_from_slice(src);
 }
 
 // Writes n times the same byte.

@@ -189,7 +189,8 @@ fn line_below(named: &[usize], bound: usize) -> Option<usize>
     named.iter().copied().filter(|line| *line < bound).max()
 }
 
-// Writes choice number r of all choices for lines with so many pending stores: the last line's first, which changes fastest.
+// Writes choice number r of all choices for lines with so many pending stores: the last line's first, which changes fastest. The walk goes from a
+// named line to the next one below it, and counts no index.
 fn put_choices(choices: &mut [u8], pending: &[u8], named: &[usize], r: usize)
     requires { (length choices.old ≡ length pending.now) × (r < ways pending.now) × Names named.now pending.now }
     ensures { choices.new ≡ get_or (choices_up_to pending.now) r [] }

@@ -9,7 +9,7 @@ ghost use Rattle.edit.specs.Judged.{cause_named, judged_of};
 
 use device::{Cause, Refusal};
 
-// Whether the kind is unknown, or a delete has a length.
+// Whether the kind is unknown, or a delete has a length. The kind is the list's byte, which may be any.
 fn bad_head(kind: u8, n: usize) -> bool
     ensures { result ≡ ((ltb kind 1 || ltb 3 kind) || (eqb kind 3 && ltb 0 n)) }
 {

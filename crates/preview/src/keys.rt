@@ -12,7 +12,7 @@ use image::descent::Indexed;
 use image::pages::laid_page;
 use page::laid::Page;
 
-// An edit that is judged: its key and its kind.
+// An edit that is judged: its key and its kind, the list's byte (`kind_noted` is promised for any).
 #[derive(Clone, Copy)]
 struct Noted {
     key: u64,

@@ -144,7 +144,7 @@ pub(crate) fn delete_edit(
     drop_under(work, before, t, under, at)
 }
 
-// Makes one edit: kind 1 inserts, 2 updates, 3 deletes.
+// Makes one edit: kind 1 inserts, 2 updates, 3 deletes. The kind is the list's byte and no enum: it is promised for every u8 (`edit_of`).
 pub fn edit(
     work: &mut [u8],
     before: &[u8; 64],

@@ -1,4 +1,5 @@
-// A record put into a page of any kind: in place, by a copy or by a split; what the page above takes of it; and what the root does.
+// A record put into a page of any kind: in place, by a copy or by a split; what the page above takes of it; and what the root does. A kind is the
+// number that the header stores, one more than the page's height.
 ghost use Rattle.std.specs.Prelude.{◌≡◌, true, false, Ok, List, ℕ, ◌+◌, ◌-◌, ◌*◌, ◌≤◌, ◌<◌, length};
 ghost use Rattle.codec.specs.Numbers.{bytes_of};
 ghost use Rattle.page.specs.Layout.{page_size};

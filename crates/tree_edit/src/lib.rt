@@ -8,6 +8,7 @@ pub mod split;
 pub mod turns;
 
 // The tree under edit: its root page, and the number below which new pages are looked for.
+// That top is at most 64 stays a clause, and no ghost field: the definitions name trees of any top (`CanAbsorb`, `state_of`), and would have to show it.
 #[derive(Clone, Copy)]
 pub struct Tree {
     pub root: usize,

@@ -1,7 +1,6 @@
 -- `count_pending`: a store counts one more of its line, a flush changes nothing, and a barrier leaves what was not flushed.
 -- Assumes nothing.
 use mathlib.Core.Path.{sym, ap, ◌∙◌, subst}
-use native.Mathlib.Omega.{arith}
 use lib.ListN.{length}
 use Rattle.cuts.specs.Products.{pending_after, LineIn, ways}
 use Rattle.cuts.specs.declared.Does.{Does}
@@ -11,10 +10,6 @@ pub tally-requires : goal.tally-requires
 unfolding LineIn
 tally-requires c =
     record { line_in_bounds = (subst (λ (d : Does). LineIn d c.args.line (length c.args.pending.now)) c.in-Stores.is c.requires.line_in.0, c.requires.line_in.3); product_value = (c.requires.product_value.0, c.requires.product_value.2) }
-
-pub copy_all-requires : goal.copy_all-requires
-copy_all-requires c =
-    (sym c.requires.line_in.1, omega (arith, c.requires.line_in.1, c.requires.line_in.2))
 
 pub returns-in-Stores : goal.returns-in-Stores
 unfolding pending_after

@@ -1,28 +1,19 @@
 -- `find_cut`: the cut at the place found, or none if that lies past the tape.
 -- Assumes nothing.
 use Rattle.std.specs.Prelude.{Err}
-use Prim.Native.Nat.{ℕ, ◌*◌, ◌≤◌, ◌<◌}
-use mathlib.Core.Path.{◌≡◌, refl, sym, ap, ◌∙◌, subst}
+use Prim.Native.Nat.{ℕ, ◌*◌, ◌≤◌}
+use mathlib.Core.Path.{◌≡◌, refl, sym, ap, ◌∙◌}
 use mathlib.Core.List.{List, [], ◌++◌}
 use native.Mathlib.Omega.{arith}
-use lib.ListN.{length, get_or, take, drop, replicate, length-append}
-use lib.Seq.{length-take-le, take_at}
-use borrow.Author.Rules.{rules}
+use lib.ListN.{length, get_or, take, drop, replicate}
+use lib.Seq.{take_at}
 use Rattle.device.specs.Tape.{decode}
 use Rattle.cuts.specs.All.{choices_up_to}
-use Rattle.cuts.specs.Products.{ways, Names, Sought}
+use Rattle.cuts.specs.Products.{Sought}
 use Rattle.cuts.proofs.Calls.{found-cut, no_cut}
 use Rattle.cuts.proofs.Sought.{front_length, front-asks, front-gives, sought-listed, sought-past}
 use Rattle.cuts.proofs.find_cut.Goals as goal
 use Rattle.cuts.proofs.find_cut.Goals.{After-seek-place, Else-count-commands}
-
-pub slice_bounds-seek-end : goal.slice_bounds-seek-end
-slice_bounds-seek-end c =
-    sym (front_length (length c.args.choices.now) 1024 c.requires.choices_len_bound)
-
-pub slice_bounds-seek-end-2 : goal.slice_bounds-seek-end-2
-slice_bounds-seek-end-2 c =
-    sym (front_length (length c.args.choices.now) 1024 c.requires.choices_len_bound)
 
 pub seek-place-requires : goal.seek-place-requires
 seek-place-requires c =
@@ -49,20 +40,6 @@ returns-then-count-commands c =
 -- it lies within the tape
 within : (c : Else-count-commands) → c.seek-place.result.commands ≤ length (decode (64 * length c.args.choices.now) c.args.tape.now)
 within c = omega (arith, c.if-count-commands.false, c.requires.tape_value)
-
-pub slice_bounds-pending-end-2 : goal.slice_bounds-pending-end-2
-slice_bounds-pending-end-2 c = omega (arith, kept (goal.at.slice_bounds-pending-end-2 c).After-seek-place, length-append c.seek-place.new.pending (drop (length c.args.choices.now) (replicate 1024 0)))
-
-pub slice_bounds-put_choices-end : goal.slice_bounds-put_choices-end
-slice_bounds-put_choices-end c = sym (ap length (again (goal.at.slice_bounds-put_choices-end c).After-seek-place) ∙ kept (goal.at.slice_bounds-put_choices-end c).After-seek-place)
-
-pub slice_bounds-put_choices-end-2 : goal.slice_bounds-put_choices-end-2
-slice_bounds-put_choices-end-2 c = sym (length-take-le _ c.seek-place.new.named (search rules))
-
-pub put_choices-requires : goal.put_choices-requires
-put_choices-requires c =
-    let f = (found (goal.at.put_choices-requires c).After-seek-place).found (within (goal.at.put_choices-requires c).Else-count-commands) in
-    (sym (ap length (again (goal.at.put_choices-requires c).After-seek-place) ∙ kept (goal.at.put_choices-requires c).After-seek-place), subst (λ (ms : List ℕ). c.seek-place.result.rest < ways ms) (sym (again (goal.at.put_choices-requires c).After-seek-place)) f.0, subst (Names (take c.seek-place.result.commands c.seek-place.new.named)) (sym (again (goal.at.put_choices-requires c).After-seek-place)) f.2)
 
 pub returns : goal.returns
 returns c =

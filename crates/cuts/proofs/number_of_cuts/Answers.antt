@@ -3,16 +3,8 @@
 use Prim.Native.Nat.{◌*◌}
 use mathlib.Core.Path.{refl, sym}
 use Rattle.device.specs.Tape.{decode}
-use Rattle.cuts.proofs.Sought.{front_length, front-asks, front-gives, all-passed}
+use Rattle.cuts.proofs.Sought.{front-asks, front-gives, all-passed}
 use Rattle.cuts.proofs.number_of_cuts.Goals as goal
-
-pub slice_bounds-seek-end : goal.slice_bounds-seek-end
-slice_bounds-seek-end c =
-    sym (front_length c.args.lines 1024 c.requires.lines_bound)
-
-pub slice_bounds-seek-end-2 : goal.slice_bounds-seek-end-2
-slice_bounds-seek-end-2 c =
-    sym (front_length c.args.lines 1024 c.requires.lines_bound)
 
 pub seek-end-requires : goal.seek-end-requires
 seek-end-requires c =

@@ -9,7 +9,7 @@ use Rattle.device.specs.Tape.{is_command, front}
 use Rattle.device.proofs.Decode.{head_at}
 use Rattle.cuts.specs.Products.{Describes, LineIn}
 use Rattle.cuts.specs.declared.Does.{Does}
-use Rattle.cuts.proofs.Seeking.{Room, walk_start, walk-command, walk-room, walk-next, walk-past, walk-found}
+use Rattle.cuts.proofs.Seeking.{Room, walk_start, walk-command, walk-room, walk-next, walk-past}
 use Rattle.cuts.proofs.seek.Goals as goal
 use Rattle.cuts.proofs.seek.Goals.{After-command_at-next, Else-at-tape}
 
@@ -32,26 +32,11 @@ loop-product-init c =
     let a = c.args in
     (refl, c.requires.by_index.2, c.requires.by_index.4, walk_start (length a.pending.now) a.tape.now a.r a.pending.now a.unflushed.now a.named.now refl c.requires.by_index.2 c.requires.by_index.0 c.requires.by_index.1 c.requires.tape_value.0)
 
-pub overflow_add-result : goal.overflow_add-result
-overflow_add-result c = omega (arith, c.loop-product.invariant.3.few, c.requires.tape_value.1)
-
-pub shape_of-pending-then-at-tape : goal.shape_of-pending-then-at-tape
-shape_of-pending-then-at-tape c = c.loop-product.invariant.0
-
-pub shape_of-unflushed-then-at-tape : goal.shape_of-unflushed-then-at-tape
-shape_of-unflushed-then-at-tape c = c.loop-product.invariant.1 ∙ sym c.requires.by_index.2
-
-pub shape_of-named-then-at-tape : goal.shape_of-named-then-at-tape
-shape_of-named-then-at-tape c = c.loop-product.invariant.2 ∙ sym c.requires.by_index.4
-
 pub returns-then-at-tape : goal.returns-then-at-tape
 returns-then-at-tape c = walk-past _ _ _ _ _ _ _ _ _ _ _ c.loop-product.invariant.3 (omega arith) c.loop-product-test.true _ refl refl
 
 pub command_at-next-requires : goal.command_at-next-requires
 command_at-next-requires c = head_at _ _ _ (inside (goal.at.command_at-next-requires c).Else-at-tape) (here (goal.at.command_at-next-requires c).Else-at-tape)
-
-pub offset_bounds-named-commands : goal.offset_bounds-named-commands
-offset_bounds-named-commands c = omega (arith, (room (goal.at.offset_bounds-named-commands c).After-command_at-next (inside (goal.at.offset_bounds-named-commands c).Else-at-tape) (here (goal.at.offset_bounds-named-commands c).Else-at-tape)).another)
 
 pub bounds-named-commands : goal.bounds-named-commands
 bounds-named-commands c = omega (arith, (room (goal.at.bounds-named-commands c).After-command_at-next (inside (goal.at.bounds-named-commands c).Else-at-tape) (here (goal.at.bounds-named-commands c).Else-at-tape)).another, c.loop-product.invariant.2)
@@ -75,9 +60,6 @@ count_unflushed-later-requires c =
 pub overflow_add-at : goal.overflow_add-at
 overflow_add-at c = omega (arith, (room (goal.at.overflow_add-at c).After-command_at-next (inside (goal.at.overflow_add-at c).Else-at-tape) (here (goal.at.overflow_add-at c).Else-at-tape)).in_tape)
 
-pub overflow_add-commands : goal.overflow_add-commands
-overflow_add-commands c = omega (arith, (room (goal.at.overflow_add-commands c).After-command_at-next (inside (goal.at.overflow_add-commands c).Else-at-tape) (here (goal.at.overflow_add-commands c).Else-at-tape)).another)
-
 pub loop-product-smaller : goal.loop-product-smaller
 loop-product-smaller c = let r = room (goal.at.loop-product-smaller c).After-command_at-next (inside (goal.at.loop-product-smaller c).Else-at-tape) (here (goal.at.loop-product-smaller c).Else-at-tape) in omega (arith, r.in_tape, r.some)
 
@@ -91,15 +73,3 @@ loop-product-preserved c =
       walk-next _ _ _ _ _ _ _ _ _ _ _ l.invariant.3 (inside (goal.at.loop-product-preserved c).Else-at-tape) _ (described (goal.at.loop-product-preserved c).After-command_at-next (here (goal.at.loop-product-preserved c).Else-at-tape)) _ _ _ _ c.loop-product-test.true r.in_tape (omega (arith, r.another, l.invariant.2)) c.count_pending-product.ensures.pending_after c.count_pending-product.ensures.value
           c.count_unflushed-later.ensures.unflushed_after c.count_unflushed-later.ensures.value,
     )
-
-pub shape_of-pending : goal.shape_of-pending
-shape_of-pending c = c.loop-product.invariant.0
-
-pub shape_of-unflushed : goal.shape_of-unflushed
-shape_of-unflushed c = c.loop-product.invariant.1 ∙ sym c.requires.by_index.2
-
-pub shape_of-named : goal.shape_of-named
-shape_of-named c = c.loop-product.invariant.2 ∙ sym c.requires.by_index.4
-
-pub returns : goal.returns
-returns c = walk-found _ _ _ _ _ _ _ _ _ _ _ c.loop-product.invariant.3 (omega arith) _ refl refl

@@ -19,9 +19,6 @@ others ms l product k h e f =
 others-bound : (product k : ℕ) → product ≤ 4096 → k ≤ 12 → product / (k + 1) * (k + 1 + 1) ≤ 65536
 others-bound product k h i = le_trans (mul-le-mul {n₁ = product / (k + 1)} {m₁ = k + 1 + 1} {n₂ = product} {m₂ = 16} (div-le_self product (k + 1)) (omega arith)) (omega arith)
 
-pub overflow_mul-result : goal.overflow_mul-result
-overflow_mul-result c = let a = c.args in omega (arith, others-bound a.product c.wide-factor.result (omega arith) (omega arith))
-
 pub returns-then-stores : goal.returns-then-stores
 returns-then-stores c =
     let a = c.args in

@@ -8,12 +8,6 @@ use borrow.Author.Tests.{lt-ltb, le-ltb}
 use Rattle.edit.proofs.Judging.{bad_head}
 use Rattle.edit.proofs.bad_head.Goals as goal
 
-pub returns-in-1 : goal.returns-in-1
-returns-in-1 c = rw c.in-1.is
-
-pub returns-in-2 : goal.returns-in-2
-returns-in-2 c = rw c.in-2.is
-
 pub returns-in-3 : goal.returns-in-3
 returns-in-3 c = rw c.in-3.is
 
@@ -24,6 +18,3 @@ go (suc zero) n a b c = absurd (a refl)
 go (suc (suc zero)) n a b c = absurd (b refl)
 go (suc (suc (suc zero))) n a b c = absurd (c refl)
 go (suc (suc (suc (suc k)))) n a b c = rw (lt-ltb 3 (suc (suc (suc (suc k)))) (omega arith), le-ltb (suc (suc (suc (suc k)))) 1 (omega arith))
-
-pub returns-in_default : goal.returns-in_default
-returns-in_default c = go c.args.kind c.args.n c.in_default.in_default-own.rest.0.0.1 c.in_default.in_default-own.rest.0.1 c.in_default.in_default-own.rest.1

@@ -17,9 +17,6 @@ loop-at-init c = (omega arith, omega arith, judged-start c.args.list.now c.if-li
 pub returns-then-edit-gt15 : goal.returns-then-edit-gt15
 returns-then-edit-gt15 c = sym (judged-past c.args.list.now c.loop-at.at c.loop-at-test.true (16 - c.loop-at.edit) c.loop-at.edit (omega arith)) ∙ c.loop-at.invariant.2
 
-pub fault_at-requires : goal.fault_at-requires
-fault_at-requires c = omega arith
-
 pub returns-in-Some : goal.returns-in-Some
 returns-in-Some c =
     let loop = c.loop-at in
@@ -27,26 +24,8 @@ returns-in-Some c =
     ap (λ (cause : Cause). Err (record { cause = cause; edit = loop.edit })) (sym named.1)
     ∙ sym (judged-fault c.args.list.now loop.at c.loop-at-test.true _ loop.edit (15 - loop.edit) (omega arith) _ refl named.0) ∙ loop.invariant.2
 
-pub overflow_add-at : goal.overflow_add-at
-overflow_add-at c = omega (arith, (faultless-in c.args.list.now c.loop-at.at (none-named _ c.in_default.ensures) (omega arith)))
-
-pub overflow_add-at-in-loop-at : goal.overflow_add-at-in-loop-at
-overflow_add-at-in-loop-at c = omega (arith, (faultless-in c.args.list.now c.loop-at.at (none-named _ c.in_default.ensures) (omega arith)))
-
 pub bounds-list-at : goal.bounds-list-at
 bounds-list-at c = omega (arith, (faultless-in c.args.list.now c.loop-at.at (none-named _ c.in_default.ensures) (omega arith)))
-
-pub wide-requires : goal.wide-requires
-wide-requires c = omega arith
-
-pub overflow_add-at-in-loop-at-2 : goal.overflow_add-at-in-loop-at-2
-overflow_add-at-in-loop-at-2 c = omega (arith, (faultless-in c.args.list.now c.loop-at.at (none-named _ c.in_default.ensures) (omega arith)), c.wide.ensures.0)
-
-pub overflow_add-edit : goal.overflow_add-edit
-overflow_add-edit c = omega arith
-
-pub loop-at-smaller : goal.loop-at-smaller
-loop-at-smaller c = omega (arith, (faultless-in c.args.list.now c.loop-at.at (none-named _ c.in_default.ensures) (omega arith)), c.wide.ensures.0)
 
 pub loop-at-preserved : goal.loop-at-preserved
 loop-at-preserved c =

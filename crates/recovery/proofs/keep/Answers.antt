@@ -5,8 +5,7 @@ use mathlib.Core.Path.{sym, ◌∙◌}
 use mathlib.Core.List.{List}
 use Prim.Native.Nat.{ℕ}
 use borrow.Author.Tests.{not-true, not-false}
-use Rattle.image.proofs.Zero.{size-true, ready-facts}
-use lib.ListN.{length}
+use Rattle.image.proofs.Zero.{ready-facts}
 use Rattle.journal.specs.declared.Way.{Way}
 use Rattle.recovery.specs.Calls.{recover_call}
 use Rattle.recovery.proofs.Shown.{Shows, kept-refused, kept-accepted}
@@ -20,10 +19,6 @@ pub returns-then-not-tree_ok : goal.returns-then-not-tree_ok
 returns-then-not-tree_ok c =
     let e : (way : Way) (tape : List ℕ) → Shows (Err c.of.result) c.args.work.now tape (recover_call way c.args.image.now c.args.work.now tape) = λ way tape. kept-refused way c.args.image.now c.args.work.now tape c.requires.0 c.requires.1 c.args.root c.requires.2 (sym c.tree_ok.ensures ∙ not-true _ c.if-not-tree_ok.true-raw) _ c.of.ensures in
     record { value = λ way tape. (e way tape).0; work_after = λ way tape. (e way tape).1.0; tape_value = λ way tape. (e way tape).1.1 }
-
-pub copy_all-requires : goal.copy_all-requires
-copy_all-requires c =
-    (c.requires.1, (size-true (length c.args.image.now) c.requires.0).high)
 
 pub returns : goal.returns
 returns c =

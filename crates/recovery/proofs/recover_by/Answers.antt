@@ -13,22 +13,6 @@ pub returns-then-work-n : goal.returns-then-work-n
 returns-then-work-n c = let whole =
     work-shows c.args.way c.args.image.now c.args.work.now c.args.tape.now (sym c.is_image_size.ensures ∙ not-false _ c.if-not-is_image_size.false-raw) c.if-work-n.true _ c.of-then-work-n.ensures in record { value = whole.0; work_after = whole.1.0; tape_after = whole.1.1 }
 
-pub page_zero-requires : goal.page_zero-requires
-page_zero-requires c = (sym c.is_image_size.ensures ∙ not-false _ c.if-not-is_image_size.false-raw)
-
-pub keep-requires : goal.keep-requires
-keep-requires c = ((sym c.is_image_size.ensures ∙ not-false _ c.if-not-is_image_size.false-raw), c.if-work-n.false, sym c.page_zero.ensures ∙ c.in-Ready.is)
-
-pub redo_log-requires : goal.redo_log-requires
-redo_log-requires c = ((sym c.is_image_size.ensures ∙ not-false _ c.if-not-is_image_size.false-raw), c.if-work-n.false, sym c.page_zero.ensures ∙ c.in-Waiting.is)
-
 pub returns-in-Wrong : goal.returns-in-Wrong
 returns-in-Wrong c = let whole =
     wrong-shows c.args.way c.args.image.now c.args.work.now c.args.tape.now (sym c.is_image_size.ensures ∙ not-false _ c.if-not-is_image_size.false-raw) c.if-work-n.false (sym c.page_zero.ensures ∙ c.in-Wrong.is) _ c.of-in-Wrong.ensures in record { value = whole.0; work_after = whole.1.0; tape_after = whole.1.1 }
-
-pub returns-in-Ready : goal.returns-in-Ready
-returns-in-Ready c =
-    record { value = c.keep.ensures.value c.args.way c.args.tape.now; work_after = c.keep.ensures.work_after c.args.way c.args.tape.now; tape_after = c.keep.ensures.tape_value c.args.way c.args.tape.now }
-
-pub returns-in-Waiting : goal.returns-in-Waiting
-returns-in-Waiting c = record { value = c.redo_log.ensures.value; work_after = c.redo_log.ensures.work_after; tape_after = c.redo_log.ensures.tape_after }

@@ -24,10 +24,6 @@ pub returns-then-not-logged_ok : goal.returns-then-not-logged_ok
 returns-then-not-logged_ok c = let whole =
     log-refused c.args.way c.args.image.now c.args.work.now c.args.tape.now c.requires.0 c.requires.1 c.args.headers c.args.root c.requires.2 (sym c.logged_ok.ensures ∙ not-true _ c.if-not-logged_ok.true-raw) _ c.of.ensures in record { value = whole.0; work_after = whole.1.0; tape_after = whole.1.1 }
 
-pub replay_ok-requires : goal.replay_ok-requires
-replay_ok-requires c =
-    (c.requires.0, (record { zero = c.requires.2; ok = (sym c.logged_ok.ensures ∙ not-false _ c.if-not-logged_ok.false-raw) }))
-
 pub returns-then-not-replay_ok : goal.returns-then-not-replay_ok
 returns-then-not-replay_ok c = let whole =
     tree-refused c.args.way c.args.image.now c.args.work.now c.args.tape.now c.requires.0 c.requires.1 c.args.headers c.args.root c.requires.2 (sym c.logged_ok.ensures ∙ not-false _ c.if-not-logged_ok.false-raw) (sym c.replay_ok.ensures ∙ not-true _ c.if-not-replay_ok.true-raw) _ c.of-then-not-replay_ok.ensures in record { value = whole.0; work_after = whole.1.0; tape_after = whole.1.1 }

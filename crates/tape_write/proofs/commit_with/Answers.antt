@@ -4,7 +4,7 @@ use Prim.Native.Nat.{ℕ, ◌+◌, ◌*◌}
 use mathlib.Core.Path.{◌≡◌, sym, ap, ap₂, ◌∙◌, subst}
 use mathlib.Core.List.{List, []}
 use native.Mathlib.Omega.{arith}
-use lib.ListN.{length, take, length-replicate}
+use lib.ListN.{length, take}
 use lib.Seq.{sets}
 use Rattle.codec.specs.Lists.{All}
 use Rattle.device.specs.Tape.{tape_bytes}
@@ -16,10 +16,6 @@ use Rattle.tape_write.proofs.Encoding.{group-few}
 use Rattle.tape_write.proofs.Choosing.{end-few, leaves-as}
 use Rattle.tape_write.proofs.Committing.{words-there, pages-there, counts-few, pages-few, bytes-are, says-full, says-short, says-done}
 use Rattle.tape_write.proofs.commit_with.Goals as goal
-
-pub find_changes-found-requires : goal.find_changes-found-requires
-find_changes-found-requires c =
-    record { lent = c.requires.0; image_len_bound = (c.requires.1, length-replicate {A = ℕ} 64 0) }
 
 pub returns-then-k-gt15 : goal.returns-then-k-gt15
 returns-then-k-gt15 c = let whole =

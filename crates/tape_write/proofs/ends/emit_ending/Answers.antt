@@ -1,26 +1,15 @@
 -- `emit_ending`: with the root word or without.
 -- Assumes nothing.
-use Prim.Native.Nat.{ℕ, ◌+◌, ◌*◌}
+use Prim.Native.Nat.{◌+◌, ◌*◌}
 use mathlib.Core.Path.{sym, ap, ◌∙◌}
-use mathlib.Core.Bool.{Bool}
 use mathlib.Core.List.{List, [], ◌∷◌}
 use native.Mathlib.Omega.{arith}
 use lib.Seq.{sets}
-use Rattle.codec.specs.Lists.{pick}
 use Rattle.codec.specs.Numbers.{bytes_of}
 use Rattle.device.specs.Tape.{Op, tape_bytes, store}
 use Rattle.tape_write.proofs.Encoding.{tape-then}
 use Rattle.tape_write.proofs.Endings.{length-number, ending-same, ending-other}
 use Rattle.tape_write.proofs.ends.emit_ending.Goals as goal
-
-pub emit_settled-requires : goal.emit_settled-requires
-emit_settled-requires c = omega (arith, ap (λ (t : Bool). pick {A = ℕ} t 0 12) c.if-same.true)
-
-pub emit_number-requires : goal.emit_number-requires
-emit_number-requires c = omega (arith, ap (λ (t : Bool). pick {A = ℕ} t 0 12) c.if-same.false)
-
-pub emit_settled-requires-else-same : goal.emit_settled-requires-else-same
-emit_settled-requires-else-same c = omega (arith, ap (λ (t : Bool). pick {A = ℕ} t 0 12) c.if-same.false, c.emit_number.auto.tape)
 
 pub returns-then-same : goal.returns-then-same
 returns-then-same c =

@@ -21,6 +21,3 @@ pub returns-in-ByLine : goal.returns-in-ByLine
 unfolding lines_bytes
 returns-in-ByLine c =
     rw c.in-ByLine.is (by-line c.args.src.now c.args.from c.args.line c.requires.1 c.args.tape.now _ c.args.at (omega (arith, c.requires.0, ap (λ (v : Way). lines_bytes v 1) c.in-ByLine.is)) c.emit_line.ensures)
-
-pub returns-in-ByWords : goal.returns-in-ByWords
-returns-in-ByWords c = rw c.in-ByWords.is c.emit_eight.ensures

@@ -4,12 +4,6 @@ use mathlib.Core.Path.{sym, ◌∙◌}
 use Rattle.tape_write.proofs.Skipped.{none-collected, differ-whole}
 use Rattle.tape_write.proofs.words.collect_changed.Goals as goal
 
-pub returns-then-kept-eq0 : goal.returns-then-kept-eq0
-returns-then-kept-eq0 c = let whole = none-collected _ (c.requires.5 c.if-kept-eq0.true) _ _ in record { value = whole.0; words_after = whole.1 }
-
 pub returns-then-same_words : goal.returns-then-same_words
 returns-then-same_words c = let whole =
     none-collected _ (differ-whole c.args.image.now c.args.work.now c.args.from c.args.to (sym c.same_words.ensures ∙ c.if-same_words.true)) _ _ in record { value = whole.0; words_after = whole.1 }
-
-pub returns : goal.returns
-returns c = record { value = c.collect.ensures.value; words_after = c.collect.ensures.words_after }

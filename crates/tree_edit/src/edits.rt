@@ -33,6 +33,7 @@ pub(crate) fn child_of(work: &[u8], root: usize, key: u64) -> Child
 }
 
 // Gives the root what stands for a page under it once an edit there is made: the tree is then what the root has become.
+#[inline(always)]
 fn raise(
     work: &mut [u8],
     before: &[u8; 64],

@@ -184,6 +184,7 @@ pub(crate) fn drop_record(work: &mut [u8], t: Tree, page: usize, only: bool, j: 
 
 // What a page takes from the page under it, once an edit there is made: "The left or only record takes the old leaf's slot, as in an update";
 // "the right one is an insert".
+#[inline(always)]
 pub(crate) fn absorb(
     work: &mut [u8],
     before: &[u8; 64],
@@ -224,6 +225,7 @@ pub(crate) fn absorb(
 }
 
 // The tree after what the root has become: "which changes the root number". A root is not split.
+#[inline(always)]
 pub(crate) fn root_step(root: usize, above: Turned) -> Result<Tree, Cause>
     requires { NotTwo above × (top_after above ≤ 64) }
     ensures { (before work : List ℕ) → Says before work result (rooted format1 1 (turn_of before work root above)) }

@@ -15,7 +15,7 @@ static inline const char *words_of(uint8_t number)
         "accepted", "the image has a wrong length", "the work buffer has another length than the image",
         "a commit waits: recover first", "what was read is not that of a store", "the list is malformed",
         "the key is out of range", "the value is too long", "the key is there already",
-        "the key is not there", "a 29th leaf is needed", "too few pages are free",
+        "the key is not there", "a top page would need a 29th record", "too few pages are free",
         "more than 15 headers change", "the tape is too short", "the tape is malformed",
         "the cut is past the tape's end", "the choices have a wrong length",
         "the tape has more than 12 commands", "there is no cut of this number",

@@ -56,7 +56,8 @@
  *   program calls quote_recover and does the same. Before a transaction,
  *   quote_preview shows what its edits would make of a quote.
  *   examples/quote.c and examples/crash.c are such programs; examples/all_cuts.c
- *   tries every cut of a transaction; examples/merge.c makes two books into one.
+ *   tries every cut of a transaction; examples/merge.c makes two books into one;
+ *   examples/grow.c fills a store past one index page.
  *   docs/USING.md says how long a call takes, and what to do when a store is full
  *   or damaged.
  *
@@ -67,16 +68,28 @@
  *   have no LINE_STORE. Nothing in an image says which memory it is on, and all
  *   other calls are the same for both.
  *
+ * How large a store grows
+ *   A leaf is a page of up to 28 quotes, an index page names up to 28 leaves, and a
+ *   top page up to 28 index pages (document 02 (j)). The root of a store is an index
+ *   page, or a top page above its index pages. A transaction that needs a 29th leaf
+ *   in a root that is an index page splits it in two under a new top page, which
+ *   then stays. So only the pages of the image limit a store: INDEX_FULL, the answer
+ *   where a top page would need a 29th record, is never given, as 64 pages don't
+ *   suffice for so many.
+ *
  * What of an image is judged
  *   quote_check, quote_merge, the transactions and the recoveries judge all of it,
- *   every leaf that the index names. quote_lookup, quote_next_key and quote_preview
- *   read page 0's first line, the index page and the leaves that they need, and
- *   judge these alone: they refuse the keys of a damaged leaf, and answer all
- *   others as if it were sound. A key belongs to the last leaf whose separator in
- *   the index is not above it, else to the first; and so does every 8-byte number.
- *   On an image that quote_check accepts, none of the three refuses with
- *   MARK_WAITS or UNSOUND. On one that it refuses, a key may be said to be
- *   missing though a leaf that was not read holds it: if separators are damaged.
+ *   every leaf that an index page names. quote_lookup, quote_next_key and
+ *   quote_preview read page 0's first line, the root page, and of the index pages
+ *   under a top and of the leaves those that they need, and judge these alone: they
+ *   refuse the keys of a damaged leaf, and those under a damaged index page, and
+ *   answer all others as if it were sound. The pages that one call reads are judged
+ *   together: two index pages that name the same leaf are wrong where both are read.
+ *   A key belongs to the last leaf whose separator in its index page is not above it,
+ *   else to the first, and by the same rule to an index page under a top; and so does
+ *   every 8-byte number. On an image that quote_check accepts, none of the three
+ *   refuses with MARK_WAITS or UNSOUND. On one that it refuses, a key may be said to
+ *   be missing though a leaf that was not read holds it: if separators are damaged.
  *
  * Link with crates/store/out/libstore.a, which `rt lib` makes in crates/store.
  */
@@ -182,7 +195,7 @@ enum quote_answer {
     QUOTE_LONG_VALUE = 7,       /* the value has more than 200 bytes */
     QUOTE_KEY_PRESENT = 8,      /* insert of a key that the store has */
     QUOTE_KEY_MISSING = 9,      /* update or delete of a key that it has not */
-    QUOTE_INDEX_FULL = 10,      /* the edit, or the merge, would need a 29th leaf */
+    QUOTE_INDEX_FULL = 10,      /* the edit, or the merge, would need a 29th record in a top page: never answered */
     QUOTE_PAGES_OUT = 11,       /* an insert or update needs more new pages than are free, or a merge more than there are */
     QUOTE_LOG_FULL = 12,        /* the edits change more than 15 headers */
     QUOTE_TAPE_SHORT = 13,      /* the tape has too few bytes */
@@ -266,29 +279,33 @@ uint8_t quote_format(uint8_t *image, size_t image_length);
 uint8_t quote_check(const uint8_t *image, size_t image_length);
 
 /*
- * Lookup: where the value of a key is. Of the leaves it reads one, that which
- * the key belongs to.
+ * Lookup: where the value of a key is. It reads the root, the leaf that the key
+ * belongs to and, under a top page, the index page of that leaf.
  *   image   read.
  *   answer  three numbers: 1, the value's offset in the image, its length; or
  *           0, 0, 0 if the store has no such key. The value is read in place,
  *           at image + answer[1]; an empty value's offset may be image_length.
  *   refuses IMAGE_SIZE_WRONG; UNSOUND if page 0 is wrong; MARK_WAITS; UNSOUND
- *           if the index is wrong, or that leaf; KEY_RANGE. answer then stays.
+ *           if the root is wrong, or that index page, or that leaf; KEY_RANGE.
+ *           answer then stays.
  */
 uint8_t quote_lookup(const uint8_t *image, size_t image_length, uint64_t key,
                      uint64_t *answer, size_t answer_length);
 
 /*
  * Next key: the smallest key above a number, which need not be a key. From 0
- * on, it leads through all keys, rising. It reads the leaf that the number
- * belongs to and, only if that holds no larger key, the leaf after it.
+ * on, it leads through all keys, rising. It reads the root, the leaf that the
+ * number belongs to and, only if that holds no larger key, the leaf after it; under
+ * a top page also the index page of each leaf that it reads, where the leaf after
+ * may be the first of the next index page.
  *   image   read.
  *   answer  two numbers: 1 and the key; or 0, 0 if there is none.
  *   refuses IMAGE_SIZE_WRONG; UNSOUND if page 0 is wrong; MARK_WAITS; UNSOUND
- *           if the index is wrong, or the first of these leaves, or the second
- *           where it is read. answer then stays.
- * So a walk from 0 on is refused where a damaged leaf begins; it can go on from
- * any number that belongs to a later one.
+ *           if the root is wrong, or the first of these leaves or its index page,
+ *           or the second or its index page, where they are read. answer then
+ *           stays.
+ * So a walk from 0 on is refused where a damaged leaf begins, or a damaged index
+ * page; it can go on from any number that belongs to a later one.
  */
 uint8_t quote_next_key(const uint8_t *image, size_t image_length, uint64_t key,
                        uint64_t *answer, size_t answer_length);
@@ -310,16 +327,17 @@ uint8_t quote_next_key(const uint8_t *image, size_t image_length, uint64_t key,
  *           at fault, from 0, for 5 to 9 and 19, and three zeros; it is 0 too for
  *           1, 3, 4 and the key asked, which are no edit's.
  *   refuses IMAGE_SIZE_WRONG; UNSOUND if page 0 is wrong; MARK_WAITS; UNSOUND
- *           if the index is wrong; then for the first faulty edit of the list
+ *           if the root is wrong; then for the first faulty edit of the list
  *           BAD_LIST, LONG_VALUE, EMPTY_VALUE, BAD_LIST if the value is cut
  *           short, KEY_RANGE; then KEY_RANGE for the key asked; then, over the
  *           whole list, each edit seeing those before it, for the first that
- *           fails UNSOUND if the leaf that its key belongs to is wrong,
- *           KEY_PRESENT, KEY_MISSING; last, if no edit has the key asked,
- *           UNSOUND if the leaf that this belongs to is wrong.
+ *           fails UNSOUND if the leaf that its key belongs to is wrong, or the
+ *           index page of that leaf under a top page, KEY_PRESENT, KEY_MISSING;
+ *           last, if no edit has the key asked, UNSOUND for the same reasons of the
+ *           leaf that this belongs to.
  * Pages, log and tape play no part: it does not say whether the transaction of
- * the list finds room, which may still be refused with INDEX_FULL, PAGES_OUT,
- * LOG_FULL or TAPE_SHORT. Where that is accepted, a lookup of the key in its
+ * the list finds room, which may still be refused with PAGES_OUT, LOG_FULL or
+ * TAPE_SHORT. Where that is accepted, a lookup of the key in its
  * work finds the same bytes; where it is refused with 5 to 9 or 19, so is the
  * preview of a key in range, with the same edit number.
  */
@@ -330,8 +348,10 @@ uint8_t quote_preview(const uint8_t *image, size_t image_length,
 /*
  * Merge: writes the quotes of two books as one store into a third buffer (document
  * 02 (i)). Page 1 is its index, and the leaves are pages 2, 3 and so on: they take
- * the quotes by rising key, each as many as 28 records and 960 bytes allow. Stored
- * empty values are taken too.
+ * the quotes by rising key, each as many as 28 records and 960 bytes allow. If that
+ * makes more than 28 leaves, page 1 is a top page, pages 2, 3 and so on are index
+ * pages of 28 leaves each, the last one of the rest, and the leaves follow them.
+ * Stored empty values are taken too.
  *   first   read: an image.
  *   second  read: another image, or the same one.
  *   out     Its length says how many pages the result has, 8 to 64; the three
@@ -344,10 +364,11 @@ uint8_t quote_preview(const uint8_t *image, size_t image_length,
  *   refuses IMAGE_SIZE_WRONG for out; as quote_check for first (IMAGE_SIZE_WRONG;
  *           UNSOUND if page 0 is wrong; MARK_WAITS; UNSOUND); the same for
  *           second; KEY_IN_BOTH if some key is in both, whatever its values;
- *           INDEX_FULL if there would be more than 28 leaves, even if out has too
- *           few pages as well; PAGES_OUT if page 1 and the leaves are more than
- *           the pages of out past page 0: n leaves need n + 2 pages, and a book
- *           without quotes has one leaf.
+ *           INDEX_FULL if a top page would have more than 28 records, which two
+ *           books don't suffice for; PAGES_OUT if page 1, the index pages under a
+ *           top page and the leaves are more than the pages of out past page 0: n
+ *           leaves, up to 28, need n + 2 pages, up to 56 of them n + 4, and 57 to 59
+ *           need n + 5, so that 59 are the most. A book without quotes has one leaf.
  * Only out is written, so it overlaps neither of the others. These may overlap: a
  * book may be merged with itself, which is KEY_IN_BOTH unless it has no quote.
  * There is no tape, and nothing makes the writing of out durable or safe from a

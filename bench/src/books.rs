@@ -1,7 +1,7 @@
 //! The books and the edits that are measured. A turn is a number; with each the
 //! edits move on to other quotes, and at turn 0 all start near the front.
 
-use cases::images::{even, Built};
+use cases::images::{even, even_under, Built};
 use cases::random::Random;
 
 const SEED: u64 = 20_240_607;
@@ -14,13 +14,35 @@ pub fn five_hundred(leaves: usize) -> Built {
 /// A store with its quotes evenly over the leaves, and no two keys side by
 /// side.
 pub fn book(pages: usize, leaves: usize, quotes: usize) -> Built {
+    book_of(pages, &[leaves], quotes)
+}
+
+/// The same with so many leaves in each index page.
+pub fn book_of(pages: usize, leaves: &[usize], quotes: usize) -> Built {
     let mut random = Random::new(SEED);
     loop {
-        let built = even(&mut random, pages, leaves, quotes);
+        let built = store(&mut random, pages, leaves, quotes);
         let apart = |two: &[(u64, Vec<u8>)]| two[0].0 + 1 < two[1].0;
         if built.table.windows(2).all(apart) {
             return built;
         }
+    }
+}
+
+/// A store with so many leaves in each index page; several of these stand under a
+/// top.
+pub fn store(random: &mut Random, pages: usize, leaves: &[usize], quotes: usize) -> Built {
+    match leaves {
+        &[leaves] => even(random, pages, leaves, quotes),
+        _ => even_under(random, pages, leaves, quotes),
+    }
+}
+
+/// How the rows name such leaves: `26`, or under a top `2x26`.
+pub fn name(leaves: &[usize]) -> String {
+    match leaves {
+        [leaves] => leaves.to_string(),
+        _ => format!("{}x{}", leaves.len(), leaves[0]),
     }
 }
 

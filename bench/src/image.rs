@@ -2,9 +2,10 @@
 //! rows, and lookup and next key beside what they cost when each judged the
 //! whole image.
 
+use bench::books;
 use bench::{lean, measure};
 use cases::damage::{damage, other_length, FIELDS};
-use cases::images::{any_shape, build, even, Built, LAST_KEY};
+use cases::images::{any_shape, build, Built, LAST_KEY};
 use cases::random::Random;
 use reference::{image as plain, Refusal};
 
@@ -128,8 +129,18 @@ fn agree(ways: [Way; 3], image: Vec<u8>, key: u64, which: usize) -> u8 {
     measure::agreed(ways, &call, which, SEED).0
 }
 
-/// Pages, leaves and quotes of the stores that are measured.
-const STORES: [(usize, usize, usize); 4] = [(8, 1, 1), (8, 6, 168), (64, 1, 1), (64, 26, 500)];
+/// Pages of a store, the leaves of each index page, and quotes.
+type Store = (usize, &'static [usize], usize);
+
+/// The stores that are measured, the last two under a top.
+const STORES: [Store; 6] = [
+    (8, &[1], 1),
+    (8, &[6], 168),
+    (64, &[1], 1),
+    (64, &[26], 500),
+    (64, &[13, 13], 500),
+    (64, &[26, 26], 1000),
+];
 
 pub fn measure() {
     measure::heading("call      pages  leaves  quotes");
@@ -145,13 +156,14 @@ pub fn measure() {
         }
     }
     for pages in [8, 64] {
-        let times = medians(FORMAT, (pages, 1, 1));
+        let times = medians(FORMAT, (pages, &[1], 1));
         measure::row(&format!("{:<10}{pages:>5}", "format"), times);
     }
     measure_old_way();
 }
 
-fn title(name: &str, (pages, leaves, quotes): (usize, usize, usize)) -> String {
+fn title(name: &str, (pages, leaves, quotes): Store) -> String {
+    let leaves = books::name(leaves);
     format!("{name:<10}{pages:>5}{leaves:>8}{quotes:>8}")
 }
 
@@ -183,12 +195,9 @@ fn measure_old_way() {
 }
 
 /// The median time of each way on a store of so many pages, leaves and quotes.
-fn medians<const N: usize>(
-    ways: [Way; N],
-    (pages, leaves, quotes): (usize, usize, usize),
-) -> [f64; N] {
+fn medians<const N: usize>(ways: [Way; N], (pages, leaves, quotes): Store) -> [f64; N] {
     let mut random = Random::new(SEED);
-    let built = even(&mut random, pages, leaves, quotes);
+    let built = books::store(&mut random, pages, leaves, quotes);
     let mut keys: Vec<u64> = built.table.iter().map(|entry| entry.0).collect();
     random.shuffle(&mut keys);
     let call = Call {

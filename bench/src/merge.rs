@@ -52,8 +52,16 @@ pub fn check() {
     println!("merge: the three agree on {CHECKED} calls, {accepted} accepted");
 }
 
-/// Quotes of each book, its pages, and those of the result.
-const ROWS: [(usize, usize, usize); 4] = [(0, 8, 8), (60, 8, 8), (250, 64, 64), (390, 64, 64)];
+/// Quotes of each book, its pages, and those of the result. From 500 on the result
+/// stands under a top, with 700 the books too.
+const ROWS: [(usize, usize, usize); 6] = [
+    (0, 8, 8),
+    (60, 8, 8),
+    (250, 64, 64),
+    (390, 64, 64),
+    (500, 64, 64),
+    (700, 64, 64),
+];
 
 /// Which book the quote with this place among all has, of so many in each.
 type Deal = fn(usize, usize) -> usize;
@@ -87,7 +95,9 @@ fn dealt((quotes, pages, into): (usize, usize, usize), deal: Deal) -> Call {
         books[to][leaf].push((1000 * (i as u64 + 1), random.bytes(8)));
         counts[to] += 1;
     }
-    let [first, second] = books.map(|lists| from_leaves(&mut random, pages, true, lists).image);
+    let counts: &[usize] = if leaves > 28 { &[28, leaves - 28] } else { &[] };
+    let [first, second] =
+        books.map(|lists| from_leaves(&mut random, pages, true, counts, lists).image);
     Call {
         first,
         second,

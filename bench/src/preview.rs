@@ -1,6 +1,6 @@
 //! Preview: the check that the three agree, and its rows.
 
-use bench::books::{book, delete, insert, one, spread, update, updates};
+use bench::books::{book_of, delete, insert, name, one, spread, update, updates};
 use bench::{lean, measure};
 use cases::images::Built;
 use cases::previews::any_call;
@@ -97,13 +97,15 @@ fn mixed(built: &Built, turn: usize) -> Vec<u8> {
 
 pub fn measure() {
     measure::heading("preview of  key in  pages  leaves  quotes");
-    for (pages, leaves) in [(8, 4), (64, 26)] {
-        let quotes = leaves * 14;
-        let built = book(pages, leaves, quotes);
-        for (name, maker) in LISTS {
+    let stores: [(usize, &[usize]); 3] = [(8, &[4]), (64, &[26]), (64, &[26, 26])];
+    for (pages, leaves) in stores {
+        let quotes = leaves.iter().sum::<usize>() * 14;
+        let built = book_of(pages, leaves, quotes);
+        let leaves = name(leaves);
+        for (list, maker) in LISTS {
             for (asked, in_list) in [("list", true), ("image", false)] {
                 let times = medians(timed_call(&built, maker, in_list));
-                let row = format!("{name:<12}{asked:<6}{pages:>7}{leaves:>8}{quotes:>8}");
+                let row = format!("{list:<12}{asked:<6}{pages:>7}{leaves:>8}{quotes:>8}");
                 measure::row(&row, times);
             }
         }

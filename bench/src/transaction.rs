@@ -1,6 +1,6 @@
 //! Transaction and recovery: the check that the three agree, and their rows.
 
-use bench::books::{book, delete, insert, key, neighbours, one, spread, update, updates};
+use bench::books::{book, book_of, delete, insert, key, neighbours, one, spread, update, updates};
 use bench::measure::timed;
 use bench::{lean, measure};
 use cases::images::Built;
@@ -241,7 +241,36 @@ fn recoveries() -> Vec<(String, usize, Call)> {
 
 fn transactions() -> Vec<(&'static str, usize, Call)> {
     let on = |pages| transactions_on(pages).map(|(name, call)| (name, pages, call));
-    [on(8), on(64)].concat()
+    let under_a_top = transactions_under_a_top().map(|(name, call)| (name, 64, call));
+    [&on(8)[..], &on(64), &under_a_top].concat()
+}
+
+/// 52 leaves in two index pages under a top, but for the last: 28 in a root index, which
+/// then splits under a new top.
+fn transactions_under_a_top() -> [(&'static str, Call); 7] {
+    let built = book_of(64, &[26, 26], 52 * 14);
+    let full = book_of(64, &[26, 26], 52 * 28);
+    let full_index = book_of(64, &[28, 24], 52 * 28);
+    let full_root = book(64, 28, 28 * 28);
+    let call = |name, built: &Built, edits: Vec<u8>| (name, Call::new(&built.image, edits));
+    let split = |built: &Built| insert(key(built, 1, 0) + 1);
+    [
+        call("1 edit, top", &built, updates(&one(&built, 0))),
+        call(
+            "16 neighbours, top",
+            &built,
+            updates(&neighbours(&built, 0)),
+        ),
+        call("16 spread, top", &built, updates(&spread(&built, 0))),
+        call("insert and delete, top", &built, in_turn(&built)),
+        call("split of a leaf, top", &full, split(&full)),
+        call(
+            "split of an index page, top",
+            &full_index,
+            split(&full_index),
+        ),
+        call("split under a new top", &full_root, split(&full_root)),
+    ]
 }
 
 /// The transactions that are timed, all accepted.

@@ -3,7 +3,7 @@
 
 use crate::device::LINE;
 use crate::edits::{Edit, Kind};
-use crate::image::{leaf_of, page_of, sound_index, sound_leaf};
+use crate::image::{page_of, Reader};
 use crate::page::{Header, Record, SLOTS};
 use crate::Refusal;
 
@@ -17,8 +17,9 @@ pub struct Ground {
 
 impl Ground {
     pub fn of(image: &[u8], key: u64) -> Result<Ground, Refusal> {
-        let index = sound_index(image)?;
-        let leaf = sound_leaf(image, &index, leaf_of(&index, key))?;
+        let mut reader = Reader::new(image)?;
+        let place = reader.place_of(key)?;
+        let leaf = reader.leaf(place)?;
         let header = Header::read(page_of(image, leaf.page)).expect("the leaf is sound");
         Ok(Ground {
             page: leaf.page,

@@ -11,9 +11,11 @@ pub const LAST_KEY: u64 = 999_999_999_999;
 /// "Values 0 to 200 bytes."
 pub const LONGEST_VALUE: usize = 200;
 
-/// "Kind (1; 1 leaf, 2 index)".
+/// "Kind (1; 1 leaf, 2 index)". Document 02 (j): "a top page, kind 3, in the
+/// index form".
 pub const LEAF: u8 = 1;
 pub const INDEX: u8 = 2;
+pub const TOP: u8 = 3;
 
 /// Line 0 of a page other than page 0. The count is the number of slots here.
 #[derive(Clone, Debug, PartialEq, Eq)]
@@ -70,8 +72,8 @@ impl Header {
     }
 }
 
-/// A leaf's record, or an index's with its separator as key and a page number
-/// of two bytes as value.
+/// A leaf's record, or one of an index page or a top page, with its separator as
+/// key and a page number of two bytes as value.
 #[derive(Clone, Debug, PartialEq, Eq)]
 pub struct Record {
     pub key: u64,
@@ -157,10 +159,10 @@ pub fn is_key(number: u64) -> bool {
 /// 999,999,999,999, and its value a 2-byte page number." Document 02 (g) bars
 /// empty values from lists alone: "Stored ones work as before."
 fn has_form(record: &Record, kind: u8) -> bool {
-    if kind == INDEX {
-        record.key <= LAST_KEY && record.value.len() == 2
-    } else {
+    if kind == LEAF {
         is_key(record.key) && record.value.len() <= LONGEST_VALUE
+    } else {
+        record.key <= LAST_KEY && record.value.len() == 2
     }
 }
 

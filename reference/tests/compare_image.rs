@@ -96,8 +96,7 @@ impl Reader<'_> {
 /// differs from the one built; of the index, a separator.
 fn key_at_change(random: &mut Random, built: &Built, image: &[u8]) -> Option<u64> {
     let at = (0..image.len()).find(|&at| image[at] != built.image[at])?;
-    let mut reached = built.leaves.iter().chain([&built.index]);
-    let page = reached.find(|reached| reached.page == at / 1024)?;
+    let page = built.reached().find(|reached| reached.page == at / 1024)?;
     if page.places.is_empty() {
         return None;
     }
@@ -120,9 +119,9 @@ fn name<T>(answer: &Result<Option<T>, Refusal>) -> String {
 
 /// A key at a limit, or at or beside one that the image has, or any number.
 fn any_key(random: &mut Random, built: &Built) -> u64 {
-    let separators = &built.index.places;
+    let separators: Vec<u64> = built.separators().collect();
     let near = match random.below(3) {
-        0 if !separators.is_empty() => separators[random.below(separators.len())].key,
+        0 if !separators.is_empty() => random.pick(&separators),
         _ if built.table.is_empty() => 1,
         _ => built.table[random.below(built.table.len())].0,
     };
@@ -157,7 +156,7 @@ fn hold_to_builder(random: &mut Random, built: &Built) {
 }
 
 /// The shapes that the sound images must come in.
-const SHAPES: [&str; 12] = [
+const SHAPES: [&str; 21] = [
     "8 pages",
     "64 pages",
     "28 leaves",
@@ -170,12 +169,29 @@ const SHAPES: [&str; 12] = [
     "the least key",
     "the last key",
     "an empty value",
+    "a top",
+    "an empty only leaf under a top",
+    "one index page under a top",
+    "28 index pages",
+    "a full index page under a top",
+    "more than 28 leaves",
+    "a key below the separator of slot 0 of a later index page",
+    "a key below the first separator in the top",
+    "a separator below the first one in the top",
 ];
 
 fn count_shapes(built: &Built, times: &mut [usize; SHAPES.len()]) {
     let leaves = &built.leaves;
     let bytes = |leaf: &Reached| leaf.places.iter().map(|place| size(place.length)).sum();
-    let first = built.index.places[0].key;
+    let first = built.indexes[0].places[0].key;
+    let top = built.top.as_ref().map_or(&[][..], |top| &top.places[..]);
+    let indexes = built.indexes.len();
+    let later_below_own = (1..leaves.len()).any(|leaf| {
+        let (index, slot) = built.place_of(leaf);
+        let own = built.indexes[index].places[slot].key;
+        slot == 0 && leaves[leaf].places[0].key < own
+    });
+    let least = built.table.first().map(|entry| entry.0);
     let has = [
         built.pages == 8,
         built.pages == 64,
@@ -189,6 +205,15 @@ fn count_shapes(built: &Built, times: &mut [usize; SHAPES.len()]) {
         built.table.first().is_some_and(|entry| entry.0 == 1),
         built.table.last().is_some_and(|entry| entry.0 == LAST_KEY),
         empties::any_stored(&built.table),
+        !top.is_empty(),
+        !top.is_empty() && built.table.is_empty(),
+        top.len() == 1,
+        top.len() == 28,
+        !top.is_empty() && built.indexes.iter().any(|index| index.places.len() == 28),
+        indexes > 1 && leaves.len() > 28,
+        later_below_own,
+        !top.is_empty() && least.is_some_and(|least| least < top[0].key),
+        !top.is_empty() && first < top[0].key,
     ];
     for (times, has) in times.iter_mut().zip(has) {
         *times += usize::from(has);
@@ -231,10 +256,11 @@ fn damaged_calls(
     reader.at_change(random, built, tally);
 }
 
-const FLAWS: [(&str, Flaw); 4] = [
+const FLAWS: [(&str, Flaw); 5] = [
     ("a value too long", Flaw::LongValue),
     ("an empty leaf of several", Flaw::EmptyLeaf),
     ("a root without records", Flaw::EmptyRoot),
+    ("an index page without records", Flaw::EmptyIndex),
     ("slots that are no multiples of 8", Flaw::OddSlots),
 ];
 

@@ -1,6 +1,7 @@
-//! Document 02 (i), "Two books into one", on random pairs of books: the answer and
-//! every byte of the third buffer of the proved library are those of the reference,
-//! and both are what the builder of the pair knows.
+//! Document 02 (i), "Two books into one", on random pairs of books, under a top or
+//! not, and with a result under a top or not (document 02 (j)): the answer and every
+//! byte of the third buffer of the proved library are those of the reference, and
+//! both are what the builder of the pair knows.
 
 mod both;
 mod earlier;
@@ -10,7 +11,9 @@ use both::number;
 use cases::damage::{damage, other_length, FIELDS};
 use cases::images::{Built, LAST_KEY};
 use cases::logs;
-use cases::merges::{any_pair, any_third, packed, Pair, Quotes, DEALS, IN_BOTH};
+use cases::merges::{
+    any_pair, any_third, index_pages, packed, pages_for, Pair, Quotes, DEALS, IN_BOTH,
+};
 use cases::random::Random;
 use cases::stores::fresh;
 use reference::device::Device;
@@ -74,12 +77,12 @@ impl Tally {
         self.calls += 1;
         let (number, image) = merge_both(&format!("call {}", self.calls), books, third);
         let leaves = packed(quotes).len();
-        let (needed, pages) = (leaves.max(1) + 2, third.len() / 1024);
+        let (needed, pages) = (pages_for(leaves), third.len() / 1024);
         let twice = quotes.windows(2).any(|two| two[0].0 == two[1].0);
         let wanted = match () {
             _ if !is_image_size(third.len()) => 1,
             _ if twice => 20,
-            _ if leaves > 28 => 10,
+            // 10 never comes: 64 pages have room for 59 leaves.
             _ if needed > pages => 11,
             _ => 0,
         };
@@ -87,12 +90,13 @@ impl Tally {
         self.count(format!("answer {number}"));
         match number {
             1 => self.count_if(twice, "1 for the third, a key in both"),
-            20 => {
-                self.count_if(leaves > 28, "20, too many leaves");
-                self.count_if(needed > pages, "20, too few pages");
+            20 => self.count_if(needed > pages, "20, too few pages"),
+            11 => {
+                self.count_if(needed == pages + 1, "11, one page short");
+                let short = leaves > 28 && needed == pages + 1;
+                self.count_if(short, "11, one page short under a top");
+                self.count_if(needed > 64, "11, more than 64 pages");
             }
-            10 => self.count_if(needed > pages, "10, too few pages"),
-            11 => self.count_if(needed == pages + 1, "11, one page short"),
             _ => self.accepted(&image, quotes, needed == pages),
         }
     }
@@ -109,7 +113,19 @@ impl Tally {
         let is_full = |leaf: &Leaf| leaf.records.len() == 28;
         let (_, closed) = leaves.split_last().unwrap();
         self.count_if(quotes.is_empty(), "no quotes");
-        self.count_if(leaves.len() == 28, "28 leaves");
+        for count in [28, 29, 56, 57, 59] {
+            self.count_if(leaves.len() == count, &format!("{count} leaves"));
+        }
+        let indexes = index_pages(leaves.len());
+        assert_eq!(image[8], 1, "the root");
+        assert_eq!(
+            image[1024 + 4],
+            if indexes == 0 { 2 } else { 3 },
+            "its kind"
+        );
+        if indexes > 0 {
+            assert_eq!(image[1024] as usize, indexes, "index pages");
+        }
         self.count_if(full, "no page left");
         self.count_if(closed.iter().any(is_full), "a leaf of 28");
         let by_bytes = closed.iter().any(|leaf| !is_full(leaf));
@@ -120,18 +136,17 @@ impl Tally {
     }
 }
 
-const LIMITS: [&str; 13] = [
+const LIMITS: [&str; 12] = [
     "answer 0",
     "answer 1",
-    "answer 10",
     "answer 11",
     "answer 20",
-    "10, too few pages",
     "11, one page short",
-    "20, too many leaves",
+    "11, one page short under a top",
     "20, too few pages",
     "no quotes",
     "28 leaves",
+    "29 leaves",
     "no page left",
     "a leaf of 28",
 ];
@@ -151,12 +166,23 @@ fn dealt_books() {
         count_pair(&mut tally, &pair);
     }
     tally.print("dealt books", SEED);
-    tally.came(500, &LIMITS);
+    tally.came(200, &LIMITS);
     tally.came(
         500,
         &["a leaf closed for its bytes", "960 bytes", "an empty value"],
     );
     tally.came(500, &["1 for the third, a key in both"]);
+    let tops = [
+        "56 leaves",
+        "57 leaves",
+        "59 leaves",
+        "11, more than 64 pages",
+    ];
+    tally.came(50, &tops);
+    tally.came(
+        500,
+        &["a book under a top", "a book of more than 28 leaves"],
+    );
     tally.came(
         100,
         &["the first has no quotes", "the second has no quotes"],
@@ -181,6 +207,8 @@ fn count_pair(tally: &mut Tally, pair: &Pair) {
     tally.count_if(first.table.is_empty(), "the first has no quotes");
     tally.count_if(second.table.is_empty(), "the second has no quotes");
     for book in &pair.books {
+        tally.count_if(book.top.is_some(), "a book under a top");
+        tally.count_if(book.leaves.len() > 28, "a book of more than 28 leaves");
         tally.count(format!("a book of {} pages", book.pages));
     }
 }

@@ -1,11 +1,12 @@
 //! Document 02 (b), "One bad leaf shouldn't blank the screen", on random images
-//! in which pages are harmed: the answer and every buffer of the proved library
-//! are those of the reference, and both are what the builder of the harm knows.
+//! in which pages are harmed, index pages under a top too (document 02 (j)): the
+//! answer and every buffer of the proved library are those of the reference, and
+//! both are what the builder of the harm knows.
 
 mod both;
 
 use both::Both;
-use cases::harms::{any_harmed, of_index, of_leaves, Harmed};
+use cases::harms::{any_harmed, of_leaves, of_lower, of_root, Harmed};
 use cases::images::{any_shape, build, LAST_KEY};
 use cases::lists::{List, OWN};
 use cases::narrow::End;
@@ -15,7 +16,7 @@ use reference::Refusal;
 use std::collections::BTreeMap;
 
 const SEED: u64 = 20_240_701;
-const IMAGES: usize = 24_000;
+const IMAGES: usize = 32_000;
 /// Calls of each of lookup, value and next key on an image; and previews.
 const READS: usize = 7;
 const PREVIEWS: usize = 4;
@@ -61,28 +62,38 @@ fn in_range(key: u64) -> bool {
     (1..=LAST_KEY).contains(&key)
 }
 
-/// Whether a leaf that is none of these is bad.
+/// Whether a leaf that is none of these can't be read.
 fn bad_beside(harmed: &Harmed, read: &[usize]) -> bool {
-    let mut leaves = harmed.leaves.iter().enumerate();
-    leaves.any(|(at, harm)| harm.is_some() && !read.contains(&at))
+    let mut leaves = 0..harmed.leaves.len();
+    leaves.any(|at| is_bad(harmed, at) && !read.contains(&at))
 }
 
+/// Whether this leaf, if there is one, can't be read: for itself or for its index
+/// page under a top.
 fn is_bad(harmed: &Harmed, at: usize) -> bool {
-    harmed.leaves.get(at).is_some_and(Option::is_some)
+    at < harmed.leaves.len() && harmed.on_way_to(at).is_some()
+}
+
+/// What is wrong on the way to a leaf.
+fn harm_of(harmed: &Harmed, at: usize) -> String {
+    match harmed.index_of(at) {
+        Some(harm) => format!("index page, {harm:?}"),
+        None => format!("{:?}", harmed.leaves[at].expect("the leaf is bad")),
+    }
 }
 
 /// Check judges the whole image: any harm is refused.
 fn check(both: &mut Both, harmed: &Harmed, tally: &mut Tally) {
     let early = harmed.before_leaves();
-    let bad = harmed.leaves.iter().flatten().count();
+    let bad = harmed.lower.iter().chain(&harmed.leaves).flatten().count();
     let wanted = early.or((bad > 0).then_some(4));
     let given = both.check().err().map(|refusal| refusal.number);
     assert_eq!(given, wanted, "check");
     tally.count(match (early, bad) {
-        (Some(_), _) => "check: refused for page 0 or the index",
+        (Some(_), _) => "check: refused for page 0 or the root",
         (None, 0) => "check: good",
-        (None, 1) => "check: 4, one leaf bad",
-        (None, _) => "check: 4, several leaves bad",
+        (None, 1) => "check: 4, one page bad",
+        (None, _) => "check: 4, several pages bad",
     });
 }
 
@@ -103,8 +114,7 @@ fn lookup(both: &mut Both, harmed: &Harmed, key: u64, tally: &mut Tally) {
         Err(_) if harmed.before_leaves().is_some() => count_early("lookup", harmed, &[at], tally),
         Err(6) => tally.count_if(beside, "lookup: 6, another leaf bad"),
         Err(_) => {
-            let harm = harmed.leaves[at].expect("the leaf is bad");
-            tally.count(format!("lookup: 4, {harm:?}"));
+            tally.count(format!("lookup: 4, {}", harm_of(harmed, at)));
             tally.count_if(!beside, "lookup: 4, every other leaf good");
             tally.count_if(!in_range(key), "lookup: 4 before 6");
         }
@@ -112,6 +122,8 @@ fn lookup(both: &mut Both, harmed: &Harmed, key: u64, tally: &mut Tally) {
             tally.count_if(beside, "lookup: found, another leaf bad");
             let between = at > 0 && is_bad(harmed, at - 1) && is_bad(harmed, at + 1);
             tally.count_if(between, "lookup: found, both leaves beside it bad");
+            let other = harmed.lower.iter().any(Option::is_some);
+            tally.count_if(other, "lookup: found, another index page bad");
         }
         Ok(None) => {
             tally.count_if(beside, "lookup: missing, another leaf bad");
@@ -121,18 +133,23 @@ fn lookup(both: &mut Both, harmed: &Harmed, key: u64, tally: &mut Tally) {
     }
 }
 
-/// A refusal of page 0 or the index, where these leaves would be read.
+/// A refusal of page 0 or the root, where these leaves would be read.
 fn count_early(call: &str, harmed: &Harmed, read: &[usize], tally: &mut Tally) {
     let good = !read.iter().any(|&at| is_bad(harmed, at));
-    match (harmed.page_zero, harmed.index) {
-        (Some(number), Some(_)) => tally.count(format!("{call}: {number}, page 0, index bad too")),
+    match (harmed.page_zero, harmed.root) {
+        (Some(number), Some(_)) => tally.count(format!("{call}: {number}, page 0, root bad too")),
         (Some(number), None) if good => tally.count(format!("{call}: {number}, page 0 alone")),
         (Some(number), None) => tally.count(format!("{call}: {number}, page 0, leaf bad too")),
         (None, Some(harm)) => {
-            tally.count_if(good, format!("{call}: 4, index alone, {harm:?}"));
-            tally.count_if(!good, format!("{call}: 4, index, leaf bad too"));
+            let root = if harmed.lower.is_empty() {
+                "index"
+            } else {
+                "top"
+            };
+            tally.count_if(good, format!("{call}: 4, {root} alone, {harm:?}"));
+            tally.count_if(!good, format!("{call}: 4, {root}, leaf bad too"));
         }
-        (None, None) => panic!("page 0 and the index are good"),
+        (None, None) => panic!("page 0 and the root are good"),
     }
 }
 
@@ -145,15 +162,15 @@ fn next_key(both: &mut Both, harmed: &Harmed, number: u64, tally: &mut Tally) {
     let beside = bad_beside(harmed, &[at, after]);
     match answer {
         Err(_) if harmed.before_leaves().is_some() => count_early("next key", harmed, &[at], tally),
-        Err(_) => match harmed.leaves[at] {
-            Some(harm) => {
-                tally.count(format!("next key: 4, {harm:?}"));
+        Err(_) => match is_bad(harmed, at) {
+            true => {
+                tally.count(format!("next key: 4, {}", harm_of(harmed, at)));
                 let good = after < harmed.leaves.len() && !is_bad(harmed, after);
                 tally.count_if(good, "next key: 4, the leaf after good");
             }
-            None => {
-                let harm = harmed.leaves[after].expect("the leaf after is bad");
-                tally.count(format!("next key: 4, the leaf after, {harm:?}"));
+            false => {
+                let harm = harm_of(harmed, after);
+                tally.count(format!("next key: 4, the leaf after, {harm}"));
             }
         },
         Ok(Some(key)) => {
@@ -163,6 +180,9 @@ fn next_key(both: &mut Both, harmed: &Harmed, number: u64, tally: &mut Tally) {
             tally.count_if(unread, "next key: in the leaf, the leaf after bad");
             tally.count_if(!first, "next key: in the leaf after");
             tally.count_if(!first && beside, "next key: in the leaf after, another bad");
+            let other_page = harmed.built.place_of(at).0 + 1
+                == harmed.built.place_of(after.min(harmed.leaves.len() - 1)).0;
+            tally.count_if(!first && other_page, "next key: in the next index page");
         }
         Ok(None) => tally.count_if(beside, "next key: none, another leaf bad"),
     }
@@ -190,7 +210,11 @@ fn preview(both: &mut Both, harmed: &Harmed, list: &List, key: u64, tally: &mut 
             let last = !later && !keys.contains(&key) && bad(&key);
             tally.count_if(last, format!("preview: {number} before the asked key's 4"));
         }
-        End::LeafOfKey => tally.count("preview: 4 last of all"),
+        End::LeafOfKey => {
+            tally.count("preview: 4 last of all");
+            let index = harmed.index_of(harmed.leaf_of(key));
+            tally.count_if(index.is_some(), "preview: 4 last of all, of its index page");
+        }
         found => {
             let read: Vec<usize> = keys.iter().map(|&key| harmed.leaf_of(key)).collect();
             let beside = bad_beside(harmed, &[&read[..], &[harmed.leaf_of(key)]].concat());
@@ -210,7 +234,10 @@ fn count_leaf_of_edit(harmed: &Harmed, list: &List, at: usize, tally: &mut Tally
     let kind = ["an insert", "an update", "a delete"][list.edits[at][0] as usize - 1];
     tally.count(format!("preview: 4 at {kind}"));
     tally.count_if(at > 0, "preview: 4 at a later edit");
+    let index = harmed.index_of(harmed.leaf_of(list.keys()[at]));
+    tally.count_if(index.is_some(), "preview: 4 at an edit, of its index page");
     let good = Harmed {
+        lower: vec![None; harmed.lower.len()],
         leaves: vec![None; harmed.leaves.len()],
         ..harmed.clone()
     };
@@ -280,12 +307,13 @@ fn narrow_reads_are_the_references() {
 
 fn wanted_reads() -> Vec<String> {
     let plain = [
-        "check: refused for page 0 or the index",
+        "check: refused for page 0 or the root",
         "check: good",
-        "check: 4, one leaf bad",
-        "check: 4, several leaves bad",
+        "check: 4, one page bad",
+        "check: 4, several pages bad",
         "lookup: found, another leaf bad",
         "lookup: found, both leaves beside it bad",
+        "lookup: found, another index page bad",
         "lookup: missing, another leaf bad",
         "lookup: missing, listed in a leaf not read",
         "lookup: 6, another leaf bad",
@@ -294,6 +322,7 @@ fn wanted_reads() -> Vec<String> {
         "next key: in the leaf, the leaf after bad",
         "next key: in the leaf after",
         "next key: in the leaf after, another bad",
+        "next key: in the next index page",
         "next key: none, another leaf bad",
         "next key: 4, the leaf after good",
     ];
@@ -303,19 +332,26 @@ fn wanted_reads() -> Vec<String> {
         wanted.push(format!("next key: 4, {harm:?}"));
         wanted.push(format!("next key: 4, the leaf after, {harm:?}"));
     }
+    for harm in of_lower() {
+        wanted.push(format!("lookup: 4, index page, {harm:?}"));
+        wanted.push(format!("next key: 4, index page, {harm:?}"));
+        wanted.push(format!("next key: 4, the leaf after, index page, {harm:?}"));
+    }
     for call in ["lookup", "next key"] {
-        wanted.push(format!("{call}: 4, index, leaf bad too"));
+        wanted.extend(["index", "top"].map(|root| format!("{call}: 4, {root}, leaf bad too")));
         wanted.extend([3, 4].map(|n| format!("{call}: {n}, page 0, leaf bad too")));
     }
     wanted
 }
 
-/// Refusals of page 0 and of the index.
+/// Refusals of page 0 and of the root.
 fn wanted_early(call: &str) -> Vec<String> {
-    let harms = of_index().into_iter();
-    (harms.map(|harm| format!("{call}: 4, index alone, {harm:?}")))
+    let roots = ["index", "top"].into_iter();
+    // A top has no padding less than an index page has: every harm is done to both.
+    let harms = roots.flat_map(|root| of_root().into_iter().map(move |harm| (root, harm)));
+    (harms.map(|(root, harm)| format!("{call}: 4, {root} alone, {harm:?}")))
         .chain([3, 4].map(|n| format!("{call}: {n}, page 0 alone")))
-        .chain([3, 4].map(|n| format!("{call}: {n}, page 0, index bad too")))
+        .chain([3, 4].map(|n| format!("{call}: {n}, page 0, root bad too")))
         .collect()
 }
 
@@ -327,6 +363,8 @@ fn wanted_previews() -> Vec<String> {
         "4 at a delete",
         "4 at a later edit",
         "4 last of all",
+        "4 at an edit, of its index page",
+        "4 last of all, of its index page",
         "in the list, another leaf bad",
         "in the image, another leaf bad",
         "missing, another leaf bad",

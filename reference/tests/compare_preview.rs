@@ -16,7 +16,7 @@ use cases::previews::{any_call, any_key, any_list, PreviewCall, OTHERS};
 use cases::random::Random;
 use cases::stores::{any_built, any_store, even_leaves, many_leaves};
 use reference::edits::{parse, Edit, Kind};
-use reference::image::{lookup, sound_index, table, value};
+use reference::image::{lookup, table, value, Reader};
 use reference::ledger::Ledger;
 use reference::numbers::of_transaction;
 use reference::page::LAST_KEY;
@@ -98,7 +98,7 @@ fn count_faulty_list(asked: Asked, refusal: &Refusal, tally: &mut Tally) {
     match refusal.number {
         1 | 3 | 4 => {
             tally.count(format!("refused {}", refusal.number));
-            tally.count("order: page 0's and the index's before the list's");
+            tally.count("order: page 0's and the root's before the list's");
         }
         number => {
             tally.count(match number {
@@ -164,8 +164,8 @@ fn at_edits(asked: Asked, edits: &[Edit]) -> Result<Preview, Refusal> {
 /// that needs that leaf, or last of all for the key asked".
 fn count_unsound(asked: Asked, refusal: &Refusal, edits: &[Edit], tally: &mut Tally) {
     assert_eq!(refusal.edit, 0, "a leaf's 4 names no edit");
-    tally.count(match (sound_index(asked.image), at_edits(asked, edits)) {
-        (Err(_), _) => "refused 4, of page 0 or the index",
+    tally.count(match (Reader::new(asked.image), at_edits(asked, edits)) {
+        (Err(_), _) => "refused 4, of page 0 or the root",
         (_, Err(_)) => "refused 4, of a leaf that an edit needs",
         (_, Ok(_)) => "refused 4, of the key's leaf, last of all",
     });
@@ -307,10 +307,10 @@ fn wanted_refusals() -> Vec<String> {
         "refused 6, of the key asked",
         "refused 19, at edit 0",
         "refused 19, at a later edit",
-        "refused 4, of page 0 or the index",
+        "refused 4, of page 0 or the root",
         "refused 4, of a leaf that an edit needs",
         "refused 4, of the key's leaf, last of all",
-        "order: page 0's and the index's before the list's",
+        "order: page 0's and the root's before the list's",
         "order: the list's before the key's",
         "order: the list's before a leaf's 4",
         "order: the key's before 8 or 9",
@@ -498,16 +498,16 @@ fn preview_is_as_if_committed() {
 fn wanted_beside_transactions() -> Vec<String> {
     let alike = (5..=9).chain([19]);
     let alike = alike.map(|number| format!("refused alike, {number}"));
-    let answered = (10..=13).map(|number| format!("answered, transaction refused {number}"));
-    let later = [10, 11].map(|number| format!("refused later, transaction refused {number}"));
+    let answered = (11..=13).map(|number| format!("answered, transaction refused {number}"));
     let others = [
+        "refused later, transaction refused 11",
         "answered, transaction accepted",
         "in the list",
         "in the image",
         "missing in both",
         "missing, deleted",
     ];
-    (alike.chain(answered).chain(later))
+    (alike.chain(answered))
         .chain(others.map(String::from))
         .collect()
 }

@@ -2,8 +2,9 @@
 //! the proved library are those of the reference. Stores are edited until
 //! their pages run out; lists, images, logs and buffers are good or damaged;
 //! the images to recover are cuts of these transactions, or made apart. All of
-//! it on a device with line stores, and on one without (document 02 (d)). Tapes
-//! have the size that suffices, unless they are to be too short.
+//! it on a device with line stores, and on one without (document 02 (d)), and on
+//! stores of one index page and under a top (document 02 (j)). Tapes have the size
+//! that suffices, unless they are to be too short.
 
 mod writes;
 
@@ -12,21 +13,26 @@ use cases::empties::{orders, ORDERS};
 use cases::images::Built;
 use cases::lists::{List, FAULTS};
 use cases::random::Random;
+use cases::threads::in_threads;
 use cases::{logs, stores};
 use reference::device::{cut, decode, Command, Device};
-use reference::edits::{parse, Kind};
-use reference::image::{format, reached, read_page_zero, table};
-use reference::page::LAST_KEY;
+use reference::edits::{parse, Edit, Kind};
+use reference::image::{format, reached, read_page_zero, sound_leaves, table, Reader};
+use reference::page::{LAST_KEY, TOP};
 use reference::recovery::recover;
 use std::cmp::Ordering;
-use std::collections::BTreeMap;
+use std::collections::{BTreeMap, BTreeSet};
 use writes::{compare_recovery, compare_transaction, recovery_tape_size, tape_size, Call, BEFORE};
 
 const SEED: u64 = 20_240_606;
 
+/// The calls on a device are made in so many threads, each with a seed of its own.
+const THREADS: usize = 2;
+
 /// How often each thing came on a device.
 struct Tally {
     device: Device,
+    thread: usize,
     times: BTreeMap<String, usize>,
     calls: usize,
     lengths: Vec<usize>,
@@ -35,9 +41,10 @@ struct Tally {
 }
 
 impl Tally {
-    fn new(device: Device) -> Tally {
+    fn new(device: Device, thread: usize) -> Tally {
         Tally {
             device,
+            thread,
             times: BTreeMap::new(),
             calls: 0,
             lengths: vec![0; 201],
@@ -45,10 +52,13 @@ impl Tally {
         }
     }
 
-    /// A call more, with this answer.
-    fn call(&mut self, name: &str, number: u8) {
+    /// A call more on this image, with this answer.
+    fn call(&mut self, name: &str, image: &[u8], number: u8) {
         self.calls += 1;
         self.count(format!("{name}, answer {number:>2}"));
+        if root_kind(image) == Some(TOP) {
+            self.count(UNDER_A_TOP);
+        }
     }
 
     fn count(&mut self, what: impl Into<String>) {
@@ -58,12 +68,35 @@ impl Tally {
     fn came(&self, what: &str) -> usize {
         self.times.get(what).copied().unwrap_or(0)
     }
+
+    /// The next call's number: a million more in each thread.
+    fn which(&self) -> usize {
+        1_000_000 * self.thread + self.calls
+    }
+
+    /// What came in another thread too.
+    fn add(&mut self, other: Tally) {
+        for (what, times) in other.times {
+            *self.times.entry(what).or_default() += times;
+        }
+        for (sum, times) in self.lengths.iter_mut().zip(other.lengths) {
+            *sum += times;
+        }
+        self.calls += other.calls;
+        self.fullest = self.fullest.max(other.fullest);
+    }
+}
+
+/// The kind byte of the page that the root word names, if there is one.
+fn root_kind(image: &[u8]) -> Option<u8> {
+    let root = *image.get(8)? as usize;
+    image.get(1024 * root + 4).copied()
 }
 
 /// A transaction by both.
 fn send(call: &Call, tally: &mut Tally) -> (u8, Call) {
-    let (number, after) = compare_transaction(tally.device, tally.calls, call);
-    tally.call("transaction", number);
+    let (number, after) = compare_transaction(tally.device, tally.which(), call);
+    tally.call("transaction", &call.image, number);
     if matches!(number, 5..=11 | 19) && after.answer.len() >= 5 {
         count_refused(&call.edits, number, after.answer[0] as usize, tally);
     }
@@ -89,6 +122,9 @@ fn count_accepted(call: &Call, after: &Call, tally: &mut Tally) {
     if let [_, kind, _, bytes, _, ..] = after.answer[..] {
         let place = ["", "a header", "the root word", "the log"][kind as usize];
         tally.count(format!("commit by {place}"));
+        if root_kind(&call.image) == Some(TOP) {
+            tally.count(format!("under a top: commit by {place}"));
+        }
         let share = 100 * bytes as usize / tape_size(&call.image);
         tally.fullest = tally.fullest.max(share);
     }
@@ -113,12 +149,87 @@ fn count_accepted(call: &Call, after: &Call, tally: &mut Tally) {
         13..=63 => "pages: more",
         _ => "pages: 64",
     });
-    if old.len() == 29 {
-        tally.count("leaves: 28 before");
+    if edits.len() == 1 {
+        count_one_edit(call, after, tally);
     }
     let both: Vec<usize> = old.intersection(&new).copied().collect();
     count_places(&call.image, &after.work, &both, tally);
 }
+
+/// The top, if there is one, and the index pages.
+struct Above {
+    top: Option<usize>,
+    indexes: BTreeSet<usize>,
+    leaves: BTreeSet<usize>,
+}
+
+impl Above {
+    fn of(image: &[u8]) -> Above {
+        let root = Reader::new(image).expect("the image is sound").root;
+        let leaves = sound_leaves(image).expect("the image is sound");
+        let (top, indexes) = match root.kind {
+            TOP => (Some(root.page), root.names().collect()),
+            _ => (None, BTreeSet::from([root.page])),
+        };
+        Above {
+            top,
+            indexes,
+            leaves: leaves.iter().map(|leaf| leaf.page).collect(),
+        }
+    }
+}
+
+/// What one edit alone made of the pages. Pages are taken from the highest free one
+/// down, so one that is free, above the last one taken and not reached at the end was
+/// taken for a copy that then split.
+fn count_one_edit(call: &Call, after: &Call, tally: &mut Tally) {
+    let (old, new) = (Above::of(&call.image), Above::of(&after.work));
+    let (before, now) = (reached(&call.image), reached(&after.work));
+    let new_pages: Vec<usize> = now.difference(&before).copied().collect();
+    let pages = call.image.len() / 1024;
+    let taken = new_pages.first().map_or(0, |&last| {
+        (last..pages).filter(|page| !before.contains(page)).count()
+    });
+    tally.count(format!("one edit takes {taken} pages"));
+    let forced = taken > new_pages.len();
+    let more = new.indexes.len().cmp(&old.indexes.len());
+    let lost_leaf = new.leaves.len() < old.leaves.len();
+    let what = match (old.top, new.top) {
+        (None, None) => return,
+        (None, Some(_)) if forced => "index split under a new top, copied before",
+        (None, Some(_)) => "index split under a new top, left in place before",
+        (Some(top), Some(now)) => match (more, top == now) {
+            (Ordering::Greater, true) if forced => "lower index split, copied before",
+            (Ordering::Greater, true) => "lower index split, left in place before",
+            (Ordering::Greater, false) => "lower index split, top copied",
+            (Ordering::Equal, true) if old.indexes != new.indexes => "lower index copied",
+            (Ordering::Equal, true) if lost_leaf => "leaf lost, its index page stays",
+            (Ordering::Equal, true) if old.leaves.len() < new.leaves.len() => {
+                "leaf split, no page above it"
+            }
+            (Ordering::Equal, true) => "under a top, no page above the leaf",
+            (Ordering::Equal, false) => "lower index copied, top copied",
+            (Ordering::Less, _) => "index page lost",
+        },
+        (Some(_), None) => panic!("a top page stays"),
+    };
+    tally.count(what);
+}
+
+/// What one edit alone may make of the pages above the leaves.
+const ABOVE: [&str; 11] = [
+    "index split under a new top, copied before",
+    "index split under a new top, left in place before",
+    "lower index split, copied before",
+    "lower index split, left in place before",
+    "lower index split, top copied",
+    "lower index copied",
+    "lower index copied, top copied",
+    "leaf lost, its index page stays",
+    "leaf split, no page above it",
+    "under a top, no page above the leaf",
+    "index page lost",
+];
 
 /// How many places changed, where these pages are reached before and after.
 fn count_places(before: &[u8], after: &[u8], both: &[usize], tally: &mut Tally) {
@@ -145,7 +256,7 @@ fn life(random: &mut Random, tally: &mut Tally) {
             image = after.work;
         }
         // Deletes may make room again.
-        if (number == 10 || number == 11) && random.one_in(3) {
+        if number == 11 && random.one_in(3) {
             break;
         }
     }
@@ -166,6 +277,40 @@ fn any_list(random: &mut Random, image: &[u8]) -> (Vec<u8>, Option<usize>) {
         list.spoil(random, second);
     }
     (list.bytes(), Some(fault))
+}
+
+/// One insert into a full leaf under a full index page, where pages run out at any step
+/// or suffice.
+fn growth(random: &mut Random, tally: &mut Tally) {
+    let built = stores::full_index(random);
+    let has = |key: u64| {
+        built
+            .table
+            .binary_search_by_key(&key, |entry| entry.0)
+            .is_ok()
+    };
+    let mut beside = (0..30).map(|_| built.table[random.below(built.table.len())].0 + 1);
+    let Some(key) = beside.find(|&key| key <= LAST_KEY && !has(key)) else {
+        return;
+    };
+    let value = vec![7; 8];
+    let kind = Kind::Insert;
+    let list = Edit { kind, key, value }.encode();
+    let (number, _) = step(random, &built.image, (list, None), tally);
+    if number == 11 {
+        let free = built.pages - 1 - built.reached().count();
+        tally.count(format!("11 under a full index page, {free} pages free"));
+    }
+}
+
+/// Edits of a store without room, so that the root moves, alone or beside other changes.
+fn move_of_root(random: &mut Random, tally: &mut Tally) {
+    let built = match random.below(2) {
+        0 => stores::full(random),
+        _ => stores::tall(random),
+    };
+    let list = any_list(random, &built.image);
+    step(random, &built.image, list, tally);
 }
 
 /// Edits of about as many leaves as the log holds headers.
@@ -345,8 +490,8 @@ fn any_cut(random: &mut Random, image: &[u8], tape: &[u8], c: usize) -> Vec<u8> 
 
 /// A recovery by both.
 fn send_recovery(call: &Call, tally: &mut Tally) -> (u8, Call) {
-    let (number, after) = compare_recovery(tally.device, tally.calls, call);
-    tally.call("recovery", number);
+    let (number, after) = compare_recovery(tally.device, tally.which(), call);
+    tally.call("recovery", &call.image, number);
     (number, after)
 }
 
@@ -440,18 +585,30 @@ fn made_apart(random: &mut Random, tally: &mut Tally) {
     recoveries(random, image, tally);
 }
 
-/// So many calls on a device.
-fn compared(device: Device, calls: usize) -> Tally {
-    println!("{device:?}, seed {SEED}");
-    let mut random = Random::new(SEED);
-    let mut tally = Tally::new(device);
+/// So many calls on a device, in one thread.
+fn compared_in(device: Device, calls: usize, thread: usize) -> Tally {
+    let mut random = Random::new(SEED + 10 * thread as u64);
+    let mut tally = Tally::new(device, thread);
     while tally.calls < calls {
         life(&mut random, &mut tally);
-        // Once would give too few logs of 15 headers where the root is copied.
-        for _ in 0..3 {
+        // Once would give too few of each.
+        for _ in 0..4 {
+            growth(&mut random, &mut tally);
+            move_of_root(&mut random, &mut tally);
             long_log(&mut random, &mut tally);
         }
         made_apart(&mut random, &mut tally);
+    }
+    tally
+}
+
+/// So many calls on a device.
+fn compared(device: Device, calls: usize) -> Tally {
+    println!("{device:?}, seed {SEED}");
+    let part = |thread| compared_in(device, calls / THREADS, thread);
+    let mut tally = Tally::new(device, 0);
+    for other in in_threads(THREADS, part) {
+        tally.add(other);
     }
     println!("{} calls", tally.calls);
     for (what, times) in &tally.times {
@@ -464,6 +621,7 @@ fn compared(device: Device, calls: usize) -> Tally {
     let fullest = tally.fullest;
     println!("{:<40}{fullest:>8}", "percent of a tape used, at most");
     assert!(fullest > 33);
+    assert!(tally.came(UNDER_A_TOP) > calls / 4);
     everything_came(&tally);
     tally
 }
@@ -472,6 +630,7 @@ fn compared(device: Device, calls: usize) -> Tally {
 fn transaction_and_recovery_are_the_references() {
     let tally = compared(Device::Lines, 400_000);
     assert!(tally.came(BY_A_HEADER) > 20);
+    assert!(tally.came("under a top: commit by a header") > 20);
 }
 
 /// Document 02 (d): "a change of any header, even one, goes through the log".
@@ -508,28 +667,33 @@ fn everything_came(tally: &Tally) {
     }
     let names = tally.times.keys();
     let answers = names.filter(|what| what.contains(", answer"));
-    assert_eq!(answers.count(), 15 + 5);
+    // Document 02 (j): 10 "is shown never to occur".
+    assert_eq!(answers.count(), 14 + 5);
 }
 
 const EMPTY: [&str; 2] = ["refused 19 at edit 0", "refused 19 at a later edit"];
 const BY_A_HEADER: &str = "commit by a header";
+const UNDER_A_TOP: &str = "calls on a store under a top";
 const WITH_THE_LONGEST_TAPE: &str = "recovery with the longest tape";
 
 fn wanted_of_transactions() -> Vec<String> {
-    let answers = (0..=13).chain([19]);
+    let answers = (0..=9).chain([11, 12, 13, 19]);
     let answers = answers.map(|number| format!("transaction, answer {number:>2}"));
     let edits = (0..=16).map(|edit| format!("refused at edit {edit:>2}"));
     let lists = (1..=16).map(|count| format!("accepted lists of {count:>2}"));
     let keys = [1, LAST_KEY].map(|key| format!("accepted edits of key {key}"));
     let faults = FAULTS.map(|fault| format!("list with {}", fault.0));
-    let pages = (0..=4).map(|count| format!("new pages: {count:>2}"));
+    let pages = (0..=5).map(|count| format!("new pages: {count:>2}"));
+    let taken = (0..=6).map(|count| format!("one edit takes {count} pages"));
+    let short = (0..=5).map(|free| format!("11 under a full index page, {free} pages free"));
     let others = [
         "commit by the root word",
         "commit by the log",
+        "under a top: commit by the root word",
+        "under a top: commit by the log",
         "leaves: fewer",
         "leaves: as many",
         "leaves: more",
-        "leaves: 28 before",
         "pages: 8 to 12",
         "pages: more",
         "pages: 64",
@@ -540,6 +704,9 @@ fn wanted_of_transactions() -> Vec<String> {
     (answers.chain(edits).chain(lists).chain(keys))
         .chain(faults)
         .chain(pages)
+        .chain(taken)
+        .chain(short)
+        .chain(ABOVE.map(String::from))
         .chain(EMPTY.map(String::from))
         .chain(ORDERS.map(String::from))
         .chain(others.map(String::from))

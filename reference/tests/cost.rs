@@ -13,10 +13,11 @@ use cases::images::even;
 use cases::lists::List;
 use cases::random::Random;
 use cases::stores::{self, fresh};
+use cases::threads::in_threads;
 use reference::cost::Ground;
 use reference::device::{cut, decode, Command, Device};
 use reference::edits::{parse, Edit, Kind};
-use reference::image::{lookup, sound_leaves, table};
+use reference::image::{lookup, sound_leaves, table, Reader};
 use reference::page::Record;
 use reference::tape::{count_barriers, count_flushes, encode};
 use std::collections::BTreeMap;
@@ -25,6 +26,9 @@ use writes::{compare_recovery, compare_transaction, Call};
 
 const SEED: u64 = 20_240_801;
 const CALLS: usize = 80_000;
+
+/// They are made in so many threads, each with a seed of its own.
+const THREADS: usize = 4;
 
 /// "At most six flushes": a record has 216 bytes at most, so 27 words, which lie
 /// in five lines at most; and the header is a line. Document 02 (h): "(f) gains at
@@ -52,6 +56,17 @@ impl Tally {
 
     fn count(&mut self, what: impl Into<String>) {
         *self.times.entry(what.into()).or_default() += 1;
+    }
+
+    /// What came in another thread too.
+    fn add(&mut self, other: Tally) {
+        for (what, times) in other.times {
+            *self.times.entry(what).or_default() += times;
+        }
+        for (sum, times) in self.lengths.iter_mut().zip(other.lengths) {
+            *sum += times;
+        }
+        self.calls += other.calls;
     }
 
     fn print(&self) {
@@ -156,12 +171,15 @@ impl Sent {
     }
 
     /// Where (f) does not speak of an insert or update, its leaf is copied or split
-    /// over new pages: the index's header commits, or the root word if the index is
-    /// copied too, and the flushes are often more.
+    /// over new pages: the index page's header commits. If that is copied or split too,
+    /// the top's does, or the root word if there is no top or it is copied. The flushes
+    /// are often more.
     fn other_put(&self, image: &[u8], tally: &mut Tally) {
         tally.count("other put");
+        let (index, top) = above(image, self.edit.key);
         tally.count(match self.place {
-            (1, page) if page == root(image) => "other put: by the index's header",
+            (1, page) if page == index => "other put: by the index's header",
+            (1, page) if Some(page) == top => "other put: by the top's header",
             (2, _) => "other put: by the root word",
             place => panic!("commit at {place:?}"),
         });
@@ -181,11 +199,18 @@ impl Sent {
     }
 
     /// "A leaf left empty, unless it is the only one, loses its index record": then
-    /// the index's header commits, which is again the only store.
+    /// the index page's header commits, which is again the only store; or the top's, if
+    /// the index page is left empty too.
     fn last_delete(&self, image: &[u8], tally: &mut Tally) {
-        let (page, what) = match sound_leaves(image).unwrap().len() {
-            1 => (self.ground.page, "last delete: by the only leaf's header"),
-            _ => (root(image), "last delete: by the index's header"),
+        let (page, what) = match (
+            sound_leaves(image).unwrap().len(),
+            above(image, self.edit.key),
+        ) {
+            (1, _) => (self.ground.page, "last delete: by the only leaf's header"),
+            (_, (index, Some(top))) if names(image, index).len() == 1 => {
+                (top, "last delete: by the top's header")
+            }
+            (_, (index, _)) => (index, "last delete: by the index's header"),
         };
         assert_eq!(self.place, (1, page));
         assert_eq!(self.words_before(page), 0);
@@ -196,6 +221,13 @@ impl Sent {
     /// What the store is like, and how near the edit is to the ground's limits.
     fn count_limits(&self, image: &[u8], tally: &mut Tally) {
         let leaves = sound_leaves(image).unwrap().len();
+        let (_, top) = above(image, self.edit.key);
+        if self.met && top.is_some() {
+            tally.count(match self.is_put() {
+                true => "put under a top",
+                false => "delete under a top",
+            });
+        }
         if self.met && leaves >= 2 {
             tally.count("met in a store of several leaves");
         }
@@ -224,9 +256,21 @@ impl Sent {
     }
 }
 
-/// The index's page.
-fn root(image: &[u8]) -> usize {
-    image[8] as usize
+/// The index page of a key, and the top if there is one.
+fn above(image: &[u8], key: u64) -> (usize, Option<usize>) {
+    let mut reader = Reader::new(image).expect("the image is sound");
+    let place = reader.place_of(key).expect("the image is sound");
+    let index = reader.index(place.index).expect("the image is sound").page;
+    (index, Some(reader.root.page).filter(|&root| root != index))
+}
+
+/// The pages that an index page names.
+fn names(image: &[u8], index: usize) -> Vec<usize> {
+    let mut reader = Reader::new(image).expect("the image is sound");
+    let mut indexes = 0..reader.count_indexes();
+    let at = indexes.find(|&at| reader.index(at).is_ok_and(|page| page.page == index));
+    let page = reader.index(at.expect("it is an index page")).unwrap();
+    page.names().collect()
 }
 
 /// The edit alone, by both; nothing if it is refused.
@@ -275,6 +319,7 @@ fn any_store(random: &mut Random) -> Vec<u8> {
         0 => fresh(random.between(8, 64)),
         1 => stores::many_leaves(random).image,
         2 => stores::full(random).image,
+        4 => stores::tall(random).image,
         3 => {
             let leaves = random.between(1, 8);
             let quotes = leaves * random.between(27, 28);
@@ -319,12 +364,21 @@ fn life(random: &mut Random, tally: &mut Tally) {
     }
 }
 
+fn calls_in(thread: usize) -> Tally {
+    let mut random = Random::new(SEED + 10 * thread as u64);
+    let mut tally = Tally::new();
+    while tally.calls < CALLS / THREADS {
+        life(&mut random, &mut tally);
+    }
+    tally
+}
+
 #[test]
 fn cost_of_one_edit() {
     println!("seed {SEED}");
-    let (mut random, mut tally) = (Random::new(SEED), Tally::new());
-    while tally.calls < CALLS {
-        life(&mut random, &mut tally);
+    let mut tally = Tally::new();
+    for other in in_threads(THREADS, calls_in) {
+        tally.add(other);
     }
     tally.print();
     assert!(tally.least() > 10 && tally.lengths[0] == 0);
@@ -340,6 +394,10 @@ fn cost_of_one_edit() {
         "other put: more than six flushes",
         "last delete: by the index's header",
         "last delete: by the only leaf's header",
+        "other put: by the top's header",
+        "last delete: by the top's header",
+        "put under a top",
+        "delete under a top",
     ];
     tally.came(100, &otherwise);
     let limits = [
@@ -411,7 +469,7 @@ fn one_flush_for_a_record_that_lies_there() {
 /// fails once the mark is flushed and past its barrier.
 fn longest_log() -> Vec<u8> {
     let mut built = even(&mut Random::new(1), 64, 16, 32);
-    for page in [built.index.page, built.leaves[0].page] {
+    for page in [built.root().page, built.leaves[0].page] {
         built.image[page * 1024 + 2..][..2].copy_from_slice(&[64, 0]);
     }
     let keys = built.leaves.iter().map(|leaf| leaf.places[0].key);

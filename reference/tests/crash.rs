@@ -2,21 +2,28 @@
 //! recoveries, all held to the ledger. And each line of 'Shortcuts that break a
 //! curve', and each barrier of document 02 (h) left out, which the same test must
 //! catch. All of it on a device with line stores, and on one without (document 02
-//! (d)). The last tenth starts from stores in which transactions left empty values
-//! (document 02 (g)), and the second half of it from two books merged into one
-//! (document 02 (i)).
+//! (d)). Stores have one index page or stand under a top (document 02 (j)). The
+//! last tenth starts from stores in which transactions left empty values (document 02
+//! (g)), and the second half of it from two books merged into one (document 02 (i));
+//! and more are cut in which index pages split, are copied or are lost, or which fill
+//! the log.
 
 mod crashes;
 mod earlier;
 
+use cases::images::LAST_KEY;
+use cases::lists::List;
 use cases::merges::{any_third, pair};
 use cases::random::Random;
-use cases::stores::any_store;
+use cases::stores::{any_store, even_leaves, full_index, tall};
+use cases::threads::in_threads;
 use crashes::{
-    calls, caught, Cuttable, Faults, Phase, Sent, Stores, Test, BUILT_EMPTY, OUTCOMES, SEED,
-    UNBROKEN,
+    calls, caught, Cuttable, Faults, One, Phase, Sent, Stores, Tally, Test, BUILT_EMPTY, OUTCOMES,
+    SEED, TALL, UNBROKEN,
 };
 use reference::device::{Device, Pending};
+use reference::edits::{Edit, Kind};
+use reference::image::table;
 use reference::ledger::Ledger;
 use reference::tape::Group;
 use reference::transaction::Fault;
@@ -65,10 +72,32 @@ const WORDS: Plan = Plan {
 };
 
 const BUILT: Stores = (any_store, 16, BUILT_EMPTY);
+const TALL_ONES: Stores = (|random| tall(random).image, 2, BUILT_EMPTY);
+const FULL: Stores = (|random| full_index(random).image, 4, BUILT_EMPTY);
+const LONG_LOGS: Stores = (|random| even_leaves(random).image, 1, BUILT_EMPTY);
 const EARLIER: Stores = (earlier::any_store, 16, EARLIER_EMPTY);
 const EARLIER_EMPTY: &str = "empty value, by the earlier rule";
 const MERGED: Stores = (merged, 16, MERGED_EMPTY);
 const MERGED_EMPTY: &str = "empty value, merged";
+
+/// Of 40 parts of the cuts so many on these stores.
+type Part = (usize, Stores, One);
+
+const OTHERS: [Part; 5] = [
+    (1, LONG_LOGS, Test::updates_far_apart),
+    (2, TALL_ONES, Test::one_transaction),
+    (2, FULL, Test::inserts),
+    (2, EARLIER, Test::one_transaction),
+    (2, MERGED, Test::one_transaction),
+];
+
+/// What is tried at the same time, each with a seed of its own.
+const THREADS: [&[Part]; 4] = [
+    &[(10, BUILT, Test::one_transaction)],
+    &[(10, BUILT, Test::one_transaction)],
+    &[(11, BUILT, Test::one_transaction)],
+    &OTHERS,
+];
 
 /// "An accepted call .. completes when its whole tape is done."
 const TAPE_PENDING: &str = "a whole tape leaves stores pending";
@@ -79,7 +108,7 @@ const RECOVERY_PENDING: &str = "a whole recovery leaves stores pending";
 fn merged(random: &mut Random) -> Vec<u8> {
     loop {
         let leaves = match random.below(16) {
-            0 => random.between(15, 28),
+            0 => random.between(15, 32),
             _ => random.between(0, 8),
         };
         let pair = pair(random, leaves);
@@ -91,6 +120,11 @@ fn merged(random: &mut Random) -> Vec<u8> {
             return third;
         }
     }
+}
+
+fn keys(image: &[u8]) -> Vec<u64> {
+    let table = table(image).expect("the store is sound");
+    table.iter().map(|entry| entry.0).collect()
 }
 
 /// In how many ways a cut can keep "for each line on its own, some first part of
@@ -131,16 +165,69 @@ impl Test {
     }
 
     fn survive(&mut self) -> Result<(), String> {
-        let cuts = self.plan().cuts;
-        self.go_on(cuts - cuts / 10, BUILT, Test::one_transaction)?;
-        self.go_on(cuts - cuts / 20, EARLIER, Test::one_transaction)?;
-        self.go_on(cuts, MERGED, Test::one_transaction)
+        let built: [Part; 1] = [(31, BUILT, Test::one_transaction)];
+        self.survive_parts(&built)?;
+        self.survive_parts(&OTHERS)
+    }
+
+    /// So many cuts more of each part.
+    fn survive_parts(&mut self, parts: &[Part]) -> Result<(), String> {
+        for &(part, stores, one) in parts {
+            let cuts = self.tally.cuts + self.plan().cuts * part / 40;
+            self.go_on(cuts, stores, one)?;
+        }
+        Ok(())
+    }
+
+    /// Stores under a top alone, or with a root index about to split.
+    fn survive_tall(&mut self) -> Result<(), String> {
+        let cuts = self.plan().cuts / 4;
+        self.go_on(cuts, TALL_ONES, Test::one_transaction)
+    }
+
+    /// Updates in about as many leaves as the log holds headers.
+    fn updates_far_apart(
+        &mut self,
+        image: &mut Vec<u8>,
+        ledger: &mut Ledger,
+    ) -> Result<(), String> {
+        let keys = keys(image);
+        if keys.len() < 16 {
+            return Ok(());
+        }
+        let list = List::spread(&mut self.random, &keys).bytes();
+        self.transaction_of(list, image, ledger)
+    }
+
+    /// A transaction of one to three inserts beside quotes that are there, so that leaves
+    /// split.
+    fn inserts(&mut self, image: &mut Vec<u8>, ledger: &mut Ledger) -> Result<(), String> {
+        let keys = keys(image);
+        let mut list = Vec::new();
+        for _ in 0..self.random.between(1, 3) {
+            let key = self.random.pick(&keys) + 1;
+            let value = self.random.bytes(8);
+            if key <= LAST_KEY && keys.binary_search(&key).is_err() {
+                let kind = Kind::Insert;
+                list.extend(Edit { kind, key, value }.encode());
+            }
+        }
+        self.transaction_of(list, image, ledger)
     }
 
     /// One transaction, with all its cuts. The store goes on after its whole
     /// tape, or after a cut and recovery, which begins a new list.
     fn one_transaction(&mut self, image: &mut Vec<u8>, ledger: &mut Ledger) -> Result<(), String> {
-        let mut list = self.any_list(image);
+        let list = self.any_list(image);
+        self.transaction_of(list, image, ledger)
+    }
+
+    fn transaction_of(
+        &mut self,
+        mut list: Vec<u8>,
+        image: &mut Vec<u8>,
+        ledger: &mut Ledger,
+    ) -> Result<(), String> {
         let Some(mut sent) = self.send(image, &mut list, ledger)? else {
             return Ok(());
         };
@@ -277,11 +364,20 @@ impl Test {
 /// Every cut on this device recovers, and all of this came besides.
 fn every_cut_recovers(device: Device, places: &[&str]) {
     println!("{device:?}, seed {SEED}");
-    let mut test = Test::new(device, UNBROKEN);
-    let answer = test.survive();
-    test.tally.print();
-    assert_eq!(answer, Ok(()));
-    test.tally.came(&[
+    let tests = in_threads(THREADS.len(), |number| {
+        let mut test = Test::of_seed(SEED + number as u64, device, UNBROKEN);
+        (test.survive_parts(THREADS[number]), test.tally)
+    });
+    let mut tally = Tally::default();
+    for (answer, other) in tests {
+        tally.add(other);
+        if answer.is_err() {
+            tally.print();
+        }
+        assert_eq!(answer, Ok(()));
+    }
+    tally.print();
+    tally.came(&[
         "commit by the root word",
         "commit by the log",
         "commit by a full log",
@@ -291,10 +387,13 @@ fn every_cut_recovers(device: Device, places: &[&str]) {
         EARLIER_EMPTY,
         MERGED_EMPTY,
     ]);
-    test.tally.came(places);
-    test.tally.came(&OUTCOMES);
-    for number in (5..=13).chain([19]) {
-        let came = test.tally.refused.contains_key(&number);
+    tally.came(places);
+    tally.came(&OUTCOMES);
+    let by_header = &TALL[usize::from(device == Device::Words)..];
+    tally.came(by_header);
+    // Document 02 (j): 10 never occurs.
+    for number in (5..=9).chain([11, 12, 13, 19]) {
+        let came = tally.refused.contains_key(&number);
         assert!(came, "never refused: {number}");
     }
 }
@@ -311,49 +410,48 @@ fn every_cut_recovers_without_line_stores() {
 
 const BOTH: [Device; 2] = [Device::Lines, Device::Words];
 
+/// A broken variant, which must be caught on stores of every shape, and on those under a
+/// top alone.
+fn caught_at_both_heights(faults: Faults, devices: &[Device]) -> Vec<String> {
+    let all = caught(faults, devices, Test::survive);
+    [all, caught(faults, devices, Test::survive_tall)].concat()
+}
+
 /// "A header written as eight word stores", where it is the one changed place.
 /// On a device without line stores such a header goes through the log.
 #[test]
 fn header_by_words_is_caught() {
-    caught(
-        (Fault::HeaderByWords, Fault::None),
-        &[Device::Lines],
-        Test::survive,
-    );
+    caught_at_both_heights((Fault::HeaderByWords, Fault::None), &[Device::Lines]);
 }
 
 /// "An update over the old bytes because the length matches."
 #[test]
 fn update_in_place_is_caught() {
-    caught((Fault::UpdateInPlace, Fault::None), &BOTH, Test::survive);
+    caught_at_both_heights((Fault::UpdateInPlace, Fault::None), &BOTH);
 }
 
 /// "The mark cleared before the headers are flushed."
 #[test]
 fn mark_cleared_early_is_caught() {
-    caught((Fault::MarkClearedEarly, Fault::None), &BOTH, Test::survive);
+    caught_at_both_heights((Fault::MarkClearedEarly, Fault::None), &BOTH);
 }
 
 /// "A page freed in a transaction taken again in it."
 #[test]
 fn freed_page_taken_is_caught() {
-    caught((Fault::FreedPageTaken, Fault::None), &BOTH, Test::survive);
+    caught_at_both_heights((Fault::FreedPageTaken, Fault::None), &BOTH);
 }
 
 /// "Record lines flushed after the header."
 #[test]
 fn records_flushed_late_is_caught() {
-    caught(
-        (Fault::RecordsFlushedLate, Fault::None),
-        &BOTH,
-        Test::survive,
-    );
+    caught_at_both_heights((Fault::RecordsFlushedLate, Fault::None), &BOTH);
 }
 
 /// A variant without a barrier: what it breaks is a cut's store, and not that
 /// stores are pending at the end.
 fn loses_a_store(faults: Faults) {
-    for broken in caught(faults, &BOTH, Test::survive) {
+    for broken in caught_at_both_heights(faults, &BOTH) {
         assert!(![TAPE_PENDING, RECOVERY_PENDING].contains(&&broken[..]));
     }
 }
@@ -394,7 +492,7 @@ fn no_last_barrier_is_caught() {
         ((Fault::None, last), RECOVERY_PENDING),
     ];
     for (faults, wanted) in rows {
-        for broken in caught(faults, &BOTH, Test::survive) {
+        for broken in caught_at_both_heights(faults, &BOTH) {
             assert_eq!(broken, wanted);
         }
     }

@@ -1,5 +1,5 @@
-//! Document 02 (i), "Two books into one", worked out on paper from its sentences, on
-//! the reference and on the proved library.
+//! Document 02 (i), "Two books into one", and what (j) says of the result under a top,
+//! worked out on paper from their sentences, on the reference and on the proved library.
 
 mod both;
 
@@ -17,8 +17,8 @@ fn quotes(keys: std::ops::Range<u64>, length: usize) -> Vec<Quote> {
     keys.map(|key| (key, length)).collect()
 }
 
-/// A book of so many pages with these quotes, `each` in a leaf, somewhere; what no
-/// rule speaks of is noise.
+/// A book of so many pages with these quotes, `each` in a leaf, somewhere; under a top
+/// where it has more than 28 leaves. What no rule speaks of is noise.
 fn book(pages: usize, quotes: &[Quote], each: usize) -> Vec<u8> {
     let with_value = |&(key, length): &Quote| (key, vec![7; length]);
     let leaf = |part: &[Quote]| part.iter().map(with_value).collect();
@@ -26,7 +26,13 @@ fn book(pages: usize, quotes: &[Quote], each: usize) -> Vec<u8> {
     if leaves.is_empty() {
         leaves.push(Vec::new());
     }
-    let image = from_leaves(&mut Random::new(5), pages, false, leaves).image;
+    let (left, right) = (leaves.len().min(28), leaves.len().saturating_sub(28));
+    let counts = if right > 0 {
+        vec![left, right]
+    } else {
+        Vec::new()
+    };
+    let image = from_leaves(&mut Random::new(5), pages, false, &counts, leaves).image;
     assert_eq!(check(&image), Ok(()));
     image
 }
@@ -221,12 +227,11 @@ fn two_books(dealt: &[Vec<Quote>; 2]) -> [Vec<u8>; 2] {
     dealt.each_ref().map(|quotes| book(64, quotes, 28))
 }
 
-/// 10 for a 29th leaf, also where pages are short; 11 if page 1 and the leaves are more
-/// than the pages past page 0. 28 leaves of 28 need 30 pages.
+/// 28 leaves of 28 need 30 pages; 11 if page 1 and the leaves are more than the pages
+/// past page 0.
 #[test]
 fn twenty_eight_leaves() {
-    let mut dealt = leaves_of_28(28);
-    let [first, second] = two_books(&dealt);
+    let [first, second] = two_books(&leaves_of_28(28));
     for (pages, wanted) in [
         (64, None),
         (31, None),
@@ -237,8 +242,7 @@ fn twenty_eight_leaves() {
         let merged = merge(&first, &second, pages);
         assert_eq!(merged.as_ref().err(), wanted.as_ref(), "{pages} pages");
         if let Ok(image) = merged {
-            let keys: Vec<u64> = table(&image).unwrap().iter().map(|entry| entry.0).collect();
-            assert_eq!(keys, (1..785).collect::<Vec<u64>>());
+            assert_eq!(keys_of(&image), (1..785).collect::<Vec<u64>>());
             // 28 records of 24 bytes in the index too; its last names page 29.
             assert_eq!(image[1024..1034], [28, 0, 96, 1, 2, 0, 1, 0, 232, 3]);
             assert_eq!(image[1024 + 352..][..8], 757u64.to_le_bytes());
@@ -246,20 +250,91 @@ fn twenty_eight_leaves() {
             assert!(image[30 * 1024..].iter().all(|&byte| byte == 0));
         }
     }
+}
+
+fn keys_of(image: &[u8]) -> Vec<u64> {
+    let table = table(image).expect("it is sound");
+    table.iter().map(|entry| entry.0).collect()
+}
+
+/// Document 02 (j): "the merge builds a top only if 28 leaves aren't enough, as page 1,
+/// then index pages filled to 28 each, then leaves". One quote more than fill 28 leaves:
+/// the top on page 1, index pages on 2 and 3, the leaves from 4 to 32; 33 pages in all.
+#[test]
+fn a_top_for_the_29th_leaf() {
+    let mut dealt = leaves_of_28(28);
     dealt[0].push((785, 8));
     let [first, second] = two_books(&dealt);
-    for pages in [64, 31, 30, 29, 8] {
-        assert_eq!(merge(&first, &second, pages), Err(10), "{pages} pages");
+    let full = |from: u64| (from..from + 28).zip((0..28).map(|i| 1000 - 24 * i));
+    let leaves = (0..28).map(|i| leaf(full(1 + 28 * i).map(|(key, at)| (key, 8, at))));
+    // The first separator of the first index page is 0, each other one its leaf's
+    // smallest key: 29, 57 and so on up to 757.
+    let separators = (0..28).map(|i| (if i == 0 { 0 } else { 28 * i + 1 }, 4 + i as u8));
+    let names = separators.zip((0..28).map(|i| 1000 - 24 * i));
+    let mut pages = vec![
+        (3, index([(0, 2, 1000), (785, 3, 976)]).1),
+        index(names.map(|((separator, page), at)| (separator, page, at))),
+        index([(785, 32, 1000)]),
+    ];
+    pages.extend(leaves);
+    pages.push(leaf([(785, 8, 1000)]));
+    for size in [33, 34, 64] {
+        gives(merge(&first, &second, size), &image_of(size, &pages));
+    }
+    for size in [8, 30, 31, 32] {
+        assert_eq!(merge(&first, &second, size), Err(11), "{size} pages");
     }
 }
 
-/// 11 with N = leaves + 1, and accepted with N = leaves + 2.
+/// 56 leaves fill two index pages, the 57th begins a third, and the last index page takes
+/// the rest. The top has 0 and each other page's first separator.
+#[test]
+fn two_index_pages_and_three() {
+    for (leaves, indexes) in [(56, 2), (57, 3), (59, 3)] {
+        let [first, second] = two_books(&leaves_of_28(leaves));
+        let needed = 2 + indexes + leaves as usize;
+        let image = merge(&first, &second, needed).expect("there is room");
+        assert_eq!(check(&image), Ok(()));
+        assert_eq!(keys_of(&image), (1..28 * leaves + 1).collect::<Vec<u64>>());
+        let counts = (1..2 + indexes).map(|page| (image[1024 * page + 4], image[1024 * page]));
+        let wanted: &[(u8, u8)] = match leaves {
+            56 => &[(3, 2), (2, 28), (2, 28)],
+            57 => &[(3, 3), (2, 28), (2, 28), (2, 1)],
+            _ => &[(3, 3), (2, 28), (2, 28), (2, 3)],
+        };
+        assert_eq!(counts.collect::<Vec<_>>(), wanted);
+        // 28 leaves of 28 quotes: 785, 1,569.
+        let separator = |page: usize, at: usize| image[1024 * page + at..][..8].to_vec();
+        for (i, at) in [1000, 976, 952][..indexes].iter().enumerate() {
+            let wanted = (784 * i as u64 + (i > 0) as u64).to_le_bytes();
+            assert_eq!(separator(1, *at), wanted);
+            assert_eq!(image[1024 + at + 16] as usize, 2 + i);
+            assert_eq!(separator(2 + i, 1000), wanted);
+        }
+        assert_eq!(merge(&first, &second, needed - 1), Err(11));
+    }
+    // 60 leaves need 65 pages.
+    let [first, second] = two_books(&leaves_of_28(60));
+    assert_eq!(merge(&first, &second, 64), Err(11));
+}
+
+/// The pages that a result of so many leaves needs: page 0, page 1, the index pages
+/// under a top, the leaves.
+fn needed(leaves: usize) -> usize {
+    match leaves {
+        ..=28 => leaves + 2,
+        ..=56 => leaves + 4,
+        _ => leaves + 5,
+    }
+}
+
+/// 11 with one page fewer, and accepted with as many as are needed.
 #[test]
 fn one_page_short() {
-    for leaves in 7..28 {
+    for leaves in 7..60 {
         let [first, second] = two_books(&leaves_of_28(leaves as u64));
-        assert_eq!(merge(&first, &second, leaves + 1), Err(11));
-        let image = merge(&first, &second, leaves + 2).expect("they suffice");
+        assert_eq!(merge(&first, &second, needed(leaves) - 1), Err(11));
+        let image = merge(&first, &second, needed(leaves)).expect("they suffice");
         assert_eq!(check(&image), Ok(()));
     }
     // The smallest image has room for six.
@@ -268,10 +343,10 @@ fn one_page_short() {
 }
 
 /// "20 if a key is in both, 10, then 11": one quote in both, the first, one between
-/// or the last, where the leaves would be too many, or the pages too few, or neither.
+/// or the last, where the pages would be too few, or enough. 10 never comes.
 #[test]
 fn a_key_in_both() {
-    for leaves in [1, 7, 28, 29] {
+    for leaves in [1, 7, 28, 29, 60] {
         let dealt = leaves_of_28(leaves);
         for key in [1, 2, 14, 28 * leaves - 1, 28 * leaves] {
             let mut twice = dealt.clone();
@@ -375,8 +450,8 @@ fn old_bytes_are_gone() {
 fn only_the_tables_matter() {
     let (low, high) = (quotes(1..90, 24), quotes(500..530, 8));
     let merged = merge(&book(16, &low, 24), &book(8, &high, 28), 20).expect("there is room");
-    for (each, pages) in [(3, 64), (7, 33), (20, 12)] {
-        let again = merge(&book(pages, &low, each.max(4)), &book(64, &high, each), 20);
+    for (each, pages) in [(2, 64), (3, 64), (7, 33), (20, 12)] {
+        let again = merge(&book(pages, &low, each), &book(64, &high, each), 20);
         gives(again, &merged);
     }
 }

@@ -1,13 +1,14 @@
 //! Document 02 (b), "One bad leaf shouldn't blank the screen": each page of an
 //! image is harmed in turn, and every key is asked by every call that reads. The
-//! keys of a harmed leaf are refused with 4, and all others answer as before.
-//! And each call reads exactly the pages that (b) names.
+//! keys of a harmed leaf are refused with 4, and all others answer as before; those
+//! of an index page under a top likewise (document 02 (j)). And each call reads
+//! exactly the pages that (b) names.
 
 mod both;
 
 use both::Both;
-use cases::harms::{of_index, of_leaves, Harm, Harmed, OF_PAGE_ZERO};
-use cases::images::{any_shape, build, even, Built, Flaw, Shape, LAST_KEY};
+use cases::harms::{of_leaves, of_lower, of_root, Harm, Harmed, OF_PAGE_ZERO};
+use cases::images::{any_shape, build, even, even_under, Built, Flaw, Shape, LAST_KEY};
 use cases::previews::{any_key, any_list};
 use cases::random::Random;
 use reference::edits::{Edit, Kind};
@@ -32,7 +33,7 @@ struct Answers {
 }
 
 impl Answers {
-    /// Every call refused for page 0 or the index.
+    /// Every call refused for page 0 or the root.
     fn refused(number: u8) -> Answers {
         let refusal = Refusal { number, edit: 0 };
         Answers {
@@ -58,8 +59,7 @@ impl Screen {
     /// them, and the limits.
     fn new(built: Built) -> Screen {
         let keys = built.table.iter().map(|entry| entry.0);
-        let separators = built.index.places.iter().map(|place| place.key);
-        let mut numbers: Vec<u64> = (keys.chain(separators))
+        let mut numbers: Vec<u64> = (keys.chain(built.separators()))
             .flat_map(|key| [key.saturating_sub(1), key, key + 1])
             .chain([0, 1, LAST_KEY, LAST_KEY + 1, u64::MAX])
             .collect();
@@ -79,12 +79,16 @@ impl Screen {
         }
     }
 
-    /// The leaf that a key belongs to: the last whose separator is not above
-    /// it, else the first.
     fn leaf_of(&self, key: u64) -> usize {
-        let separators = self.built.index.places.iter();
-        let not_above = separators.filter(|place| place.key <= key);
-        not_above.count().saturating_sub(1)
+        self.built.leaf_of(key)
+    }
+
+    /// The leaves of this index page.
+    fn leaves_of(&self, index: usize) -> Vec<usize> {
+        let leaves = 0..self.lists.len();
+        leaves
+            .filter(|&leaf| self.built.place_of(leaf).0 == index)
+            .collect()
     }
 
     /// The leaf itself, and the one after it or, of the last, the first.
@@ -137,28 +141,38 @@ fn read_by_next_key(built: &Built, at: usize, number: u64) -> Vec<usize> {
     vec![at, at + 1]
 }
 
-/// What is answered if this leaf is bad, from what was answered before.
-fn with_bad_leaf(screen: &Screen, at: usize, number: u64, before: &Answers) -> Answers {
+/// What is answered if these leaves can't be read, from what was answered before.
+fn with_bad(screen: &Screen, bad: &[usize], number: u64, before: &Answers) -> Answers {
     let mut wanted = before.clone();
     let own = screen.leaf_of(number);
-    if own == at {
+    if bad.contains(&own) {
         wanted.lookup = Err(BAD);
         wanted.value.clear();
     }
-    if read_by_next_key(&screen.built, own, number).contains(&at) {
+    let mut read = read_by_next_key(&screen.built, own, number).into_iter();
+    if read.any(|leaf| bad.contains(&leaf)) {
         wanted.next_key = Err(BAD);
     }
     // 6 for the key asked comes before every leaf's 4.
     if !(1..=LAST_KEY).contains(&number) {
         return wanted;
     }
-    for (leaf, preview) in screen.two_leaves(at).iter().zip(&mut wanted.previews) {
+    for (leaf, preview) in screen.two_leaves(bad[0]).iter().zip(&mut wanted.previews) {
         let edited = screen.lists[*leaf].key == number;
-        if *leaf == at || (own == at && !edited) {
+        if bad.contains(leaf) || (bad.contains(&own) && !edited) {
             *preview = Err(BAD);
         }
     }
     wanted
+}
+
+/// What every number is answered if these leaves can't be read.
+fn all_with_bad(screen: &Screen, bad: &[usize]) -> Vec<Answers> {
+    let before = screen.ask(&screen.built.image, screen.two_leaves(bad[0]));
+    let numbers = screen.numbers.iter().zip(&before);
+    numbers
+        .map(|(&number, before)| with_bad(screen, bad, number, before))
+        .collect()
 }
 
 /// How often each harm was done.
@@ -170,10 +184,7 @@ fn harm_leaves(random: &mut Random, screen: &Screen, all: bool, tally: &mut Tall
     let harms = of_leaves();
     for at in 0..screen.lists.len() {
         let two = screen.two_leaves(at);
-        let before = screen.ask(&screen.built.image, two);
-        let with_bad =
-            |(number, before): (&u64, &Answers)| with_bad_leaf(screen, at, *number, before);
-        let wanted: Vec<Answers> = (screen.numbers.iter()).zip(&before).map(with_bad).collect();
+        let wanted = all_with_bad(screen, &[at]);
         for (i, &harm) in harms.iter().enumerate() {
             // These change the index, and with it where a key belongs.
             let moves = matches!(harm, Harm::SeparatorLowered | Harm::SeparatorRaised);
@@ -192,16 +203,47 @@ fn harm_leaves(random: &mut Random, screen: &Screen, all: bool, tally: &mut Tall
     }
 }
 
-/// The index: every key is refused with 4.
-fn harm_index(random: &mut Random, screen: &Screen, tally: &mut Tally) {
+/// Each index page under a top in turn: a bad one blanks the keys of its own leaves
+/// alone. If not all, one harm an index page, in turn.
+fn harm_lower(random: &mut Random, screen: &Screen, all: bool, tally: &mut Tally) {
+    if screen.built.top.is_none() {
+        return;
+    }
+    let harms = of_lower();
+    for at in 0..screen.built.indexes.len() {
+        let leaves = screen.leaves_of(at);
+        let wanted = all_with_bad(screen, &leaves);
+        let lost: usize = leaves
+            .iter()
+            .map(|&leaf| screen.built.leaves[leaf].places.len())
+            .sum();
+        for (i, &harm) in harms.iter().enumerate() {
+            let mut harmed = Harmed::not_yet(&screen.built);
+            let turn = all || i % 4 == at % 4;
+            if !turn || !harmed.harm_lower(random, at, harm) {
+                continue;
+            }
+            let image = &harmed.built.image;
+            assert_eq!(Both::new(image).check(), Err(BAD), "{harm:?}");
+            let name = format!("index page {at}, {harm:?}");
+            screen.hold(image, screen.two_leaves(leaves[0]), &wanted, &name);
+            assert_eq!(screen.still_found(image), screen.built.table.len() - lost);
+            *tally.entry(format!("index page, {harm:?}")).or_default() += 1;
+        }
+    }
+}
+
+/// The root, an index page or a top: every key is refused with 4.
+fn harm_root(random: &mut Random, screen: &Screen, tally: &mut Tally) {
     let wanted = vec![Answers::refused(4); screen.numbers.len()];
-    for harm in of_index() {
+    let root = screen.built.top.as_ref().map_or("index", |_| "top");
+    for harm in of_root() {
         let mut harmed = Harmed::not_yet(&screen.built);
-        if harmed.harm_index(random, harm) {
+        if harmed.harm_root(random, harm) {
             let image = &harmed.built.image;
             screen.hold(image, screen.two_leaves(0), &wanted, &format!("{harm:?}"));
             assert_eq!(screen.still_found(image), 0);
-            *tally.entry(format!("index, {harm:?}")).or_default() += 1;
+            *tally.entry(format!("{root}, {harm:?}")).or_default() += 1;
         }
     }
 }
@@ -224,11 +266,8 @@ fn overwrite_unreached(random: &mut Random, screen: &Screen, tally: &mut Tally) 
     let built = &screen.built;
     let two = screen.two_leaves(0);
     let before = screen.ask(&built.image, two);
-    let reached = |page: &usize| {
-        let mut leaves = built.leaves.iter();
-        built.index.page == *page || leaves.any(|leaf| leaf.page == *page)
-    };
-    let pages = (1..built.pages).filter(|page| !reached(page));
+    let reached = |page: usize| built.reached().any(|reached| reached.page == page);
+    let pages = (1..built.pages).filter(|&page| !reached(page));
     let pages = pages.map(|page| ("page", page * 1024, 1024));
     let lines = (1..16).map(|line| ("log line", line * 64, 64));
     for (name, at, length) in pages.chain(lines) {
@@ -242,8 +281,9 @@ fn overwrite_unreached(random: &mut Random, screen: &Screen, tally: &mut Tally) 
 
 /// Images of every shape that matters here.
 fn images(random: &mut Random) -> Vec<Built> {
-    let shape = |pages, leaves, most, longest| Shape {
+    let shape = |pages, indexes, leaves, most, longest| Shape {
         pages,
+        indexes,
         leaves,
         most,
         longest,
@@ -252,12 +292,17 @@ fn images(random: &mut Random) -> Vec<Built> {
     };
     vec![
         even(random, 8, 5, 60),
-        build(random, shape(9, 4, 8, 40)),
-        build(random, shape(8, 6, 1, 3)),
-        build(random, shape(8, 2, 28, 16)),
-        build(random, shape(8, 1, 12, 200)),
-        build(random, shape(8, 1, 0, 0)),
-        build(random, shape(64, 28, 3, 20)),
+        build(random, shape(9, 0, 4, 8, 40)),
+        build(random, shape(8, 0, 6, 1, 3)),
+        build(random, shape(8, 0, 2, 28, 16)),
+        build(random, shape(8, 0, 1, 12, 200)),
+        build(random, shape(8, 0, 1, 0, 0)),
+        build(random, shape(64, 0, 28, 3, 20)),
+        even_under(random, 12, &[2, 3, 1], 60),
+        build(random, shape(12, 3, 6, 5, 40)),
+        build(random, shape(9, 1, 5, 8, 16)),
+        build(random, shape(8, 1, 1, 0, 0)),
+        build(random, shape(64, 2, 40, 2, 20)),
     ]
 }
 
@@ -269,7 +314,8 @@ fn each_page_in_turn() {
         let screen = Screen::new(built);
         let all = screen.lists.len() < 28;
         harm_leaves(&mut random, &screen, all, &mut tally);
-        harm_index(&mut random, &screen, &mut tally);
+        harm_lower(&mut random, &screen, all, &mut tally);
+        harm_root(&mut random, &screen, &mut tally);
         harm_page_zero(&mut random, &screen, &mut tally);
         overwrite_unreached(&mut random, &screen, &mut tally);
     }
@@ -278,7 +324,8 @@ fn each_page_in_turn() {
         println!("  {harm:<44}{times:>5}");
     }
     // The two moves of a separator are left out; each other harm was done.
-    let kinds = (of_leaves().len() - 2) + of_index().len() + OF_PAGE_ZERO.len() + 2;
+    let above = of_lower().len() + 2 * of_root().len();
+    let kinds = (of_leaves().len() - 2) + above + OF_PAGE_ZERO.len() + 2;
     assert_eq!(tally.len(), kinds);
 }
 
@@ -303,13 +350,16 @@ fn only_one_leaf_may_be_empty() {
     }
 }
 
-/// The image with other bytes everywhere but in line 0 of page 0, the index and
-/// these leaves.
+/// The image with other bytes everywhere but in line 0 of page 0, the root, these
+/// leaves and the index pages above them.
 fn only_with(random: &mut Random, built: &Built, leaves: &[usize]) -> Vec<u8> {
     let mut image = random.bytes(built.image.len());
     image[..64].copy_from_slice(&built.image[..64]);
     let read = leaves.iter().map(|&at| built.leaves[at].page);
-    for page in read.chain([built.index.page]) {
+    let above = leaves
+        .iter()
+        .map(|&at| built.indexes[built.place_of(at).0].page);
+    for page in read.chain(above).chain([built.root().page]) {
         let range = page * 1024..(page + 1) * 1024;
         image[range.clone()].copy_from_slice(&built.image[range]);
     }
@@ -331,9 +381,12 @@ fn reads<T: PartialEq + std::fmt::Debug>(
         "pages not read matter"
     );
     for &leaf in leaves {
-        let mut image = built.image.clone();
-        random.fill(&mut image[built.leaves[leaf].page * 1024..][..1024]);
-        assert_eq!(call(&mut Both::new(&image)), Err(BAD), "a page read is bad");
+        let index = built.indexes[built.place_of(leaf).0].page;
+        for page in [built.leaves[leaf].page, index] {
+            let mut image = built.image.clone();
+            random.fill(&mut image[page * 1024..][..1024]);
+            assert_eq!(call(&mut Both::new(&image)), Err(BAD), "a page read is bad");
+        }
     }
     let unread = leaves.len() < built.leaves.len();
     if unread {

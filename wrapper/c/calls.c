@@ -581,10 +581,10 @@ static void full_stores_refuse(void)
 {
     struct bytes small = fresh(8), large = fresh(64);
     EXPECT(fill(&small, 200) == QUOTE_PAGES_OUT);
-    EXPECT(fill(&large, 200) == QUOTE_INDEX_FULL);
+    EXPECT(fill(&large, 200) == QUOTE_PAGES_OUT);
     EXPECT(quote_check(large.at, large.length) == QUOTE_ACCEPTED);
-    /* Of 28 leaves the last has the most, the others 3: one quote of each of
-     * the first 16. */
+    /* The last leaf has the most quotes, the others 3: one quote of each of the
+     * first 16. */
     uint8_t room[16 * 11];
     for (uint64_t i = 0; i < 16; i += 1) {
         put_head(room + 11 * i, QUOTE_UPDATE, 1, 10 + 30 * i);
@@ -698,8 +698,8 @@ static void merge_refuses(void)
         give_back(bad[i]);
 }
 
-/* Four quotes of 200 bytes fill a leaf: 7 leaves need 9 pages, 28 leaves 30, and a 29th
- * is one too many whatever the pages; a key in both comes before that. */
+/* Four quotes of 200 bytes fill a leaf: 7 leaves need 9 pages, 28 leaves 30, and 29,
+ * under a top page and two index pages, 33; a key in both comes before that. */
 static void merge_needs_room(void)
 {
     struct bytes few = every_other(64, 1, 14, 200), more = every_other(64, 2, 14, 200);
@@ -711,8 +711,9 @@ static void merge_needs_room(void)
     EXPECT(merge(half, other, QUOTE_IMAGE_SIZE(30), &all) == QUOTE_ACCEPTED);
     EXPECT(merge_says(all, one, QUOTE_IMAGE_SIZE(64)) == QUOTE_ACCEPTED); /* 96 bytes are left */
     EXPECT(apply_one(&one, one_edit(QUOTE_UPDATE, 999, 200, 'm')) == QUOTE_ACCEPTED);
-    EXPECT(merge_says(all, one, QUOTE_IMAGE_SIZE(64)) == QUOTE_INDEX_FULL);
-    EXPECT(merge_says(all, one, QUOTE_IMAGE_SIZE(8)) == QUOTE_INDEX_FULL);
+    EXPECT(merge_says(all, one, QUOTE_IMAGE_SIZE(33)) == QUOTE_ACCEPTED);
+    EXPECT(merge_says(all, one, QUOTE_IMAGE_SIZE(32)) == QUOTE_PAGES_OUT);
+    EXPECT(merge_says(all, one, QUOTE_IMAGE_SIZE(8)) == QUOTE_PAGES_OUT);
     EXPECT(merge_says(all, half, QUOTE_IMAGE_SIZE(64)) == QUOTE_KEY_IN_BOTH);
     EXPECT(merge_says(all, few, QUOTE_IMAGE_SIZE(8)) == QUOTE_KEY_IN_BOTH);
     give_back(few);
@@ -738,7 +739,7 @@ static void longest_recovery(const struct device *device)
     uint64_t found[QUOTE_LOOKUP_NUMBERS], answer[QUOTE_RECOVER_NUMBERS + 1] = {7, 7, 7};
     struct bytes image = fresh(64), work = lend(image.length);
     struct bytes tape = lend(device->longest);
-    EXPECT(fill(&image, 200) == QUOTE_INDEX_FULL);
+    EXPECT(fill(&image, 200) == QUOTE_PAGES_OUT);
     struct bytes whole = lend_copy(image.at, image.length);
     for (uint64_t i = 0; i < 15; i += 1) {
         EXPECT(quote_lookup(whole.at, whole.length, 10 + 30 * i, found, 3) == QUOTE_ACCEPTED);

@@ -3,8 +3,9 @@
 //! what its buffers hold afterwards, and its refusals in their order.
 //!
 //! [`check`], [`merge`], the transactions and the recoveries judge the whole image.
-//! [`lookup`], [`next_key`] and [`preview`] judge page 0, the index and the leaves
-//! that they read: quotes of other leaves are answered where one is damaged.
+//! [`lookup`], [`next_key`] and [`preview`] judge page 0, the root, and of the index
+//! pages under a top and of the leaves those that they read: quotes of other leaves are
+//! answered where one is damaged, or its index page.
 //!
 //! [`transaction`] and [`recover`] are for a device that writes a line of 64
 //! bytes whole ([`Device::Lines`](crate::Device::Lines)), [`transaction_words`]
@@ -75,9 +76,11 @@ pub fn check(image: &[u8]) -> Result<(), Refusal> {
 /// # Ok::<(), quote_store::Refusal>(())
 /// ```
 ///
-/// Of the leaves it reads the one that the key belongs to, by the separators of
-/// the index. If that is damaged, or page 0 or the index, it says
-/// [`Refusal::Unsound`]; damage in another leaf does not matter.
+/// Of the leaves it reads the one that the key belongs to, by the separators of the
+/// index page that names it; under a top page, which a store of more than 28 leaves
+/// has, it reads that index page alone of all. If the leaf is damaged, or the index
+/// page, the root or page 0, it says [`Refusal::Unsound`]; damage in another leaf or
+/// index page does not matter.
 ///
 /// ```
 /// use quote_store::{calls, Edit, Refusal, Store, PAGE};
@@ -116,7 +119,8 @@ pub fn lookup(image: &[u8], key: u64) -> Result<Option<Range<usize>>, Refusal> {
 
 /// The smallest key above a number, which need not be a key. It reads the leaf
 /// that the number belongs to and, only if that holds no larger key, the leaf
-/// after it; if one of them is damaged, it says [`Refusal::Unsound`].
+/// after it, and under a top page the index pages of these; if one of them is
+/// damaged, it says [`Refusal::Unsound`].
 ///
 /// ```
 /// use quote_store::{calls, Edit, Store};
@@ -148,12 +152,12 @@ pub fn next_key(image: &[u8], key: u64) -> Result<Option<u64>, Refusal> {
 /// making them: in the list or in the image.
 ///
 /// The rules for the keys of edits hold for the whole list. Pages, log and tape
-/// play no part: a transaction of the list may still be refused with 10 to 13.
+/// play no part: a transaction of the list may still be refused with 11 to 13.
 /// The key asked is refused as edit 0, and the list's own faults come first.
 /// Of the leaves it reads those that the keys of the list belong to, and last
-/// that of the key asked, if no edit has it. A damaged one is
-/// [`Refusal::Unsound`], and comes before the key rule of the first edit that
-/// needs it.
+/// that of the key asked, if no edit has it; and under a top page their index
+/// pages. A damaged one is [`Refusal::Unsound`], and comes before the key rule of
+/// the first edit that needs it.
 ///
 /// ```
 /// use quote_store::{calls, encode, Edit, Preview, Refusal, Store};
@@ -227,12 +231,12 @@ pub fn preview_value<'a>(
 /// Its length says how many pages the result has; the three may differ.
 ///
 /// The leaves, from page 2 on, take the quotes by rising key, each as many as 28
-/// records and 960 bytes allow; n leaves need n + 2 pages. Stored empty values are
-/// taken too. A refusal leaves the buffer as it was: [`Refusal::ImageSize`] for the
-/// buffer, what [`check`] says of the first book, what it says of the second,
-/// [`Refusal::KeyInBoth`], [`Refusal::IndexFull`] for more than 28 leaves, and
-/// [`Refusal::PagesOut`] if the buffer has too few pages for them; the last two with
-/// edit 0.
+/// records and 960 bytes allow. More than 28 leaves stand behind a top page and index
+/// pages of 28 leaves each. n leaves need n + 2 pages, more than 28 need n + 4, more
+/// than 56 need n + 5. Stored empty values are taken too. A refusal leaves the buffer
+/// as it was: [`Refusal::ImageSize`] for the buffer, what [`check`] says of the first
+/// book, what it says of the second, [`Refusal::KeyInBoth`], and [`Refusal::PagesOut`]
+/// with edit 0 if the buffer has too few pages.
 ///
 /// There is no tape: while the buffer is written, and until it is made durable as a
 /// whole, a power failure may leave anything in it.

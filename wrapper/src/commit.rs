@@ -16,7 +16,7 @@ pub enum CommitPlace {
     /// The header of this page, the only one that the edits change; not on
     /// [`Device::Words`](crate::Device::Words).
     Header { page: usize },
-    /// The root word: the edits made a new index page.
+    /// The root word: the edits made a new root, an index page or a top page.
     Root,
     /// The log, for edits that change more than one header, or a header and the
     /// root word; on [`Device::Words`](crate::Device::Words) for any header.

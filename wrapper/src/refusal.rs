@@ -35,8 +35,8 @@ pub enum Refusal {
     /// [`calls::recover`](crate::calls::recover) finishes it.
     MarkWaits,
     /// 4: the image is not that of a store. Of a lookup, a next key or a preview:
-    /// page 0, the index or a leaf that was read is not; other quotes may still
-    /// be answered.
+    /// page 0, the root, or an index page or a leaf that was read is not; other quotes
+    /// may still be answered.
     Unsound,
     /// 5: no edit, a seventeenth, or one that is malformed.
     BadList { edit: usize },
@@ -48,9 +48,8 @@ pub enum Refusal {
     KeyPresent { edit: usize },
     /// 9: an update or delete of a key that it has not.
     KeyMissing { edit: usize },
-    /// 10: an insert, or an update with a longer value, needs a 29th leaf.
-    /// Delete quotes, or keep two stores. Of a merge, which has edit 0: the quotes
-    /// of both fill more than 28 leaves.
+    /// 10: a top page would need a 29th record. No call answers it, since 64 pages
+    /// don't suffice for so large a store.
     IndexFull { edit: usize },
     /// 11: an insert or update needs more free pages than there are. Delete
     /// quotes, or move to a larger store, as [the package](crate) shows. Of a merge,
@@ -189,7 +188,7 @@ impl Refusal {
             Refusal::KeyPresent { .. } => "the store has a quote with this key already",
             Refusal::KeyMissing { .. } => "the store has no quote with this key",
             Refusal::IndexFull { .. } => {
-                "the store is full: it would need a 29th leaf, and 28 are the most there can be"
+                "the store is full: its top page would need a 29th record, and 28 are the most"
             }
             Refusal::PagesOut { .. } => "the store is full: too few pages are free",
             Refusal::LogFull => "the edits touch more than 15 pages: make them in two transactions",

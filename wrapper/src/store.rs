@@ -186,7 +186,8 @@ impl Store {
     /// no part.
     ///
     /// The leaves are as full as 28 records and 960 bytes allow, by rising key; n leaves
-    /// need n + 2 pages. Further pages are free, and a program gives some, since an
+    /// need n + 2 pages, more than 28 need n + 4 and more than 56 n + 5, for a top page
+    /// and its index pages. Further pages are free, and a program gives some, since an
     /// insert into a full leaf splits it. The store is for a device of the first
     /// book's kind; [`open_on`](Store::open_on) with its [`image`](Store::image) makes
     /// one for another kind. No commands wait: the image is for the device to take
@@ -194,9 +195,8 @@ impl Store {
     /// durable.
     ///
     /// Refused, with [`Refusal::KeyInBoth`] if a key is in both, with
-    /// [`Refusal::IndexFull`] if there would be more than 28 leaves, with
-    /// [`Refusal::PagesOut`] if there are too few pages for them, in this order; and
-    /// first with [`Refusal::ImageSize`] if there can be no store of so many pages.
+    /// [`Refusal::PagesOut`] if there are too few pages for the leaves, in this order;
+    /// and first with [`Refusal::ImageSize`] if there can be no store of so many pages.
     ///
     /// ```
     /// use quote_store::{Edit, Refusal, Store};
@@ -317,8 +317,7 @@ impl Store {
     /// A list with a fault, or with an edit whose key is there or missing where it
     /// must not be, is refused with that edit, whichever key is asked. Whether
     /// there is room for the edits plays no part: [`apply`](Store::apply) may
-    /// still say [`Refusal::IndexFull`], [`Refusal::PagesOut`] or
-    /// [`Refusal::LogFull`]. Unlike [`get`](Store::get), which refuses nothing,
+    /// still say [`Refusal::PagesOut`] or [`Refusal::LogFull`]. Unlike [`get`](Store::get), which refuses nothing,
     /// this refuses a key out of range, with [`Refusal::KeyRange`] and edit 0.
     ///
     /// ```

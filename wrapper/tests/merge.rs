@@ -4,7 +4,7 @@
 
 mod images;
 
-use cases::merges::{any_pair, pair};
+use cases::merges::{any_pair, pages_for, pair};
 use cases::random::Random;
 use images::empty_out;
 use quote_store::{calls, Device, Edit, Refusal, Store, LINE, PAGE};
@@ -13,7 +13,6 @@ use std::collections::BTreeMap;
 const SEED: u64 = 20_241_202;
 const PAIRS: usize = 2_000;
 
-const INDEX_FULL: Refusal = Refusal::IndexFull { edit: 0 };
 const PAGES_OUT: Refusal = Refusal::PagesOut { edit: 0 };
 
 fn insert(key: u64, value: &[u8]) -> Edit<'_> {
@@ -58,12 +57,11 @@ fn merged_is_what_a_map_holds() {
         let mut map: BTreeMap<u64, &[u8]> = first.iter().collect();
         let in_both = second.iter().any(|(key, _)| map.contains_key(&key));
         map.extend(&second);
-        let needed = pair.leaves.max(1) + 2;
+        let needed = pages_for(pair.leaves);
         for pages in [needed - 1, needed, 64, random.between(0, 70)] {
             let wanted = match pages {
                 0..=7 | 65.. => Some(Refusal::ImageSize),
                 _ if in_both => Some(Refusal::KeyInBoth),
-                _ if pair.leaves > 28 => Some(INDEX_FULL),
                 _ if pages < needed => Some(PAGES_OUT),
                 _ => None,
             };
@@ -81,10 +79,7 @@ fn merged_is_what_a_map_holds() {
         }
     }
     println!("how often each answer came (0 is accepted): {times:?}");
-    assert_eq!(
-        times.keys().copied().collect::<Vec<u8>>(),
-        [0, 1, 10, 11, 20]
-    );
+    assert_eq!(times.keys().copied().collect::<Vec<u8>>(), [0, 1, 11, 20]);
     assert!(times.values().all(|times| *times > 100));
 }
 
@@ -190,7 +185,8 @@ fn refusals_come_in_their_order() {
     assert!(said.is_ok() && !stayed);
 }
 
-/// Books of leaves of four, so that 7 leaves need 9 pages, and 29 are one too many.
+/// Books of leaves of four, so that 7 leaves need 9 pages, 28 need 30, and 29, under a top
+/// page, need 33.
 #[test]
 fn room_for_the_leaves() {
     let [first, second] = [book(16, 1..=14, 200), book(16, 101..=114, 200)];
@@ -202,9 +198,10 @@ fn room_for_the_leaves() {
     let one_less = book(64, 2..=57, 200);
     assert!(Store::merge(&one_less, &second, 30).is_ok());
     assert_eq!(Store::merge(&one_less, &second, 29).err(), Some(PAGES_OUT));
-    for pages in [8, 30, 64] {
-        is_refused(first.image(), second.image(), pages * PAGE, INDEX_FULL);
-        // 20 comes before both.
+    assert!(Store::merge(&first, &second, 33).is_ok());
+    for pages in [8, 30, 32] {
+        is_refused(first.image(), second.image(), pages * PAGE, PAGES_OUT);
+        // 20 comes before it.
         let both = book(64, 50..=106, 200);
         is_refused(
             first.image(),
@@ -215,23 +212,18 @@ fn room_for_the_leaves() {
     }
 }
 
-/// The README: 784 quotes or 112 of 200 bytes on 64 pages, "and on 8 to 168 and 24 (6
-/// leaves)".
+/// The README: 1,652 quotes or 236 of 200 bytes on 64 pages (59 leaves), and on 8 168 and
+/// 24 (6 leaves).
 #[test]
 fn as_many_quotes_as_there_can_be() {
-    let rows = [
-        (64, 16, 784, INDEX_FULL),
-        (64, 200, 112, INDEX_FULL),
-        (8, 16, 168, PAGES_OUT),
-        (8, 200, 24, PAGES_OUT),
-    ];
-    for (pages, length, most, refusal) in rows {
+    let rows = [(64, 16, 1652), (64, 200, 236), (8, 16, 168), (8, 200, 24)];
+    for (pages, length, most) in rows {
         let halves = [(1..=most / 2), (most / 2 + 1..=most)];
         let [first, second] = halves.map(|keys| book(64, keys, length));
         let merged = Store::merge(&first, &second, pages).unwrap();
         assert_eq!(keys(&merged), (1..=most).collect::<Vec<u64>>());
         let one = book(8, [most + 1], length);
-        assert_eq!(Store::merge(&merged, &one, pages).err(), Some(refusal));
+        assert_eq!(Store::merge(&merged, &one, pages).err(), Some(PAGES_OUT));
     }
 }
 

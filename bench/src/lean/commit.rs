@@ -1,7 +1,7 @@
 //! The tape, once the edits are made: what changed, how long the tape is, and
 //! then its commands.
 
-use super::page::{half, record, word};
+use super::page::{half, kind, record, word, TOP};
 use super::tape::{bits, Writer, BARRIER, FLUSH, LINE_STORE, WORD_STORE};
 use super::tree::{put_word, Tree};
 use super::PAGE;
@@ -93,9 +93,13 @@ impl Tree {
 
     #[inline(always)]
     unsafe fn reached_now(&self) -> u64 {
-        let index = self.page(self.root);
-        (0..half(index)).fold(1 << self.root, |pages, i| {
-            pages | 1 << half(record(index, i).add(16))
+        let root = self.page(self.root);
+        let named = 1 << self.root | names_of(root);
+        if kind(root) != TOP {
+            return named;
+        }
+        (0..half(root)).fold(named, |pages, i| {
+            pages | names_of(self.page(half(record(root, i).add(16))))
         })
     }
 
@@ -180,6 +184,12 @@ impl Tree {
         out.flush(0);
         out.barrier();
     }
+}
+
+/// One bit for each page that this one names.
+#[inline(always)]
+unsafe fn names_of(page: *const u8) -> u64 {
+    (0..half(page)).fold(0, |pages, i| pages | 1 << half(record(page, i).add(16)))
 }
 
 /// The words of a page from `from` to `to` that differ.

@@ -4,7 +4,7 @@
 //! Why the raw pointers are sound: the image's length is judged first, and a
 //! page number to be below N before its page is read.
 
-use super::page::{half, page, word, INDEX, KEYS, LEAF};
+use super::page::{half, kind, page, word, INDEX, KEYS, LEAF, SLOTS, TOP};
 use super::{good_length, PAGE};
 
 pub fn format(image: &mut [u8]) -> u8 {
@@ -75,25 +75,50 @@ pub(super) unsafe fn page_zero(start: *const u8, pages: u64) -> Option<(u64, usi
     (mark == 0 || good).then_some((mark, root as usize))
 }
 
-/// How many leaves the index names, and one bit for each page that is taken, its
-/// own and page 0 too, if it is good: "1 to 28 records; its pages are distinct
-/// [..] in 1 to N-1, none the root".
+/// How many records a page above the leaves has, if it is good: "1 to 28 records; its
+/// pages are distinct [..] in 1 to N-1", none taken before. One bit for each page that is
+/// taken; its own and page 0's are set before. `header` is where its header is.
 #[inline(always)]
-pub(super) unsafe fn index(
+pub(super) unsafe fn names(
+    header: *const u8,
+    start: *const u8,
+    pages: usize,
+    (number, kind): (usize, u64),
+    (low, high): (u64, u64),
+    taken: &mut u64,
+) -> Option<usize> {
+    let mut all = *taken;
+    let fresh = |record: *const u8| {
+        let number = half(record.add(16));
+        let fresh = number < pages && all >> number & 1 == 0;
+        all |= 1 << (number & 63);
+        fresh
+    };
+    let count = page(
+        header,
+        start.add(number * PAGE),
+        number,
+        kind,
+        low,
+        high,
+        fresh,
+    )?;
+    *taken = all;
+    (count > 0).then_some(count)
+}
+
+/// The root's records and kind, and one bit for each page that is taken by it.
+#[inline(always)]
+pub(super) unsafe fn judged_root(
     header: *const u8,
     start: *const u8,
     pages: usize,
     root: usize,
-) -> Option<(usize, u64)> {
+) -> Option<(usize, u64, u64)> {
     let mut taken: u64 = 1 | 1 << root;
-    let fresh = |record: *const u8| {
-        let number = half(record.add(16));
-        let fresh = number < pages && taken >> number & 1 == 0;
-        taken |= 1 << (number & 63);
-        fresh
-    };
-    let leaves = page(header, start.add(root * PAGE), root, INDEX, 0, KEYS, fresh)?;
-    (leaves > 0).then_some((leaves, taken))
+    let kind = if kind(header) == TOP { TOP } else { INDEX };
+    let count = names(header, start, pages, (root, kind), (0, KEYS), &mut taken)?;
+    Some((count, kind, taken))
 }
 
 /// One bit a page that is reached from this root, and page 0's, if all of them
@@ -105,21 +130,73 @@ pub(super) unsafe fn sound(
     root: usize,
     header: impl Fn(usize) -> *const u8,
 ) -> Option<u64> {
-    let index_header = header(root);
-    let (leaves, taken) = index(index_header, start, pages, root)?;
-    let record = |i: usize| start.add(root * PAGE + half(index_header.add(8 + 2 * i)));
-    let least = (leaves > 1) as usize;
+    let (count, kind, taken) = judged_root(header(root), start, pages, root)?;
+    if kind == TOP {
+        return sound_under_top(start, pages, root, (count, taken), header);
+    }
     // The first leaf may hold keys below its separator.
-    let mut low = 1;
-    for i in 0..leaves {
-        let last = i + 1 == leaves;
-        let high = if last { KEYS } else { word(record(i + 1)) };
+    let least = (count > 1) as usize;
+    leaves(start, (root, count), (1, KEYS), least, &header)?;
+    Some(taken)
+}
+
+/// The leaves that an index page names: the first one's keys begin at the one bound, the
+/// last one's end at the other.
+#[inline(always)]
+unsafe fn leaves(
+    start: *const u8,
+    (index, count): (usize, usize),
+    (mut low, end): (u64, u64),
+    least: usize,
+    header: &impl Fn(usize) -> *const u8,
+) -> Option<()> {
+    let index_header = header(index);
+    let record = |i: usize| start.add(index * PAGE + half(index_header.add(8 + 2 * i)));
+    for i in 0..count {
+        let last = i + 1 == count;
+        let high = if last { end } else { word(record(i + 1)) };
         let number = half(record(i).add(16));
         let leaf = start.add(number * PAGE);
         if page(header(number), leaf, number, LEAF, low, high, |_| true)? < least {
             return None;
         }
         low = high;
+    }
+    Some(())
+}
+
+/// The same under a top: its index pages first, then their leaves.
+#[inline(never)]
+unsafe fn sound_under_top(
+    start: *const u8,
+    pages: usize,
+    root: usize,
+    (count, mut taken): (usize, u64),
+    header: impl Fn(usize) -> *const u8,
+) -> Option<u64> {
+    let top = header(root);
+    let record = |i: usize| start.add(root * PAGE + half(top.add(8 + 2 * i)));
+    let bound = |i: usize| if i == count { KEYS } else { word(record(i)) };
+    let mut counts = [0; SLOTS];
+    for (i, leaves) in counts[..count].iter_mut().enumerate() {
+        let number = half(record(i).add(16));
+        // The first one's separators may lie below its own.
+        let low = if i == 0 { 0 } else { bound(i) };
+        let place = (number, INDEX);
+        *leaves = names(
+            header(number),
+            start,
+            pages,
+            place,
+            (low, bound(i + 1)),
+            &mut taken,
+        )?;
+    }
+    let least = (count > 1 || counts[0] > 1) as usize;
+    for (i, &named) in counts[..count].iter().enumerate() {
+        let number = half(record(i).add(16));
+        let low = if i == 0 { 1 } else { bound(i) };
+        leaves(start, (number, named), (low, bound(i + 1)), least, &header)?;
     }
     Some(taken)
 }

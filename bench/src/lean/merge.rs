@@ -2,17 +2,20 @@
 //! counted, then the third buffer written from the list, each byte once.
 //!
 //! Why the raw pointers are sound: both images are judged whole before a record is
-//! read, so that a book has at most 28 leaves of 28 records; the third buffer has a
-//! page for each leaf that is written.
+//! read, so that a book has at most 62 leaves of 28 records; the third buffer has a
+//! page for each page that is written.
 
 use super::image::reached;
-use super::page::{half, record, word, INDEX, KEYS, LEAF, SLOTS};
+use super::page::{half, kind, record, word, INDEX, KEYS, LEAF, SLOTS, TOP};
 use super::tree::{fill_page, listed, put_word, Listed, INDEX_RECORD, ROOM};
 use super::{good_length, PAGE};
 use std::mem::MaybeUninit;
 
+/// The most leaves of a book, or of a result: 64 pages without page 0 and the root.
+const LEAVES: usize = 62;
+
 /// The most records of two books.
-const MOST: usize = 2 * SLOTS * SLOTS;
+const MOST: usize = 2 * LEAVES * SLOTS;
 
 pub fn merge(first: &[u8], second: &[u8], out: &mut [u8]) -> u8 {
     match unsafe { merge_into(first, second, out) } {
@@ -32,24 +35,29 @@ unsafe fn merge_into(first: &[u8], second: &[u8], out: &mut [u8]) -> Result<(), 
     let mut space = MaybeUninit::<[Listed; MOST]>::uninit();
     let mut leaves = Leaves {
         records: space.as_mut_ptr() as *mut Listed,
-        ends: [0; SLOTS],
+        ends: [0; LEAVES],
         count: 1,
     };
     leaves.list(books)?;
     let pages = out.len() / PAGE;
-    if leaves.count > SLOTS {
-        return Err(10);
-    }
-    if leaves.count + 2 > pages {
+    // 10 would need more leaves than two books have.
+    let indexes = match leaves.count > SLOTS {
+        true => leaves.count.div_ceil(SLOTS),
+        false => 0,
+    };
+    if 2 + indexes + leaves.count > pages {
         return Err(11);
     }
-    leaves.write(out.as_mut_ptr(), pages);
+    leaves.write(out.as_mut_ptr(), pages, indexes);
     Ok(())
 }
 
 /// A place in a book: the record that comes next and its key, or a key above all.
 struct Book {
     image: *const u8,
+    /// The top, or null without one; the place of the index page in it.
+    top: *const u8,
+    at: usize,
     index: *const u8,
     leaf: usize,
     page: *const u8,
@@ -62,21 +70,39 @@ impl Book {
     #[inline(always)]
     unsafe fn open(image: &[u8], root: usize) -> Book {
         let image = image.as_ptr();
+        let root = image.add(root * PAGE);
         let mut book = Book {
             image,
-            index: image.add(root * PAGE),
+            top: if kind(root) == TOP {
+                root
+            } else {
+                std::ptr::null()
+            },
+            at: 0,
+            index: root,
             leaf: 0,
             page: image,
             slot: 0,
             record: image,
             key: KEYS,
         };
+        if !book.top.is_null() {
+            book.turn_index();
+        }
         book.turn();
         // Only a leaf without others may be empty.
         if half(book.page) > 0 {
             book.see();
         }
         book
+    }
+
+    /// On to the index page.
+    #[inline(never)]
+    unsafe fn turn_index(&mut self) {
+        let number = half(record(self.top, self.at).add(16));
+        self.index = self.image.add(PAGE * number);
+        self.leaf = 0;
     }
 
     /// On to the leaf's page.
@@ -99,8 +125,12 @@ impl Book {
         if self.slot == half(self.page) {
             self.leaf += 1;
             if self.leaf == half(self.index) {
-                self.key = KEYS;
-                return;
+                self.at += 1;
+                if self.top.is_null() || self.at == half(self.top) {
+                    self.key = KEYS;
+                    return;
+                }
+                self.turn_index();
             }
             self.turn();
         }
@@ -112,7 +142,7 @@ impl Book {
 /// last leaf ends with them.
 struct Leaves {
     records: *mut Listed,
-    ends: [usize; SLOTS],
+    ends: [usize; LEAVES],
     count: usize,
 }
 
@@ -131,7 +161,7 @@ impl Leaves {
             let new = listed(book.record);
             book.pass();
             if count == SLOTS || bytes + new.1 > ROOM {
-                if self.count <= SLOTS {
+                if self.count <= LEAVES {
                     self.ends[self.count - 1] = all;
                 }
                 self.count += 1;
@@ -145,37 +175,61 @@ impl Leaves {
         if one.key != KEYS {
             return Err(20);
         }
-        if self.count <= SLOTS {
+        if self.count <= LEAVES {
             self.ends[self.count - 1] = all;
         }
         Ok(())
     }
 
     #[inline(always)]
-    unsafe fn write(&self, out: *mut u8, pages: usize) {
+    unsafe fn write(&self, out: *mut u8, pages: usize, indexes: usize) {
         out.write_bytes(0, PAGE);
         put_word(out.add(8), 1);
         put_word(out.add(16), pages as u64 | 1 << 16);
-        let mut index = [[0u64; INDEX_RECORD / 8]; SLOTS];
-        let mut named = MaybeUninit::<[Listed; SLOTS]>::uninit();
-        let named = named.as_mut_ptr() as *mut Listed;
+        let mut index = [[0u64; INDEX_RECORD / 8]; LEAVES];
+        let first = 2 + indexes;
         let mut from = 0;
         for (i, entry) in index[..self.count].iter_mut().enumerate() {
             let all = std::slice::from_raw_parts(self.records, self.ends[i]);
             let leaf = &all[from..];
             let separator = if i == 0 { 0 } else { word(leaf[0].0) };
-            *entry = [separator, 2, i as u64 + 2];
-            named
-                .add(i)
-                .write((entry.as_ptr() as *const u8, INDEX_RECORD));
-            new_page(out, i + 2, LEAF, leaf);
+            *entry = [separator, 2, (first + i) as u64];
+            new_page(out, first + i, LEAF, leaf);
             from = self.ends[i];
         }
-        let named = std::slice::from_raw_parts(named, self.count);
-        new_page(out, 1, INDEX, named);
-        let used = self.count + 2;
+        let index = &index[..self.count];
+        match indexes {
+            0 => new_page(out, 1, INDEX, name(&mut EMPTY.clone(), index)),
+            _ => write_top(out, index),
+        }
+        let used = first + self.count;
         out.add(used * PAGE).write_bytes(0, (pages - used) * PAGE);
     }
+}
+
+type Entry = [u64; INDEX_RECORD / 8];
+const EMPTY: [Listed; SLOTS] = [(std::ptr::null(), 0); SLOTS];
+
+/// The records of an index page as they are listed.
+#[inline(always)]
+fn name<'a>(space: &'a mut [Listed; SLOTS], entries: &[Entry]) -> &'a [Listed] {
+    for (listed, entry) in space.iter_mut().zip(entries) {
+        *listed = (entry.as_ptr() as *const u8, INDEX_RECORD);
+    }
+    &space[..entries.len()]
+}
+
+/// Index pages of 28 leaves from page 2 on, and the top as page 1.
+#[inline(never)]
+unsafe fn write_top(out: *mut u8, index: &[Entry]) {
+    let mut top = [[0u64; INDEX_RECORD / 8]; SLOTS];
+    let pages = index.chunks(SLOTS);
+    let count = pages.len();
+    for (i, (entries, entry)) in pages.zip(&mut top).enumerate() {
+        new_page(out, 2 + i, INDEX, name(&mut EMPTY.clone(), entries));
+        *entry = [entries[0][0], 2, 2 + i as u64];
+    }
+    new_page(out, 1, TOP, name(&mut EMPTY.clone(), &top[..count]));
 }
 
 /// A page with these records, and zeros between its header and them.

@@ -62,6 +62,13 @@ pub(super) unsafe fn find(page: *const u8, key: u64) -> Option<*const u8> {
 /// The kinds of a page.
 pub(super) const LEAF: u64 = 1;
 pub(super) const INDEX: u64 = 2;
+pub(super) const TOP: u64 = 3;
+
+/// A page's kind byte.
+#[inline(always)]
+pub(super) unsafe fn kind(header: *const u8) -> u64 {
+    *header.add(4) as u64
+}
 
 /// The number of records of a page, if its header and records are good and the
 /// keys rise from `low` on to below `high`. Each record is handed to `each`.
@@ -130,12 +137,12 @@ unsafe fn zero_past(header: *const u8, count: usize) -> bool {
 }
 
 /// The record's size in eight bytes, if its length, its zeros and its end are
-/// good: 0 to 200 bytes in a leaf, a page number of two bytes in an index.
+/// good: 0 to 200 bytes in a leaf, a page number of two bytes above the leaves.
 #[inline(always)]
 unsafe fn units(record: *const u8, slot: usize, kind: u64) -> Option<usize> {
     // The length and six zeros at once.
     let length = word(record.add(8));
-    if length > 200 || kind == INDEX && length != 2 {
+    if length > 200 || kind != LEAF && length != 2 {
         return None;
     }
     let length = length as usize;

@@ -7,8 +7,8 @@
 //! value is part of the list.
 
 use super::edits::{parse, Edit};
-use super::page::{find, good_key};
-use super::read::Index;
+use super::page::{find, good_key, half, SLOTS};
+use super::read::{Index, Root};
 use std::mem::MaybeUninit;
 
 const INSERT: u8 = 1;
@@ -38,13 +38,18 @@ pub fn preview(image: &[u8], list: &[u8], key: u64, answer: &mut [u64; 4]) -> u8
 /// Which buffer has the value, and where; or a refusal's number and edit number.
 #[inline(always)]
 unsafe fn look(image: &[u8], list: &[u8], key: u64) -> Result<(u64, (u64, u64)), (u8, usize)> {
-    let index = Index::read(image).map_err(|number| (number, 0))?;
+    let root = Root::read(image).map_err(|number| (number, 0))?;
     let mut space = MaybeUninit::<[Edit; 16]>::uninit();
     let edits = parse(list, space.as_mut_ptr() as *mut Edit)?;
     if !good_key(key) {
         return Err((6, 0));
     }
-    let mut leaves = Leaves { index, judged: 0 };
+    let mut leaves = Leaves {
+        root,
+        indexes: MaybeUninit::uninit(),
+        read: 0,
+        judged: 0,
+    };
     judge_keys(&mut leaves, edits)?;
     Ok(match last(edits, key) {
         Some(edit) if edit.kind == DELETE => (NEITHER, (0, 0)),
@@ -53,31 +58,51 @@ unsafe fn look(image: &[u8], list: &[u8], key: u64) -> Result<(u64, (u64, u64)),
             (LIST, (offset as u64, edit.length as u64))
         }
         None => match leaves.find(key)? {
-            Some(record) => (IMAGE, index.value(record)),
+            Some(record) => (IMAGE, value(image, record)),
             None => (NEITHER, (0, 0)),
         },
     })
 }
 
-/// The leaves, and one bit for each that is judged already.
+/// Where a record's value is in the image, and its length.
+#[inline(always)]
+unsafe fn value(image: &[u8], record: *const u8) -> (u64, u64) {
+    let offset = record.add(16).offset_from(image.as_ptr());
+    (offset as u64, half(record.add(8)) as u64)
+}
+
+/// The index pages, with one bit for each that is read already, and one bit for each leaf's
+/// page that is judged.
 struct Leaves {
-    index: Index,
-    judged: u32,
+    root: Root,
+    indexes: MaybeUninit<[Index; SLOTS]>,
+    read: u32,
+    judged: u64,
 }
 
 impl Leaves {
-    /// The record of this key, if its leaf has one. Refused if the leaf is bad:
-    /// "a leaf's 4 comes just before the 8 or 9 of the first edit that needs that
-    /// leaf, or last of all for the key asked". It is no edit's, so its number
+    /// The record of this key, if its leaf has one. Refused if the leaf is bad, or its
+    /// index page: "a leaf's 4 comes just before the 8 or 9 of the first edit that needs
+    /// that leaf, or last of all for the key asked". It is no edit's, so its number
     /// is 0.
     #[inline(always)]
     unsafe fn find(&mut self, key: u64) -> Result<Option<*const u8>, (u8, usize)> {
-        let which = self.index.route(key);
-        if self.judged >> which & 1 == 0 && !self.index.is_good(which) {
+        let which = self.root.route(key);
+        let indexes = self.indexes.as_mut_ptr() as *mut Index;
+        if self.read >> which & 1 == 0 {
+            indexes
+                .add(which)
+                .write(self.root.index(which).ok_or((4, 0))?);
+            self.read |= 1 << which;
+        }
+        let index = *indexes.add(which);
+        let which = index.route(key);
+        let page = index.number(which);
+        if self.judged >> page & 1 == 0 && !index.is_good(which) {
             return Err((4, 0));
         }
-        self.judged |= 1 << which;
-        Ok(find(self.index.leaf(which), key))
+        self.judged |= 1 << page;
+        Ok(find(index.leaf(which), key))
     }
 }
 

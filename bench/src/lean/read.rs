@@ -1,38 +1,115 @@
 //! Lookup and next key. "A lookup now reads page 0, the index and one leaf. Next
-//! key reads that and, only if that leaf holds no larger key, the leaf after."
+//! key reads that and, only if that leaf holds no larger key, the leaf after." Under a
+//! top page the index page of a leaf is judged before it.
 //!
 //! Why the raw pointers are sound: the image's length is judged first, and all
-//! page numbers of the index before a leaf is read; a leaf is judged before it
-//! is searched.
+//! page numbers of a page above the leaves before one of them is read; a leaf is
+//! judged before it is searched.
 
-use super::image::{index, root};
-use super::page::{find, good_key, half, not_above, page, record, word, KEYS, LEAF};
+use super::image::{judged_root, names, root};
+use super::page::{find, good_key, half, not_above, page, record, word, INDEX, KEYS, LEAF, TOP};
 use super::PAGE;
 
-/// An image whose page 0 and index are good.
+/// An image whose page 0 and root are good, and what the pages above the leaves that were
+/// read take.
+pub(super) struct Root {
+    image: *const u8,
+    pages: usize,
+    page: *const u8,
+    count: usize,
+    under_top: bool,
+    taken: u64,
+}
+
+impl Root {
+    /// Judges page 0's first line and the root.
+    #[inline(always)]
+    pub fn read(image: &[u8]) -> Result<Root, u8> {
+        let (root, start) = (root(image)?, image.as_ptr());
+        let pages = image.len() / PAGE;
+        unsafe {
+            let page = start.add(root * PAGE);
+            let (count, kind, taken) = judged_root(page, start, pages, root).ok_or(4)?;
+            Ok(Root {
+                image: start,
+                pages,
+                page,
+                count,
+                under_top: kind == TOP,
+                taken,
+            })
+        }
+    }
+
+    /// Which index page a key belongs to: 0 without a top.
+    #[inline(always)]
+    pub unsafe fn route(&self, key: u64) -> usize {
+        match self.under_top {
+            true => route(self.page, key),
+            false => 0,
+        }
+    }
+
+    /// How many index pages there are.
+    #[inline(always)]
+    pub fn indexes(&self) -> usize {
+        match self.under_top {
+            true => self.count,
+            false => 1,
+        }
+    }
+
+    /// An index page, judged if it is under a top; it must not have been before.
+    #[inline(always)]
+    pub unsafe fn index(&mut self, which: usize) -> Option<Index> {
+        if self.under_top {
+            return self.lower(which);
+        }
+        Some(Index {
+            image: self.image,
+            page: self.page,
+            leaves: self.count,
+            bounds: (1, KEYS),
+            only: self.count == 1,
+        })
+    }
+
+    #[inline(never)]
+    unsafe fn lower(&mut self, which: usize) -> Option<Index> {
+        let number = half(record(self.page, which).add(16));
+        let bound = |i: usize| match i == self.count {
+            true => KEYS,
+            false => word(record(self.page, i)),
+        };
+        let low = if which == 0 { 0 } else { bound(which) };
+        let high = bound(which + 1);
+        let page = self.image.add(number * PAGE);
+        let place = (number, INDEX);
+        let taken = &mut self.taken;
+        let leaves = names(page, self.image, self.pages, place, (low, high), taken)?;
+        Some(Index {
+            image: self.image,
+            page,
+            leaves,
+            bounds: (low.max(1), high),
+            only: self.count == 1 && leaves == 1,
+        })
+    }
+}
+
+/// A good index page.
 #[derive(Clone, Copy)]
 pub(super) struct Index {
     image: *const u8,
     page: *const u8,
     leaves: usize,
+    /// Keys of its leaves are from the one on, and below the other.
+    bounds: (u64, u64),
+    /// It names the only leaf of the store.
+    only: bool,
 }
 
 impl Index {
-    /// Judges page 0's first line and the index.
-    #[inline(always)]
-    pub fn read(image: &[u8]) -> Result<Index, u8> {
-        let (root, start) = (root(image)?, image.as_ptr());
-        unsafe {
-            let page = start.add(root * PAGE);
-            let (leaves, _) = index(page, start, image.len() / PAGE, root).ok_or(4)?;
-            Ok(Index {
-                image: start,
-                page,
-                leaves,
-            })
-        }
-    }
-
     /// Which leaf a key belongs to.
     #[inline(always)]
     pub unsafe fn route(&self, key: u64) -> usize {
@@ -46,21 +123,22 @@ impl Index {
     }
 
     #[inline(always)]
-    unsafe fn number(&self, which: usize) -> usize {
+    pub unsafe fn number(&self, which: usize) -> usize {
         half(record(self.page, which).add(16))
     }
 
-    /// Whether a leaf is sound "by [itself], separator bounds included": the
-    /// first may hold keys below its separator, and only a leaf without others
-    /// may be empty.
+    /// Whether a leaf is sound "by [itself], separator bounds included": the first may
+    /// hold keys below its separator, down to its index page's, and only a leaf without
+    /// others may be empty.
     #[inline(always)]
     pub unsafe fn is_good(&self, which: usize) -> bool {
         let separator = |i| word(record(self.page, i));
-        let low = if which == 0 { 1 } else { separator(which) };
+        let (start, end) = self.bounds;
+        let low = if which == 0 { start } else { separator(which) };
         let last = which + 1 == self.leaves;
-        let high = if last { KEYS } else { separator(which + 1) };
+        let high = if last { end } else { separator(which + 1) };
         let (leaf, number) = (self.leaf(which), self.number(which));
-        let least = (self.leaves > 1) as usize;
+        let least = !self.only as usize;
         page(leaf, leaf, number, LEAF, low, high, |_| true).is_some_and(|count| count >= least)
     }
 
@@ -79,11 +157,14 @@ pub(super) unsafe fn route(index: *const u8, key: u64) -> usize {
 }
 
 pub fn lookup(image: &[u8], key: u64, answer: &mut [u64; 3]) -> u8 {
-    let index = match Index::read(image) {
-        Ok(index) => index,
+    let mut root = match Root::read(image) {
+        Ok(root) => root,
         Err(number) => return number,
     };
     unsafe {
+        let Some(index) = root.index(root.route(key)) else {
+            return 4;
+        };
         let which = index.route(key);
         if !index.is_good(which) {
             return 4;
@@ -103,11 +184,15 @@ pub fn lookup(image: &[u8], key: u64, answer: &mut [u64; 3]) -> u8 {
 }
 
 pub fn next_key(image: &[u8], key: u64, answer: &mut [u64; 2]) -> u8 {
-    let index = match Index::read(image) {
-        Ok(index) => index,
+    let mut root = match Root::read(image) {
+        Ok(root) => root,
         Err(number) => return number,
     };
     unsafe {
+        let which_index = root.route(key);
+        let Some(mut index) = root.index(which_index) else {
+            return 4;
+        };
         let mut which = index.route(key);
         if !index.is_good(which) {
             return 4;
@@ -116,8 +201,14 @@ pub fn next_key(image: &[u8], key: u64, answer: &mut [u64; 2]) -> u8 {
         if at == half(index.leaf(which)) {
             which += 1;
             if which == index.leaves {
-                *answer = [0, 0];
-                return 0;
+                if which_index + 1 == root.indexes() {
+                    *answer = [0, 0];
+                    return 0;
+                }
+                let Some(after) = root.index(which_index + 1) else {
+                    return 4;
+                };
+                (index, which) = (after, 0);
             }
             // It is not empty, as it is not the only one.
             if !index.is_good(which) {

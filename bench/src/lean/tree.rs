@@ -1,7 +1,7 @@
 //! The edits made in work, page by page.
 
 use super::edits::Edit;
-use super::page::{half, not_above, record, word, INDEX, LEAF, SLOTS};
+use super::page::{half, kind, not_above, record, word, INDEX, LEAF, SLOTS, TOP};
 use super::read::route;
 use super::tape::bits;
 use super::PAGE;
@@ -34,6 +34,33 @@ enum Slot {
 /// A record somewhere: its first byte and its size.
 pub type Listed = (*const u8, usize);
 
+/// Where an edit's key belongs: the place of its index page in the top, or `NO_TOP`; that
+/// page; the leaf's place in it; the leaf.
+#[derive(Clone, Copy)]
+struct Path {
+    in_top: usize,
+    index: usize,
+    in_index: usize,
+    leaf: usize,
+}
+
+const NO_TOP: usize = usize::MAX;
+
+/// What a page that took a record became: the new pages, and the right one's first key or
+/// separator.
+#[derive(Clone, Copy)]
+enum Moved {
+    Not,
+    Copy(usize),
+    Split(usize, usize, u64),
+}
+
+/// An index record as it is listed.
+#[inline(always)]
+fn name(record: &[u64; 3]) -> Listed {
+    (record.as_ptr() as *const u8, INDEX_RECORD)
+}
+
 impl Tree {
     #[inline(always)]
     pub unsafe fn page(&self, number: usize) -> *mut u8 {
@@ -57,24 +84,54 @@ impl Tree {
     /// One edit; 0 or the refusal's number.
     #[inline(always)]
     unsafe fn edit(&mut self, edit: &Edit) -> u8 {
-        let index = self.page(self.root);
-        let leaf = route(index, edit.key);
-        let number = half(record(index, leaf).add(16));
-        let page = self.page(number);
+        let path = self.path(edit.key);
+        let page = self.page(path.leaf);
         let at = not_above(page, edit.key);
         let found = at > 0 && word(record(page, at - 1)) == edit.key;
         match edit.kind {
             1 if found => 8,
-            1 => self.write(leaf, number, Slot::New(at), edit),
+            1 => self.write(path, Slot::New(at), edit),
             _ if !found => 9,
-            2 => self.write(leaf, number, Slot::Old(at - 1), edit),
+            2 => self.write(path, Slot::Old(at - 1), edit),
             _ => {
-                self.drop_slot(number, at - 1);
-                if half(page) == 0 && half(index) > 1 {
-                    self.drop_slot(self.root, leaf);
+                self.drop_slot(path.leaf, at - 1);
+                if half(page) == 0 {
+                    self.drop_leaf(path);
                 }
                 0
             }
+        }
+    }
+
+    #[inline(always)]
+    unsafe fn path(&self, key: u64) -> Path {
+        let (mut index, mut in_top) = (self.root, NO_TOP);
+        let root = self.page(self.root);
+        if kind(root) == TOP {
+            in_top = route(root, key);
+            index = half(record(root, in_top).add(16));
+        }
+        let page = self.page(index);
+        let in_index = route(page, key);
+        Path {
+            in_top,
+            index,
+            in_index,
+            leaf: half(record(page, in_index).add(16)),
+        }
+    }
+
+    /// "A leaf left empty, unless it is the only one, loses its index record", and an index
+    /// page likewise.
+    #[inline(always)]
+    unsafe fn drop_leaf(&mut self, path: Path) {
+        let several = half(self.page(path.index)) > 1;
+        if several {
+            return self.drop_slot(path.index, path.in_index);
+        }
+        if path.in_top != NO_TOP && half(self.page(self.root)) > 1 {
+            self.drop_slot(path.index, 0);
+            self.drop_slot(self.root, path.in_top);
         }
     }
 
@@ -91,16 +148,19 @@ impl Tree {
 
     /// A record into a leaf: in place, or else by a copy or a split.
     #[inline(always)]
-    unsafe fn write(&mut self, leaf: usize, number: usize, slot: Slot, edit: &Edit) -> u8 {
+    unsafe fn write(&mut self, path: Path, slot: Slot, edit: &Edit) -> u8 {
         let size = 16 + edit.length.next_multiple_of(8);
-        if let Some(record) = self.make_room(number, slot, size) {
+        if let Some(record) = self.make_room(path.leaf, slot, size) {
             put_record(record, edit, size);
             return 0;
         }
         let mut record = MaybeUninit::<[u64; 27]>::uninit();
         let record = record.as_mut_ptr() as *mut u8;
         put_record(record, edit, size);
-        self.copy_or_split(leaf, number, slot, (record, size))
+        match self.move_leaf(path, slot, (record, size)) {
+            Ok(()) => 0,
+            Err(number) => number,
+        }
     }
 
     /// Room for a record just below the page's start, with its slot set, if the
@@ -128,62 +188,127 @@ impl Tree {
         Some(page.add(start - size))
     }
 
-    /// The leaf's records with the edit made, into one or two new pages.
+    /// The leaf's records with the edit made, into one or two new pages; then the records
+    /// above, page by page.
     #[inline(never)]
-    unsafe fn copy_or_split(&mut self, leaf: usize, number: usize, slot: Slot, new: Listed) -> u8 {
-        let mut space = MaybeUninit::<[Listed; SLOTS + 1]>::uninit();
-        let space = space.as_mut_ptr() as *mut Listed;
-        let records = list(self.page(number), slot, new, space);
-        let total: usize = records.iter().map(|record| record.1).sum();
-        let whole = records.len() <= SLOTS && total <= ROOM;
-        let index = self.page(self.root);
-        if !whole && half(index) == SLOTS {
-            return 10;
-        }
-        let leaves = if whole { 1 } else { 2 };
-        let copies = (half(index.add(2)) - 64 < leaves * INDEX_RECORD) as usize;
-        if (self.free.count_ones() as usize) < leaves + copies {
-            return 11;
-        }
-        let separator = match leaf {
-            0 => 0,
-            _ => word(record(index, leaf)),
+    unsafe fn move_leaf(&mut self, path: Path, slot: Slot, new: Listed) -> Result<(), u8> {
+        let leaf = self.move_page(LEAF, path.leaf, slot, new)?;
+        let root = self.page(self.root);
+        let of_page = match path.in_top {
+            0 | NO_TOP => 0,
+            at => word(record(root, at)),
         };
-        if whole {
-            let page = self.fill_new(LEAF, records);
-            self.write_index(Slot::Old(leaf), separator, page);
-        } else {
-            let (left, right) = records.split_at(half_of(records, total));
-            let left_page = self.fill_new(LEAF, left);
-            let right_page = self.fill_new(LEAF, right);
-            self.write_index(Slot::Old(leaf), separator, left_page);
-            self.write_index(Slot::New(leaf + 1), word(right[0].0), right_page);
+        let separator = match path.in_index {
+            0 => of_page,
+            at => word(record(self.page(path.index), at)),
+        };
+        let index = self.put_names(INDEX, path.index, path.in_index, separator, leaf)?;
+        if path.in_top != NO_TOP {
+            let top = self.put_names(TOP, self.root, path.in_top, of_page, index)?;
+            return match top {
+                Moved::Not => Ok(()),
+                Moved::Copy(page) => {
+                    self.root = page;
+                    Ok(())
+                }
+                Moved::Split(..) => Err(10),
+            };
         }
-        0
+        match index {
+            Moved::Not => {}
+            Moved::Copy(page) => self.root = page,
+            Moved::Split(left, right, separator) => {
+                let names = [[0, 2, left as u64], [separator, 2, right as u64]];
+                let listed = names.each_ref().map(name);
+                self.root = self.fill_new(TOP, &listed)?;
+            }
+        }
+        Ok(())
     }
 
-    /// An index record in place, or else the index copied.
+    /// A page takes the records of what its child became, left first, each by the whole
+    /// rule.
     #[inline(always)]
-    unsafe fn write_index(&mut self, slot: Slot, separator: u64, page: usize) {
-        let new = [separator, 2, page as u64];
-        let bytes = new.as_ptr() as *const u8;
-        if let Some(record) = self.make_room(self.root, slot, INDEX_RECORD) {
-            return copy_nonoverlapping(bytes, record, INDEX_RECORD);
+    unsafe fn put_names(
+        &mut self,
+        kind: u64,
+        page: usize,
+        slot: usize,
+        separator: u64,
+        child: Moved,
+    ) -> Result<Moved, u8> {
+        match child {
+            Moved::Not => Ok(Moved::Not),
+            Moved::Copy(left) => {
+                self.put_name(kind, page, Slot::Old(slot), [separator, 2, left as u64])
+            }
+            Moved::Split(left, right, low) => {
+                let name = [separator, 2, left as u64];
+                let after = self.put_name(kind, page, Slot::Old(slot), name)?;
+                let now = if let Moved::Copy(copy) = after {
+                    copy
+                } else {
+                    page
+                };
+                let name = [low, 2, right as u64];
+                let moved = self.put_name(kind, now, Slot::New(slot + 1), name)?;
+                Ok(if let Moved::Not = moved { after } else { moved })
+            }
         }
+    }
+
+    /// An index record in place, or else its page copied or split.
+    #[inline(always)]
+    unsafe fn put_name(
+        &mut self,
+        kind: u64,
+        page: usize,
+        slot: Slot,
+        new: [u64; 3],
+    ) -> Result<Moved, u8> {
+        if let Some(record) = self.make_room(page, slot, INDEX_RECORD) {
+            copy_nonoverlapping(new.as_ptr() as *const u8, record, INDEX_RECORD);
+            return Ok(Moved::Not);
+        }
+        self.move_page(kind, page, slot, name(&new))
+    }
+
+    /// The page's records with one more or one replaced, into one or two new pages.
+    #[inline(always)]
+    unsafe fn move_page(
+        &mut self,
+        kind: u64,
+        page: usize,
+        slot: Slot,
+        new: Listed,
+    ) -> Result<Moved, u8> {
         let mut space = MaybeUninit::<[Listed; SLOTS + 1]>::uninit();
         let space = space.as_mut_ptr() as *mut Listed;
-        let records = list(self.page(self.root), slot, (bytes, INDEX_RECORD), space);
-        self.root = self.fill_new(INDEX, records);
+        let records = list(self.page(page), slot, new, space);
+        let total: usize = records.iter().map(|record| record.1).sum();
+        if records.len() <= SLOTS && total <= ROOM {
+            return Ok(Moved::Copy(self.fill_new(kind, records)?));
+        }
+        let (left, right) = records.split_at(half_of(records, total));
+        let left = self.fill_new(kind, left)?;
+        Ok(Moved::Split(
+            left,
+            self.fill_new(kind, right)?,
+            word(right[0].0),
+        ))
     }
 
-    /// The highest page that may be taken, filled from the end down.
+    /// The highest page that may be taken, filled from the end down, or 11.
     #[inline(always)]
-    unsafe fn fill_new(&mut self, kind: u64, records: &[Listed]) -> usize {
+    unsafe fn fill_new(&mut self, kind: u64, records: &[Listed]) -> Result<usize, u8> {
+        if self.free == 0 {
+            return Err(11);
+        }
         let number = 63 - self.free.leading_zeros() as usize;
         self.free ^= 1 << number;
         self.touched |= 1 << number;
         fill_page(self.page(number), number, kind, records);
-        number
+        Ok(number)
     }
 
     /// The image's bytes again, in these pages.

@@ -180,7 +180,7 @@ module _ (a work tape bytes : List ℕ) (same : length work ≡ length a) (k : �
             let same = number-caused n (omega (arith, eight)) (omega (arith, most)) in
             (_, refl, inr (inl (omega (arith, same, ten), omega (arith, same, most), later n i ten G)))
 
-  -- 1 and 3 come first in both; 4 may be for a leaf that the preview does not come to
+  -- 1 and 3 come first in both; 4 may be for a page that the preview does not come to
   image-refuses : (s : Refusal) → check_call a ≡ Err s → RefusedSo a r (Err s)
   image-refuses s c = go (eqb (number_in s) 4) refl
     where

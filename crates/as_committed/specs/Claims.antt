@@ -17,7 +17,7 @@ AsCommitted =
     (way : Way) (a work tape bytes : List ℕ) (c : Commit) → (transaction_call way a work tape bytes).answer ≡ Ok c → (k : ℕ) →
     previewed a bytes (preview_call a bytes k) ≡ looked_up (transaction_call way a work tape bytes).work (lookup_call (transaction_call way a work tape bytes).work k)
 
--- refused for the image, the list or a key, so not with 2 for its work buffer nor with 10 to 13 for want of room, and with 4 only for page 0 or the index, which both read: so is the preview
+-- refused for the image, the list or a key, so not with 2 for its work buffer nor with 10 to 13 for want of room, and with 4 only for page 0 or the root page, which both read: so is the preview
 -- of a key in range, with the same number and edit number
 abbrev pub RefusedAlike : Type 0
 RefusedAlike =

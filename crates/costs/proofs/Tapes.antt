@@ -2,8 +2,7 @@
 -- Assumes nothing.
 use Rattle.std.specs.Prelude.{Err, Ok}
 use Prim.Native.Nat.{ℕ, ◌+◌, ◌-◌, ◌*◌, ◌≤◌, ◌<◌}
-use mathlib.Core.Path.{◌≡◌, refl, ap, ◌∙◌}
-use mathlib.Core.Logic.{◌⊎◌, inl, inr}
+use mathlib.Core.Path.{◌≡◌, refl, ap}
 use mathlib.Core.Bool.{Bool, true, false, ◌&&◌}
 use mathlib.Core.List.{List}
 use native.Mathlib.Omega.{arith}
@@ -13,19 +12,15 @@ use borrow.Author.Tests.{leb-false}
 use Rattle.codec.specs.Lists.{pick}
 use Rattle.device.specs.Tape.{tape_bytes, flush_count}
 use Rattle.device.specs.Calls.{is_image_size, number_in, refusal_at}
-use Rattle.device.specs.declared.Refusal.{Refusal}
 use Rattle.device.proofs.Causes.{number-same}
 use Rattle.image.specs.PageZero.{page_count, page_zero}
 use Rattle.image.specs.Image.{sound}
-use Rattle.image.specs.Says.{NotOpened}
-use Rattle.image.specs.Says as image
 use Rattle.image.specs.declared.PageZero.{PageZero}
 use Rattle.image.specs.declared.PageZero.TheVariants.{Wrong, Waiting, Ready}
 use Rattle.image.proofs.Zero.{is_page-true, waiting-facts}
-use Rattle.image.proofs.Whole.{check-refused}
 use Rattle.image.proofs.Answers.{check_sound}
 use Rattle.edit.proofs.General.{by-test}
-use Rattle.edit.proofs.Parsing.{list-proper, list-numbered}
+use Rattle.edit.proofs.Parsing.{list-proper}
 use Rattle.journal.specs.Changes.{changed_pages, same_root}
 use Rattle.journal.specs.Tape.{commit_of, taken_for}
 use Rattle.journal.specs.Recovery.{logged, recovery_tape, replay_from, replayable, root_is}
@@ -36,7 +31,6 @@ use Rattle.journal.specs.declared.Commit.{Commit}
 use Rattle.tree.specs.Whole.{edited_image}
 use Rattle.tree.proofs.Accepted.{edits-accepted}
 use Rattle.tree.proofs.Numbers.{edits-numbered}
-use Rattle.tree.proofs.Runs.{grounds-refuse}
 use Rattle.tape_write.specs.Sizes.{lines_bytes, group_bytes, replay_bytes, log_bytes, commits_alone, end_bytes}
 use Rattle.tape_write.specs.Words.{stage_words, lines_past}
 use Rattle.tape_write.specs.Calls.{reached_in}
@@ -46,11 +40,9 @@ use Rattle.tape_write.proofs.LogLines.{logged-lines, logged-length}
 use Rattle.tape_write.proofs.Endings.{replay-size}
 use Rattle.tape_write.proofs.StageWords.{stage-start}
 use Rattle.tape_write.proofs.Committing.{taken-size}
-use Rattle.transaction.specs.Calls.{Called, refused_with, accepted_with, transaction_call}
-use Rattle.transaction.specs.Answers.{Answers, bad-size, bad-work, bad-image, bad-list, bad-edit, no-log, no-tape, accepted}
-use Rattle.transaction.proofs.Answers.{refused-is, call-answers}
 use Rattle.transaction.proofs.Joining.{images}
 use Rattle.transaction.proofs.Demand2.{acceptance, was-sound, target, target-edited, answer-is}
+use Rattle.transaction.proofs.NeverTen.{past-list}
 use Rattle.recovery.specs.Calls.{recover_call}
 use Rattle.recovery.specs.Calls as recoveries
 use Rattle.journal.specs.declared.Redone.{Redone}
@@ -93,43 +85,15 @@ tape-used way a work tape bytes c e =
     let used : c.bytes ≡ length (tape_bytes (taken_for way a w).tape) = ap (λ (x : Commit). x.bytes) (answer-is way a work tape bytes c e) in
     omega (arith, used, tape-most way a w (was-sound way a work tape bytes c e) (target-edited way a work tape bytes c e) (acceptance way a work tape bytes c e).few)
 
--- the refusals before it have other numbers
-check-other : (a : List ℕ) (r : Refusal) → NotOpened a r ⊎ (refusal_at 4 0 ≡ r) → number_in r ≡ 13 → ⊥
-check-other a _ (inl (image.bad-size s)) e = omega arith
-check-other a _ (inl (image.wrong-zero s z)) e = omega arith
-check-other a _ (inl (image.mark-waits s k root z)) e = omega arith
-check-other a _ (inl (image.bad-index s root z i)) e = omega arith
-check-other a r (inr four) e = omega (arith, ap (λ (x : Refusal). number_in x) four)
-
-list-other : (k : ℕ) → ((5 ≤ k) × (k ≤ 7)) ⊎ (k ≡ 19) → k ≡ 13 → ⊥
-list-other k (inl h) e = omega (arith, h.1)
-list-other k (inr h) e = omega arith
-
-list-few : (k : ℕ) → ((5 ≤ k) × (k ≤ 7)) ⊎ (k ≡ 19) → (1 ≤ k) × (k ≤ 20)
-list-few k (inl h) = (omega (arith, h.0), omega (arith, h.1))
-list-few k (inr h) = (omega arith, omega arith)
-
 pub tape-suffices : TapeSuffices
-unfolding accepted_with
-tape-suffices way a work tape bytes long r e thirteen = go (transaction_call way a work tape bytes) (call-answers way a work tape bytes) e
-  where
-    said : (n i : ℕ) (left : List ℕ) → 1 ≤ n → n ≤ 20 → (refused_with n i left tape).answer ≡ Err r → n ≡ 13
-    said n i left low high e = (number-same n i r low high (refused-is n i left tape r e)).0 ∙ thirteen
-
-    go : (x : Called) → Answers way a work tape bytes x → x.answer ≡ Err r → ⊥
-    go _ (bad-size _) e = omega (arith, said 1 0 work (omega arith) (omega arith) e)
-    go _ (bad-work _ _) e = omega (arith, said 2 0 work (omega arith) (omega arith) e)
-    go _ (bad-image _ _ s c) e = let z : s ≡ r = cc in check-other a s (check-refused a s c) (ap (λ (x : Refusal). number_in x) z ∙ thirteen)
-    go _ (bad-list _ k i f) e = let few = list-few k (list-numbered bytes k i f) in list-other k (list-numbered bytes k i f) (said k i work few.0 few.1 e)
-    go _ (bad-edit B es reads k i low g) e =
-        let made = grounds-refuse a (check_sound a B.checked) es (list-proper bytes es reads) k i g (λ z. omega arith) in
-        let most = (edits-numbered a es k i made).1 in
-        omega (arith, said k i a (omega arith) (omega arith) e, most)
-    go _ (no-log _ _ _ _ _) e = omega (arith, said 12 0 a (omega arith) (omega arith) e)
-    go _ (no-tape B es st D few short) e =
-        let s = check_sound a B.checked in
-        omega (arith, short, tape-most way a (edited_image a st) s (edits-accepted a s es (list-proper bytes es D.reads) st D.makes) few)
-    go _ (accepted _ _ _ _ _ _) e = let z : ◌≡◌ {A = ℕ} 0 1 = cc in absurd (omega arith)
+tape-suffices way a work tape bytes long r e thirteen =
+    past-list way a work tape bytes r e (λ (n : ℕ). n ≡ 13 → ⊥)
+    (λ B es reads k i stops z. omega (arith, (edits-numbered a es k i stops).1))
+    (λ z. omega arith)
+    (λ B es st D few short z.
+    let s = check_sound a B.checked in
+    omega (arith, short, tape-most way a (edited_image a st) s (edits-accepted a s es (list-proper bytes es D.reads) st D.makes) few))
+    (omega (arith, thirteen)) (omega (arith, thirteen)) thirteen
 
 -- ---- a recovery's
 

@@ -1,13 +1,13 @@
 -- "The cost of one quote" (document 02 (f) and (h)): the flushes and barriers of an accepted transaction of one edit on the line-store device. That
 -- its image is sound is part of the acceptance.
 -- Assumes nothing.
-use Rattle.std.specs.Prelude.{ℕ, ◌+◌, ◌≤◌, ◌<◌, ◌≡◌, List, [], ◌∷◌, length, Ok}
+use Rattle.std.specs.Prelude.{ℕ, suc, ◌+◌, ◌≤◌, ◌<◌, ◌≡◌, List, [], ◌∷◌, length, Ok}
 use Rattle.device.specs.Tape.{Op, barrier_count}
 use Rattle.page.specs.Layout.{rec_of, size, read_head}
 use Rattle.page.specs.Page.{records}
 use Rattle.page.specs.Operations.{page_of}
 use Rattle.image.specs.PageZero.{root_of}
-use Rattle.image.specs.Image.{children, child_of}
+use Rattle.image.specs.Image.{children, child_of, height_of}
 use Rattle.image.specs.Says.{Belongs}
 use Rattle.edit.specs.EditList.{Edit, insert, update, delete, key_of, listed, edit_list}
 use Rattle.journal.specs.Cost.{Costs}
@@ -15,18 +15,21 @@ use Rattle.journal.specs.declared.Way.TheVariants.{ByLine}
 use Rattle.journal.specs.declared.Commit.{Commit}
 use Rattle.transaction.specs.Calls.{commands_on, transaction_call}
 
--- the transaction of a list of the one edit e is accepted with the answer c; the leaf that the key of e belongs to, as each key does to one
+-- from page q of height h down to the page of the leaf that the key k belongs to: "A key belongs by the old rule to one index page, then within it to a leaf."
+pub data LeafOf (a : List ℕ) (k : ℕ) : ℕ → ℕ → ℕ → Type 0 where
+  itself : (q : ℕ) → LeafOf a k 0 q q
+  below : (h q leaf : ℕ) → (b : Belongs k (children a q)) → LeafOf a k h (child_of b.own) leaf → LeafOf a k (suc h) q leaf
+
+-- the transaction of a list of the one edit e is accepted with the answer c; the leaf that the key of e belongs to, as each key does to one (`one-leaf`)
 pub record OneEdit (a work tape bytes : List ℕ) (e : Edit) (c : Commit) : Type 0 where
   pub is_accepted : (transaction_call ByLine a work tape bytes).answer ≡ Ok c
   pub only : edit_list bytes ≡ listed (e ∷ [])
-  pub leaf : Belongs (key_of e) (children a (root_of a))
+  pub leaf : ℕ
+  pub way : LeafOf a (key_of e) (height_of a (root_of a)) (root_of a) leaf
 
--- that leaf's page number, and the page
-abbrev pub leaf_number : {a work tape bytes : List ℕ} {e : Edit} {c : Commit} → OneEdit a work tape bytes e c → ℕ
-leaf_number o = child_of o.leaf.own
-
+-- that leaf's page
 abbrev pub leaf_page : {a work tape bytes : List ℕ} {e : Edit} {c : Commit} → OneEdit a work tape bytes e c → List ℕ
-leaf_page {a} o = page_of a (child_of o.leaf.own)
+leaf_page {a} o = page_of a o.leaf
 
 -- the commands on its tape
 abbrev pub commands_of : {a work tape bytes : List ℕ} {e : Edit} {c : Commit} → OneEdit a work tape bytes e c → List Op
@@ -35,7 +38,7 @@ commands_of {a} {work} {tape} {bytes} {e} {c} o = commands_on a c.bytes (transac
 -- the answer and the tape: at most `words` words besides the header's line, at most `most` flushes and two barriers
 abbrev pub CostsAtMost : {a work tape bytes : List ℕ} {e : Edit} {c : Commit} → OneEdit a work tape bytes e c → ℕ → ℕ → Type 0
 CostsAtMost {a} {work} {tape} {bytes} {e} {c} o words most =
-    Costs c.place c.flushes (commands_of o) (leaf_number o) words most
+    Costs c.place c.flushes (commands_of o) o.leaf words most
 
 -- "one insert or update whose record fits below the content start, an insert finding fewer than 28 records"
 abbrev pub FitsBelow : Edit → List ℕ → Type 0

@@ -11,8 +11,7 @@ use lib.ListN.{length}
 use lib.Dec.{eqb}
 use borrow.Author.Tests.{ne_eqb, eqb-true, eqb-false}
 use Rattle.device.specs.Calls.{cause_number, cause_of, Answer, number_in, refusal_at}
-use Rattle.codec.specs.Lists.{pick, All}
-use Rattle.codec.proofs.Tests.{All-map}
+use Rattle.codec.specs.Lists.{pick}
 use Rattle.device.specs.declared.Refusal.{Refusal}
 use Rattle.page.specs.Layout.{Rec}
 use Rattle.image.specs.Table.{find}
@@ -131,20 +130,20 @@ kept_append (e ∷ es) fs t h g = (h.0, kept_append es fs (apply_edit e t) h.1 g
 pub kept-keys : (i : ℕ) (es : List Edit) (s : Source) → AllKeptBy es s → keys_from i es s ≡ Ok tt
 unfolding keys_from
 kept-keys i [] s h = refl
-kept-keys i (e ∷ es) s h = rw (kept-fault i e (s (key_of e)) h.0) (kept-keys (suc i) es (made e s) h.1)
+kept-keys i (e ∷ es) s h = rw (kept-fault i e (s [] (key_of e)) h.0) (kept-keys (suc i) es (made e s) h.1)
 
 -- what the answer says of the edits es, the first of which is edit i
 abbrev KeysSay : ℕ → List Edit → Source → Answer → Type 0
 KeysSay i es s (Ok done) = AllKeptBy es s
 KeysSay i es s (Err r) = FirstFault i es s (number_in r) r.edit
 
-fault-at-once : (i : ℕ) (e : Edit) (es : List Edit) (s : Source) (n j : ℕ) → FaultIn e i (s (key_of e)) n j → FirstFault i (e ∷ es) s n j
+fault-at-once : (i : ℕ) (e : Edit) (es : List Edit) (s : Source) (n j : ℕ) → FaultIn e i (s [] (key_of e)) n j → FirstFault i (e ∷ es) s n j
 fault-at-once i e es s n j h =
     let place : i ≡ i + 0 = omega arith in
-    record { before = []; culprit = e; rest = es; shape = refl; kept = tt; fault = subst (λ (m : ℕ). FaultIn e m (s (key_of e)) n j) place h }
+    record { before = []; culprit = e; rest = es; shape = refl; kept = tt; fault = subst (λ (m : ℕ). FaultIn e m (s [] (key_of e)) n j) place h }
 
 -- a fault after one edit more, whose rule is kept
-fault-after : (i : ℕ) (e : Edit) (es : List Edit) (s : Source) (n j : ℕ) → KeptIn e (s (key_of e)) → FirstFault (suc i) es (made e s) n j → FirstFault i (e ∷ es) s n j
+fault-after : (i : ℕ) (e : Edit) (es : List Edit) (s : Source) (n j : ℕ) → KeptIn e (s [] (key_of e)) → FirstFault (suc i) es (made e s) n j → FirstFault i (e ∷ es) s n j
 fault-after i e es s n j h f =
     let place : suc i + length f.before ≡ i + suc (length f.before) = omega arith in
     record {
@@ -153,15 +152,15 @@ fault-after i e es s n j h f =
       rest = f.rest;
       shape = ap (λ (l : List Edit). e ∷ l) f.shape;
       kept = (h, f.kept);
-      fault = subst (λ (m : ℕ). FaultIn f.culprit m (made_all f.before (made e s) (key_of f.culprit)) n j) place f.fault;
+      fault = subst (λ (m : ℕ). FaultIn f.culprit m (made_all f.before (made e s) [] (key_of f.culprit)) n j) place f.fault;
     }
 
 keys-say : (i : ℕ) (es : List Edit) (s : Source) → KeysSay i es s (keys_from i es s)
 unfolding keys_from
 keys-say i [] s = tt
-keys-say i (e ∷ es) s = go (key_fault i e (s (key_of e))) (fault-says i e (s (key_of e))) (keys_from (suc i) es (made e s)) (keys-say (suc i) es (made e s))
+keys-say i (e ∷ es) s = go (key_fault i e (s [] (key_of e))) (fault-says i e (s [] (key_of e))) (keys_from (suc i) es (made e s)) (keys-say (suc i) es (made e s))
   where
-    go : (a : Answer) → FaultSays i e (s (key_of e)) a → (b : Answer) → KeysSay (suc i) es (made e s) b → KeysSay i (e ∷ es) s (or_fault a b)
+    go : (a : Answer) → FaultSays i e (s [] (key_of e)) a → (b : Answer) → KeysSay (suc i) es (made e s) b → KeysSay i (e ∷ es) s (or_fault a b)
     go (Ok done) h (Ok also) g = (h, g)
     go (Ok done) h (Err r) g = fault-after i e es s (number_in r) r.edit h g
     go (Err r) h b g = fault-at-once i e es s (number_in r) r.edit h
@@ -179,11 +178,11 @@ unfolding keys_from
 kept-before i [] fs s h = let q : i ≡ i + 0 = omega arith in ap (λ (j : ℕ). keys_from j fs s) q
 kept-before i (e ∷ es) fs s h =
     let q : suc i + length es ≡ i + suc (length es) = omega arith in
-    rw (kept-fault i e (s (key_of e)) h.0) (kept-before (suc i) es fs (made e s) h.1 ∙ ap (λ (j : ℕ). keys_from j fs (made_all es (made e s))) q)
+    rw (kept-fault i e (s [] (key_of e)) h.0) (kept-before (suc i) es fs (made e s) h.1 ∙ ap (λ (j : ℕ). keys_from j fs (made_all es (made e s))) q)
 
-fault-first : (i : ℕ) (e : Edit) (rest : List Edit) (s : Source) (n j : ℕ) → FaultIn e i (s (key_of e)) n j → keys_from i (e ∷ rest) s ≡ Err (refusal_at n j)
+fault-first : (i : ℕ) (e : Edit) (rest : List Edit) (s : Source) (n j : ℕ) → FaultIn e i (s [] (key_of e)) n j → keys_from i (e ∷ rest) s ≡ Err (refusal_at n j)
 unfolding keys_from
-fault-first i e rest s n j h = rw (in-fault i e (s (key_of e)) n j h)
+fault-first i e rest s n j h = rw (in-fault i e (s [] (key_of e)) n j h)
 
 pub fault-keys : (es : List Edit) (s : Source) (n j : ℕ) → FirstFault 0 es s n j → keys_from 0 es s ≡ Err (refusal_at n j)
 fault-keys es s n j f =
@@ -199,8 +198,8 @@ unfolding apply_edits
 all_made [] t = refl
 all_made (e ∷ es) t = all_made es (apply_edit e t)
 
-pub made-wholly : (es : List Edit) (t : List Rec) (k : ℕ) → made_all es (wholly t) k ≡ Some (apply_edits es t)
-made-wholly es t k = ap (λ (s : Source). s k) (all_made es t)
+pub made-wholly : (es : List Edit) (t : List Rec) (k : ℕ) → made_all es (wholly t) [] k ≡ Some (apply_edits es t)
+made-wholly es t k = ap (λ (s : Source). s [] k) (all_made es t)
 
 pub first-broken : (es : List Edit) (t : List Rec) (n i : ℕ) (before : List Edit) (culprit : Edit) (rest : List Edit) → es ≡ before ++ culprit ∷ rest → i ≡ length before → AllKept before t →
     Broken culprit (apply_edits before t) n → FirstBroken es t n i
@@ -298,28 +297,62 @@ other-same e j other None (Some b) h = absurd h
 other-same e j other (Some a) None h = absurd h
 other-same e j other (Some a) (Some b) h = find-other e j a other ∙ h ∙ sym (find-other e j b other)
 
--- an edit whose rule is kept in both leaves the same in both, for every key
-pub made-same : (e : Edit) (s t : Source) → KeptIn e (s (key_of e)) → KeptIn e (t (key_of e)) → (j : ℕ) → SameFor j (s j) (t j) → SameFor j (made e s j) (made e t j)
-made-same e s t h g j same = go (eqb (key_of e) j) refl
+-- a key that was looked for, and for which records were read, is found the same whatever was looked for since
+pub record Steady (s : Source) : Type 0 where
+  pub again : (ks : List ℕ) (k : ℕ) (more : List ℕ) (t : List Rec) → s ks k ≡ Some t → s (ks ++ k ∷ more) k ≡ Some t
+
+pub wholly-steady : (t : List Rec) → Steady (wholly t)
+wholly-steady t = record { again = λ ks k more u e. e }
+
+-- an edit leaves it so
+pub made-steady : (e : Edit) (s : Source) → Steady s → Steady (made e s)
+made-steady e s h = record { again = λ ks k more u q. go ks k more u (s (key_of e ∷ ks) k) refl q }
   where
-    go : (b : Bool) → eqb (key_of e) j ≡ b → SameFor j (made e s j) (made e t j)
-    go true c = subst (λ (k : ℕ). SameFor k (made e s k) (made e t k)) (eqb-true (key_of e) j c) (own_same e (s (key_of e)) (t (key_of e)) h g)
-    go false c = other-same e j (eqb-false (key_of e) j c) (s j) (t j) same
+    go : (ks : List ℕ) (k : ℕ) (more : List ℕ) (u : List Rec) (o : Option (List Rec)) → s (key_of e ∷ ks) k ≡ o → made_in e o ≡ Some u → made e s (ks ++ k ∷ more) k ≡ Some u
+    go ks k more u None r q = let z : ◌≡◌ {A = ℕ} 0 1 = cc in absurd (omega arith)
+    go ks k more u (Some t) r q = ap (made_in e) (h.again (key_of e ∷ ks) k more t r) ∙ q
 
-abbrev pub Alike : Source → Source → ℕ → Type 0
-Alike s t k = SameFor k (s k) (t k)
+-- so an edit's rule that is kept stays so
+pub kept-again : (e : Edit) (s : Source) → Steady s → (ks more : List ℕ) → KeptIn e (s ks (key_of e)) → KeptIn e (s (ks ++ key_of e ∷ more) (key_of e))
+kept-again e s h ks more k = go (s ks (key_of e)) refl k
+  where
+    go : (o : Option (List Rec)) → s ks (key_of e) ≡ o → KeptIn e o → KeptIn e (s (ks ++ key_of e ∷ more) (key_of e))
+    go None r q = absurd q
+    go (Some t) r q = subst (KeptIn e) (sym (h.again ks (key_of e) more t r)) q
 
--- what is alike for the keys that are looked for is judged alike
-pub keys-same : (i : ℕ) (es : List Edit) (s t : Source) → All (Alike s t) (keys_read i es s) → keys_from i es s ≡ keys_from i es t
+-- what two sources say of the key k, once the keys ks were looked for
+abbrev pub Alike : Source → Source → List ℕ → ℕ → Type 0
+Alike s t ks k = SameFor k (s ks k) (t ks k)
+
+-- and of keys that are then looked for, one after the other
+abbrev pub AllAlike : Source → Source → List ℕ → List ℕ → Type 0
+AllAlike s t ks [] = Unit {0}
+AllAlike s t ks (j ∷ js) = Alike s t ks j × AllAlike s t (ks ++ j ∷ []) js
+
+module _ (e : Edit) (s t : Source) (steady-s : Steady s) (steady-t : Steady t) (h : KeptIn e (s [] (key_of e))) (g : KeptIn e (t [] (key_of e))) where
+  -- an edit whose rule is kept in both leaves the same in both, for every key
+  pub made-same : (ks : List ℕ) (j : ℕ) → Alike s t (key_of e ∷ ks) j → Alike (made e s) (made e t) ks j
+  made-same ks j same = go (eqb (key_of e) j) refl
+    where
+      go : (b : Bool) → eqb (key_of e) j ≡ b → Alike (made e s) (made e t) ks j
+      go true c = subst (Alike (made e s) (made e t) ks) (eqb-true (key_of e) j c) (own_same e (s (key_of e ∷ ks) (key_of e)) (t (key_of e ∷ ks) (key_of e)) (kept-again e s steady-s [] ks h) (kept-again e t steady-t [] ks g))
+      go false c = other-same e j (eqb-false (key_of e) j c) (s (key_of e ∷ ks) j) (t (key_of e ∷ ks) j) same
+
+  pub made-alike : (ks js : List ℕ) → AllAlike s t (key_of e ∷ ks) js → AllAlike (made e s) (made e t) ks js
+  made-alike ks [] a = tt
+  made-alike ks (j ∷ js) a = (made-same ks j a.0, made-alike (ks ++ j ∷ []) js a.1)
+
+-- what is alike for the keys that are looked for, in the order in which they are, is judged alike
+pub keys-same : (i : ℕ) (es : List Edit) (s t : Source) → Steady s → Steady t → AllAlike s t [] (keys_read i es s) → keys_from i es s ≡ keys_from i es t
 unfolding keys_from keys_read
-keys-same i [] s t h = refl
-keys-same i (e ∷ es) s t h =
-    go (key_fault i e (s (key_of e))) (fault-says i e (s (key_of e))) (key_fault i e (t (key_of e))) (fault-says i e (t (key_of e))) (fault-same i e (s (key_of e)) (t (key_of e)) h.0) h.1
-    (keys-same (suc i) es (made e s) (made e t))
+keys-same i [] s t ss st h = refl
+keys-same i (e ∷ es) s t ss st h =
+    go (key_fault i e (s [] (key_of e))) (fault-says i e (s [] (key_of e))) (key_fault i e (t [] (key_of e))) (fault-says i e (t [] (key_of e))) (fault-same i e (s [] (key_of e)) (t [] (key_of e)) h.0) h.1
+    (keys-same (suc i) es (made e s) (made e t) (made-steady e s ss) (made-steady e t st))
   where
-    go : (a : Answer) → FaultSays i e (s (key_of e)) a → (b : Answer) → FaultSays i e (t (key_of e)) b → a ≡ b → All (Alike s t) (on_if_good a (keys_read (suc i) es (made e s))) →
-        (All (Alike (made e s) (made e t)) (keys_read (suc i) es (made e s)) → keys_from (suc i) es (made e s) ≡ keys_from (suc i) es (made e t)) →
+    go : (a : Answer) → FaultSays i e (s [] (key_of e)) a → (b : Answer) → FaultSays i e (t [] (key_of e)) b → a ≡ b → AllAlike s t (key_of e ∷ []) (on_if_good a (keys_read (suc i) es (made e s))) →
+        (AllAlike (made e s) (made e t) [] (keys_read (suc i) es (made e s)) → keys_from (suc i) es (made e s) ≡ keys_from (suc i) es (made e t)) →
         or_fault a (keys_from (suc i) es (made e s)) ≡ or_fault b (keys_from (suc i) es (made e t))
-    go (Ok done) k (Ok also) l same rest on = on (All-map (Alike s t) (Alike (made e s) (made e t)) (λ j. made-same e s t k l j) (keys_read (suc i) es (made e s)) rest)
+    go (Ok done) k (Ok also) l same rest on = on (made-alike e s t ss st k l [] (keys_read (suc i) es (made e s)) rest)
     go (Ok done) k (Err q) l same rest on = let z : ◌≡◌ {A = ℕ} 0 1 = cc in absurd (omega arith)
     go (Err r) k b l same rest on = ap (λ (x : Answer). or_fault x (keys_from (suc i) es (made e t))) same

@@ -25,21 +25,21 @@ key_rule (delete k) t = pick (holds k t) 0 key_missing
 
 -- ---- where a key is looked for
 
--- the records that are read for each key, or none where they cannot be trusted
+-- the records that are read for each key, once other keys were looked for, in this order; or none where they cannot be trusted: "pages read in one call" are judged together
 abbrev pub Source : Type 0
-Source = ℕ → Option (List Rec)
+Source = List ℕ → ℕ → Option (List Rec)
 
 -- the whole of a table, for every key
 abbrev pub wholly : List Rec → Source
-wholly t k = Some t
+wholly t ks k = Some t
 
 abbrev pub made_in : Edit → Option (List Rec) → Option (List Rec)
 made_in e None = None
 made_in e (Some t) = Some (apply_edit e t)
 
--- "Each edit sees those before it": what is read for each key, with the edit made
+-- "Each edit sees those before it": what is read for each key, with the edit made, whose key was then looked for
 abbrev pub made : Edit → Source → Source
-made e s k = made_in e (s k)
+made e s ks k = made_in e (s (key_of e ∷ ks) k)
 
 abbrev pub made_all : List Edit → Source → Source
 made_all [] s = s
@@ -60,7 +60,7 @@ or_fault (Err r) rest = Err r
 -- "Then edit by edit": the first of the edits es that is refused; the first of them is edit i
 unfoldable pub keys_from : ℕ → List Edit → Source → Answer
 keys_from i [] s = Ok tt
-keys_from i (e ∷ es) s = or_fault (key_fault i e (s (key_of e))) (keys_from (suc i) es (made e s))
+keys_from i (e ∷ es) s = or_fault (key_fault i e (s [] (key_of e))) (keys_from (suc i) es (made e s))
 
 -- the keys that are looked for on the way: those of the edits up to the first that is refused
 abbrev pub on_if_good : Answer → List ℕ → List ℕ
@@ -69,7 +69,7 @@ on_if_good (Err r) ks = []
 
 unfoldable pub keys_read : ℕ → List Edit → Source → List ℕ
 keys_read i [] s = []
-keys_read i (e ∷ es) s = key_of e ∷ on_if_good (key_fault i e (s (key_of e))) (keys_read (suc i) es (made e s))
+keys_read i (e ∷ es) s = key_of e ∷ on_if_good (key_fault i e (s [] (key_of e))) (keys_read (suc i) es (made e s))
 
 -- ---- the same as propositions
 
@@ -93,7 +93,7 @@ KeptIn e (Some t) = Kept e t
 -- each edit's rule is kept by what those before it leave
 abbrev pub AllKeptBy : List Edit → Source → Type 0
 AllKeptBy [] s = Unit {0}
-AllKeptBy (e ∷ es) s = KeptIn e (s (key_of e)) × AllKeptBy es (made e s)
+AllKeptBy (e ∷ es) s = KeptIn e (s [] (key_of e)) × AllKeptBy es (made e s)
 
 -- edit i is refused by what is read for its key, with this number and edit number
 pub data FaultIn (e : Edit) (i : ℕ) : Option (List Rec) → ℕ → ℕ → Type 0 where
@@ -107,7 +107,7 @@ pub record FirstFault (i : ℕ) (es : List Edit) (s : Source) (number edit : ℕ
   pub rest : List Edit
   pub shape : es ≡ before ++ culprit ∷ rest
   pub kept : AllKeptBy before s
-  pub fault : FaultIn culprit (i + length before) (made_all before s (key_of culprit)) number edit
+  pub fault : FaultIn culprit (i + length before) (made_all before s [] (key_of culprit)) number edit
 
 -- the same by the ledger's table
 abbrev pub AllKept : List Edit → List Rec → Type 0

@@ -10,7 +10,7 @@ use lib.ListN.{length, get_or}
 use lib.Dec.{eqb}
 use borrow.Author.Tests.{eqb-true, eq-eqb, not-true}
 use Rattle.codec.specs.Lists.{All}
-use Rattle.codec.proofs.Tests.{both, first, second}
+use Rattle.codec.proofs.Tests.{first, second}
 use Rattle.image.specs.Image.{among, distinct}
 
 pub among_first : (q : ℕ) (qs : List ℕ) → among q (q ∷ qs) ≡ true
@@ -52,16 +52,6 @@ at-among [] i h = absurd (not-suc-le-zero h)
 at-among (p ∷ ps) zero h = among_first p ps
 at-among (p ∷ ps) (suc i) h = among-rest (get_or ps i 0) p ps (at-among ps i (omega arith))
 
-pub among-at : (p : ℕ) (ps : List ℕ) → among p ps ≡ true → (i : ℕ) × (i < length ps) × (get_or ps i 0 ≡ p)
-unfolding among
-among-at p [] h = absurd (false≢true h)
-among-at p (q ∷ ps) h = go (eqb p q) refl h (among-at p ps)
-  where
-    go : (t : Bool) → eqb p q ≡ t → (t || among p ps) ≡ true → (among p ps ≡ true → (i : ℕ) × (i < length ps) × (get_or ps i 0 ≡ p)) →
-        (i : ℕ) × (i < length (q ∷ ps)) × (get_or (q ∷ ps) i 0 ≡ p)
-    go true e f g = (0, omega arith, sym (eqb-true p q e))
-    go false e f g = let r = g f in (suc r.0, omega (arith, r.1), r.2)
-
 -- the numbers at any two places differ
 abbrev pub Distinct : List ℕ → Type 0
 Distinct ps = (i j : ℕ) → i < length ps → j < length ps → get_or ps i 0 ≡ get_or ps j 0 → i ≡ j
@@ -80,13 +70,3 @@ distinct-true (p ∷ ps) h i j hi hj e = go i j hi hj e (distinct-true ps (secon
     go zero (suc j) hi hj e g = absurd (new j (omega arith) e)
     go (suc i) zero hi hj e g = absurd (new i (omega arith) (sym e))
     go (suc i) (suc j) hi hj e g = ap suc (g i j (omega arith) (omega arith) e)
-
-pub true-distinct : (ps : List ℕ) → Distinct ps → distinct ps ≡ true
-unfolding distinct
-true-distinct [] h = refl
-true-distinct (p ∷ ps) h =
-    both (go (among p ps) refl) (true-distinct ps (λ i j hi hj e. omega (arith, h (suc i) (suc j) (omega arith) (omega arith) e)))
-  where
-    go : (t : Bool) → among p ps ≡ t → not t ≡ true
-    go false e = refl
-    go true e = let r = among-at p ps e in absurd (omega (arith, h 0 (suc r.0) (omega arith) (omega (arith, r.1)) (sym r.2)))

@@ -1,39 +1,37 @@
--- The descent comes to the leaf that the key belongs to, with that leaf's range of keys, and the end of the range belongs to the leaf after. That leaf alone answers a lookup.
+-- The descent comes to the leaf that the key belongs to, with that leaf's range of keys. In a sound image that leaf alone answers a lookup.
 -- Assumes nothing.
 use Rattle.std.specs.Prelude.{None, Ok, Some}
 use Prim.Native.Nat.{ℕ, zero, suc, ◌+◌, ◌≤◌, ◌<◌}
 use mathlib.Core.Path.{◌≡◌, refl, sym, ap, ◌∙◌, subst}
 use mathlib.Core.Logic.{◌⊎◌, inl, inr}
-use mathlib.Core.Bool.{Bool, true, false, not}
-use mathlib.Core.List.{List, [], ◌∷◌, ◌++◌, map, append_assoc}
+use mathlib.Core.Bool.{Bool, true, false}
+use mathlib.Core.List.{List, [], ◌∷◌, ◌++◌, map}
 use native.Mathlib.Omega.{arith}
-use lib.ListN.{length, get_or, take, drop, length-map, get_or-map}
+use lib.ListN.{length, get_or, take, drop}
 use lib.Seq.{split_at}
-use lib.Dec.{leb, eqb}
+use lib.Dec.{leb}
 use borrow.Author.Tests.{le-leb, lt-leb}
 use Rattle.codec.specs.Lists.{pick, All}
-use Rattle.codec.proofs.Tests.{second, All-map}
-use Rattle.page.specs.Layout.{top_key, Rec, rec_of}
+use Rattle.codec.proofs.Tests.{All-map}
+use Rattle.page.specs.Layout.{Rec, rec_of}
 use Rattle.page.specs.Page.{Entry, records}
 use Rattle.page.specs.PageFormat.{format1}
 use Rattle.page.specs.Operations.{page_of}
-use Rattle.page.proofs.Listed.{get_or-inside}
-use Rattle.image.specs.PageZero.{page_count, is_page, root_of}
-use Rattle.image.specs.Image.{child_of, children, among, distinct, joined, gathered, height_of, first_key, start_of, next_sep, places, top_place, leaf_at, sound}
-use Rattle.image.specs.Facts.{Rising, Index, Leaves, Spans, Under}
+use Rattle.image.specs.PageZero.{root_of}
+use Rattle.image.specs.Image.{child_of, children, names_of, among, joined, gathered, height_of, first_key, start_of, places, top_place, sound}
+use Rattle.image.specs.Facts.{Rising, Spans, Under}
 use Rattle.image.specs.Table.{table_in, table, page_entries, listing, find, found_in}
 use Rattle.image.specs.Route.{last_from, route}
-use Rattle.image.specs.Descent.{down, descend, leaf_for, leaf_sound}
-use Rattle.image.specs.Says.{Belongs, GoodLeaf}
+use Rattle.image.specs.Descent.{down, descend, leaf_for}
+use Rattle.image.specs.Says.{Belongs, own_place}
 use Rattle.image.specs.declared.Place.{Place}
-use Rattle.image.proofs.General.{map_same, All-any, All-unmap, All-middle}
-use Rattle.image.proofs.Apart.{distinct-true}
+use Rattle.image.proofs.General.{map-append, map_same, All-any}
+use Rattle.image.proofs.Apart.{among_first, among-right}
 use Rattle.image.proofs.Rising.{From, rising_le, rising-from, rising-split}
-use Rattle.image.proofs.Ranges.{spans-cut, joined-append, joined-map, joined_same}
+use Rattle.image.proofs.Ranges.{first-least, first-most, spans-cut, joined-append, joined-map, joined_same}
 use Rattle.image.proofs.Alike.{under-rising}
-use Rattle.image.proofs.OneHeight.{leaf-one}
-use Rattle.image.proofs.Soundness.{Tree, index-rising, leaf-facts, facts-leaf, sound-tree_in}
-use Rattle.image.proofs.Order.{recs-page, gathered-records, leaves-from}
+use Rattle.image.proofs.Soundness.{sound-tree_in}
+use Rattle.image.proofs.Order.{recs-page, gathered-records}
 use Rattle.image.proofs.Routing.{routed, seek, find-seek, found-seek, pages-before, pages-after, seek-between}
 
 -- ---- the slot
@@ -83,37 +81,9 @@ down_is img k p b =
     ∙ ap (λ (l : List Rec). get_or (places p.from l p.below) (length b.before) p) b.shape
     ∙ place_at p.from b.before b.own b.later p.below p
 
-pub leaf-is : (img : List ℕ) (root k : ℕ) (b : Belongs k (children img root)) → leaf_for img root k ≡ place_in 0 b.before b.own b.later (suc top_key)
-unfolding top_place
-leaf-is img root k b = leaf-one img root k ∙ down_is img k (top_place root) b
-
--- keys of one slot have one leaf
-same-slot : (img : List ℕ) (root j k : ℕ) → route j (children img root) ≡ route k (children img root) → leaf_for img root j ≡ leaf_for img root k
-unfolding down top_place
-same-slot img root j k f = leaf-one img root j ∙ ap (λ (i : ℕ). get_or (places 0 (children img root) (suc top_key)) i (top_place root)) f ∙ sym (leaf-one img root k)
-
--- ---- the leaf, judged
-
--- where the whole tree is sound, each leaf is
-pub tree-good : (img : List ℕ) (root : ℕ) → Tree img root → (before : List Rec) (c : Rec) (later : List Rec) → children img root ≡ before ++ c ∷ later → GoodLeaf img before c later
-tree-good img root t before c later shape =
-    let leaves : Leaves img (eqb (length (before ++ c ∷ later)) 1) 0 (before ++ c ∷ later) = subst (λ (l : List Rec). Leaves img (eqb (length l) 1) 0 l) shape t.leaves in
-    (leaves-from img (eqb (length (before ++ c ∷ later)) 1) 0 before c later leaves).0
-
 -- what is left of separators that rise, past those before a place
 pub later-rising : (lo : ℕ) (before : List Rec) (c : Rec) (later : List Rec) (hi : ℕ) → Rising lo (before ++ c ∷ later) hi → Rising (suc c.key) later hi
 later-rising lo before c later hi s = (rising-split lo before (c ∷ later) hi s).1.1
-
-start-below : (lo : ℕ) (before : List Rec) (c : Rec) (later : List Rec) (hi : ℕ) → Rising lo (before ++ c ∷ later) hi → start_of before lo c.key ≤ first_key later hi
-start-below lo before c later hi s = go before s (later-rising lo before c later hi s)
-  where
-    next : (l : List Rec) → Rising (suc c.key) l hi → c.key ≤ first_key l hi
-    next [] h = omega (arith, h)
-    next (d ∷ l) h = omega (arith, h.0)
-
-    go : (l : List Rec) → Rising lo (l ++ c ∷ later) hi → Rising (suc c.key) later hi → start_of l lo c.key ≤ first_key later hi
-    go [] h r = omega (arith, h.0, next later r)
-    go (x ∷ l) h r = next later r
 
 -- every number belongs to one of some records
 abbrev pub belongs-to : (k lo : ℕ) (cs : List Rec) (hi : ℕ) → Rising lo cs hi → 1 ≤ length cs → Belongs k cs
@@ -138,92 +108,42 @@ belongs-to k lo cs hi seps filled =
     high [] lo h q = tt
     high (d ∷ l) lo h q = (q, All-map (λ (c : Rec). suc d.key ≤ c.key) (λ (c : Rec). k < c.key) (λ c le. omega arith) l (rising-from (suc d.key) l hi h.1))
 
-module _ (img : List ℕ) (root : ℕ) (index : Index img root) where
-  abbrev cs : List Rec
-  cs = children img root
+-- a number in the range of a page that is named belongs to it
+abbrev pub belongs-in : (k lo : ℕ) (cs before : List Rec) (c : Rec) (later : List Rec) (hi : ℕ) → Rising lo cs hi → cs ≡ before ++ c ∷ later → start_of before lo c.key ≤ k → k < first_key later hi → Belongs k cs
+belongs-in k lo cs before c later hi seps shape low high =
+    record { before = before; own = c; later = later; shape = shape; low = lows before low; high = highs later (later-rising lo before c later hi (subst (λ (l : List Rec). Rising lo l hi) shape seps)) high }
+  where
+    lows : (l : List Rec) → start_of l lo c.key ≤ k → (l ≡ []) ⊎ (c.key ≤ k)
+    lows [] q = inl refl
+    lows (x ∷ l) q = inr q
 
-  pub seps : Rising 0 (children img root) (suc top_key)
-  seps = index-rising img root index
+    highs : (l : List Rec) → Rising (suc c.key) l hi → k < first_key l hi → All (λ (d : Rec). k < d.key) l
+    highs [] r q = tt
+    highs (d ∷ l) r q = (q, All-map (λ (e : Rec). suc d.key ≤ e.key) (λ (e : Rec). k < e.key) (λ e t. omega arith) l (rising-from (suc d.key) l hi r.1))
 
-  -- to a leaf
-  abbrev pub belongs : (k : ℕ) → Belongs k (children img root)
-  belongs k = belongs-to k 0 cs (suc top_key) seps index.some
+-- the page that it belongs to is named
+pub own-among : (img : List ℕ) (k q : ℕ) (b : Belongs k (children img q)) → among (child_of b.own) (names_of img q) ≡ true
+own-among img k q b =
+    ap (λ (l : List Rec). among (child_of b.own) (map child_of l)) b.shape
+    ∙ ap (among (child_of b.own)) (map-append child_of b.before (b.own ∷ b.later))
+    ∙ among-right (child_of b.own) (map child_of b.before) (child_of b.own ∷ map child_of b.later) (among_first (child_of b.own) (map child_of b.later))
 
-  -- the page of a leaf tells which leaf it is: "its pages are distinct"
-  pages-apart : distinct (map child_of (children img root)) ≡ true
-  unfolding distinct
-  pages-apart = second (not (among root (map child_of cs))) (distinct (map child_of cs)) index.apart
-
-  page-inside : (k : ℕ) → route k (children img root) < length (map child_of (children img root))
-  page-inside k = omega (arith, (routed k 0 cs (suc top_key) (rec_of 0 []) seps index.some).inside, length-map cs child_of)
-
-  page-at : (k : ℕ) → get_or (map child_of (children img root)) (route k (children img root)) 0 ≡ (leaf_for img root k).page
-  page-at k =
-      get_or-inside (map child_of cs) (route k cs) 0 (child_of (rec_of 0 [])) (page-inside k)
-      ∙ get_or-map child_of cs (route k cs) (rec_of 0 [])
-      ∙ sym (ap (λ (p : Place). p.page) (leaf-is img root k (belongs k)))
-
-  pub page-tells : (j k : ℕ) → (leaf_for img root j).page ≡ (leaf_for img root k).page → leaf_for img root j ≡ leaf_for img root k
-  page-tells j k e =
-      same-slot img root j k (distinct-true (map child_of cs) pages-apart (route j cs) (route k cs) (page-inside j) (page-inside k) (page-at j ∙ e ∙ sym (page-at k)))
-
-  module _ (k : ℕ) (b : Belongs k (children img root)) where
-    pub around : Rising 0 (b.before ++ b.own ∷ b.later) (suc top_key)
-    around = subst (λ (l : List Rec). Rising 0 l (suc top_key)) b.shape seps
-
-    only-is : eqb (length (children img root)) 1 ≡ eqb (length (b.before ++ b.own ∷ b.later)) 1
-    only-is = ap (λ (l : List Rec). eqb (length l) 1) b.shape
-
-    pub own-page : is_page (page_count img) (child_of b.own) ≡ true
-    own-page =
-        let P : Rec → Type 0 = λ c. is_page (page_count img) (child_of c) ≡ true in
-        All-middle P b.before b.own b.later (subst (All P) b.shape (All-unmap child_of (λ (p : ℕ). is_page (page_count img) p ≡ true) (children img root) index.inside))
-
-    -- "the pages read break soundness by themselves"
-    pub leaf-good : leaf_sound img root (leaf_for img root k) ≡ true → GoodLeaf img b.before b.own b.later
-    unfolding leaf_sound leaf_at next_sep
-    leaf-good h =
-        leaf-facts (eqb (length (b.before ++ b.own ∷ b.later)) 1) (start_of b.before 0 b.own.key) (next_sep b.later) (child_of b.own) (page_of img (child_of b.own))
-        (start-below 0 b.before b.own b.later (suc top_key) around)
-        (rw (← only-is) (ap (leaf_sound img root) (sym (leaf-is img root k b)) ∙ h))
-
-    pub good-leaf : GoodLeaf img b.before b.own b.later → leaf_sound img root (leaf_for img root k) ≡ true
-    unfolding leaf_sound leaf_at next_sep
-    good-leaf g =
-        ap (leaf_sound img root) (leaf-is img root k b)
-        ∙ rw only-is (facts-leaf (eqb (length (b.before ++ b.own ∷ b.later)) 1) (start_of b.before 0 b.own.key) (next_sep b.later) (child_of b.own) (page_of img (child_of b.own)) g)
-
-    -- ---- the leaf after
-
-    module _ (d : Rec) (ds : List Rec) (e : b.later ≡ d ∷ ds) where
-      pub rest : Rising (suc b.own.key) (d ∷ ds) (suc top_key)
-      rest = subst (λ (l : List Rec). Rising (suc b.own.key) l (suc top_key)) e (later-rising 0 b.before b.own b.later (suc top_key) around)
-
-      abbrev pub belongs-after : Belongs d.key (children img root)
-      belongs-after =
-          record {
-            before = b.before ++ b.own ∷ [];
-            own = d;
-            later = ds;
-            shape = b.shape ∙ ap (λ (l : List Rec). b.before ++ b.own ∷ l) e ∙ sym (append_assoc b.before (b.own ∷ []) (d ∷ ds));
-            low = inr (omega arith);
-            high = rising-from (suc d.key) ds (suc top_key) rest.1;
-          }
-
-      -- the end of the leaf's range, where the leaf after it starts
-      pub below-after : (leaf_for img root k).below ≡ d.key
-      below-after = ap (λ (p : Place). p.below) (leaf-is img root k b) ∙ ap (λ (l : List Rec). first_key l (suc top_key)) e
-
-      pub below_key : d.key ≤ top_key
-      below_key = omega (arith, rising_le (suc d.key) ds (suc top_key) rest.1)
-
-    pub below_none : b.later ≡ [] → (leaf_for img root k).below ≡ suc top_key
-    below_none e = ap (λ (p : Place). p.below) (leaf-is img root k b) ∙ ap (λ (l : List Rec). first_key l (suc top_key)) e
+-- that range holds a number, and lies in the range of them all
+pub range-in : (lo : ℕ) (before : List Rec) (c : Rec) (later : List Rec) (hi : ℕ) → Rising lo (before ++ c ∷ later) hi →
+    (lo ≤ start_of before lo c.key) × (start_of before lo c.key < first_key later hi) × (first_key later hi ≤ hi)
+range-in lo before c later hi s =
+    let r = later-rising lo before c later hi s in
+    go before s (first-least (suc c.key) later hi r) (first-most (suc c.key) later hi r)
+  where
+    go : (l : List Rec) → Rising lo (l ++ c ∷ later) hi → suc c.key ≤ first_key later hi → first_key later hi ≤ hi →
+        (lo ≤ start_of l lo c.key) × (start_of l lo c.key < first_key later hi) × (first_key later hi ≤ hi)
+    go [] s a b = (omega arith, omega (arith, s.0), b)
+    go (x ∷ l) s a b = (let t = rising_le lo (x ∷ l) c.key (rising-split lo (x ∷ l) (c ∷ later) hi s).0 in omega (arith, t), omega arith, b)
 
 -- ---- at any height: the leaf that k belongs to alone has it
 
 -- where its own range starts, and where the next page's does
-own-low : (k lo : ℕ) (cs : List Rec) (b : Belongs k cs) → lo ≤ k → start_of b.before lo b.own.key ≤ k
+pub own-low : (k lo : ℕ) (cs : List Rec) (b : Belongs k cs) → lo ≤ k → start_of b.before lo b.own.key ≤ k
 own-low k lo cs b h = go b.before b.low
   where
     go : (l : List Rec) → (l ≡ []) ⊎ (b.own.key ≤ k) → start_of l lo b.own.key ≤ k
@@ -267,6 +187,64 @@ module _ {A B : Type 0} (rec : A → Rec) (answer : A → B) (nothing : B) (img 
       (rw (joined-records h post) (pages-after P (λ x. table_in format1 img h x) rises p.from pre c post p.below seps spans k (later-high k post b.high)))
       ∙ seek-leaf h next (spans-cut P p.from pre (c ∷ post) p.below spans).1.0 start
       ∙ ap (λ (q : Place). asked (leaf (descend img k h q).page)) (sym (down_is img k p b))
+
+-- ---- all numbers in a leaf's range belong to it
+
+module _ (img : List ℕ) (k : ℕ) where
+  module _ (h : ℕ) (p : Place) (u : Under format1 img (suc h) p.from p.below p.page) where
+    here : Belongs k (children img p.page)
+    unfolding children
+    here = belongs-to k p.from (children img p.page) p.below u.0.rising u.1.0
+
+    named-seps : Rising p.from (children img p.page) p.below
+    unfolding children
+    named-seps = u.0.rising
+
+    around : Rising p.from (here.before ++ here.own ∷ here.later) p.below
+    around = subst (λ (l : List Rec). Rising p.from l p.below) here.shape named-seps
+
+    next-under : Under format1 img h (start_of here.before p.from here.own.key) (first_key here.later p.below) (child_of here.own)
+    unfolding children
+    next-under =
+        let P : ℕ → ℕ → ℕ → Type 0 = λ y z x. Under format1 img h y z x in
+        (spans-cut P p.from here.before (here.own ∷ here.later) p.below (subst (λ (l : List Rec). Spans P p.from l p.below) here.shape u.1.1)).1.0
+
+  -- a leaf's range lies in that of each page on its way
+  pub descend-in : (h : ℕ) (p : Place) → Under format1 img h p.from p.below p.page → (p.from ≤ (descend img k h p).from) × ((descend img k h p).below ≤ p.below)
+  unfolding descend
+  descend-in zero p u = (omega arith, omega arith)
+  descend-in (suc h) p u =
+      let b = here h p u in
+      let q = own_place p b in
+      let r = range-in p.from b.before b.own b.later p.below (around h p u) in
+      let d = descend-in h q (next-under h p u) in
+      let e : descend img k h (down img k p) ≡ descend img k h q = ap (descend img k h) (down_is img k p b) in
+      let f : (descend img k h (down img k p)).from ≡ (descend img k h q).from = ap (λ (x : Place). x.from) e in
+      let g : (descend img k h (down img k p)).below ≡ (descend img k h q).below = ap (λ (x : Place). x.below) e in
+      (omega (arith, r, d, f), omega (arith, r, d, g))
+
+  pub descend-low : (h : ℕ) (p : Place) → Under format1 img h p.from p.below p.page → p.from ≤ k → (descend img k h p).from ≤ k
+  unfolding descend
+  descend-low zero p u low = low
+  descend-low (suc h) p u low =
+      let b = here h p u in
+      let q = own_place p b in
+      let d = descend-low h q (next-under h p u) (own-low k p.from (children img p.page) b low) in
+      let f : (descend img k h (down img k p)).from ≡ (descend img k h q).from = ap (λ (x : Place). (descend img k h x).from) (down_is img k p b) in
+      omega (arith, d, f)
+
+  pub descend-same : (j h : ℕ) (p : Place) → Under format1 img h p.from p.below p.page → (descend img k h p).from ≤ j → j < (descend img k h p).below → descend img j h p ≡ descend img k h p
+  unfolding descend
+  descend-same j zero p u low high = refl
+  descend-same j (suc h) p u low high =
+      let b = here h p u in
+      let q = own_place p b in
+      let d = descend-in h q (next-under h p u) in
+      let e = down_is img k p b in
+      let f : (descend img k h (down img k p)).from ≡ (descend img k h q).from = ap (λ (x : Place). (descend img k h x).from) e in
+      let g : (descend img k h (down img k p)).below ≡ (descend img k h q).below = ap (λ (x : Place). (descend img k h x).below) e in
+      let c = belongs-in j p.from (children img p.page) b.before b.own b.later p.below (named-seps h p u) b.shape (omega (arith, low, d, f)) (omega (arith, high, d, g)) in
+      ap (descend img j h) (down_is img j p c) ∙ descend-same j h q (next-under h p u) (omega (arith, low, f)) (omega (arith, high, g)) ∙ ap (descend img k h) (sym e)
 
 -- in a sound image
 module _ (img : List ℕ) (s : sound img ≡ true) (k : ℕ) where

@@ -1,7 +1,7 @@
--- One descent: the routed slot by a search of the index, the place that it leads to, and what the code knows of the leaf there.
+-- One step down: the routed slot by a search of the page, and the place that it leads to.
 -- Assumes nothing.
-use Rattle.std.specs.Prelude.{Err, None, Ok, Result}
-use Prim.Native.Nat.{ℕ, zero, suc, ◌+◌, ◌-◌, ◌*◌, ◌≤◌, ◌<◌}
+use Rattle.std.specs.Prelude.{Err, Ok, Result}
+use Prim.Native.Nat.{ℕ, zero, suc, ◌+◌, ◌-◌, ◌≤◌, ◌<◌}
 use mathlib.Core.Path.{◌≡◌, refl, sym, ap, ◌∙◌}
 use mathlib.Core.Bool.{Bool, true, false}
 use mathlib.Core.List.{List, [], ◌∷◌}
@@ -12,27 +12,19 @@ use lib.ListN.{length, get_or, drop}
 use lib.Dec.{leb, ltb, eqb}
 use borrow.Author.Tests.{ltb-true, ltb-false, eqb-true, eqb-false, le-leb, lt-leb}
 use Rattle.codec.specs.Lists.{pick}
-use Rattle.codec.proofs.Tests.{everything, All-map}
-use Rattle.page.specs.Layout.{page_size, leaf_kind, top_key, Rec, rec_of}
+use Rattle.codec.proofs.Tests.{All-map}
+use Rattle.page.specs.Layout.{top_key, Rec, rec_of}
 use Rattle.page.specs.Page.{records, laid_out, page_ok, keys_rise, RecOk}
-use Rattle.page.specs.Operations.{page_of}
 use Rattle.page.specs.Search.{searched}
 use Rattle.page.proofs.Facts.{records-ok}
-use Rattle.image.specs.PageZero.{page_count, is_page}
-use Rattle.image.specs.Image.{child_of, first_key, places, bound_ok, leaf_at}
-use Rattle.image.specs.Facts.{Rising, Index}
-use Rattle.image.specs.Table.{above}
+use Rattle.image.specs.Image.{child_of, first_key, places}
+use Rattle.image.specs.Facts.{Rising}
 use Rattle.image.specs.Route.{last_from, route}
-use Rattle.image.specs.Descent.{leaf_for, leaf_sound}
-use Rattle.image.specs.Calls.{index_call}
 use Rattle.image.specs.declared.Place.{Place}
-use Rattle.image.proofs.Zero.{size-true, ready-facts}
-use Rattle.image.proofs.Rising.{From, rising-from, rising-below, rise-rising}
+use Rattle.image.proofs.Rising.{From, rising-from, rise-rising}
 use Rattle.image.proofs.Soundness.{page-rising}
-use Rattle.image.proofs.Routing.{routed, above-none}
-use Rattle.image.proofs.Belonging.{above-all, leaf-is, belongs, own-page}
-use Rattle.image.proofs.Values.{page-fits}
-use Rattle.image.proofs.Read.{call-opened}
+use Rattle.image.proofs.Routing.{routed}
+use Rattle.image.proofs.Belonging.{above-all}
 
 -- ---- the routed slot
 
@@ -102,36 +94,3 @@ place-later lo cs hi z d (suc i) some h =
 -- the slot that a key belongs to is one of a page that lists a record
 pub route-inside : (kind own : ℕ) (p : List ℕ) → page_ok kind own p ≡ true → 1 ≤ length (records p) → (k : ℕ) → route k (records p) < length (records p)
 route-inside kind own p ok some k = (routed k 0 (records p) (suc top_key) (rec_of 0 []) (page-rising kind own p ok) some).inside
-
--- ---- the leaf that is read
-
-module _ (img : List ℕ) (root : ℕ) (e : index_call img ≡ Ok root) where
-  pub index : Index img root
-  index = (call-opened img root e).index
-
-  pub root-fits : page_size * root + page_size ≤ length img
-  root-fits = page-fits img root (ready-facts img root (call-opened img root e).zero).page
-
-  leaf-page : (k : ℕ) → is_page (page_count img) (leaf_for img root k).page ≡ true
-  leaf-page k =
-      let b = belongs img root index k in
-      ap (λ (p : Place). is_page (page_count img) p.page) (leaf-is img root k b) ∙ own-page img root index k b
-
-  pub leaf-fits : (k : ℕ) (p : Place) → p ≡ leaf_for img root k → page_size * p.page + page_size ≤ length img
-  leaf-fits k p f = page-fits img p.page (ap (λ (q : Place). is_page (page_count img) q.page) f ∙ leaf-page k)
-
-  -- "An image has N pages, 8 to 64"
-  pub leaf-few : (k : ℕ) (p : Place) → p ≡ leaf_for img root k → p.page < 64
-  leaf-few k p f = omega (arith, leaf-fits k p f, (size-true (length img) (call-opened img root e).size).high)
-
--- a leaf that is sound is a sound page
-pub sound-page : (img : List ℕ) (root : ℕ) (p : Place) → leaf_sound img root p ≡ true → page_ok leaf_kind p.page (page_of img p.page) ≡ true
-unfolding leaf_sound leaf_at bound_ok
-sound-page img root p h = (everything _ h).0
-
--- "Keys are .. to 999,999,999,999"
-pub above-largest : (kind own : ℕ) (p : List ℕ) → page_ok kind own p ≡ true → (k : ℕ) → top_key ≤ k → above k (records p) ≡ Ok None
-above-largest kind own p ok k q =
-    above-none k (records p)
-    (All-map (λ (r : Rec). r.key < suc top_key) (λ (r : Rec). r.key < suc k) (λ r b. omega arith) (records p)
-    (rising-below 0 (records p) (suc top_key) (page-rising kind own p ok)))

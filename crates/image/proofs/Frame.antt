@@ -30,7 +30,7 @@ use Rattle.image.specs.Live.{covered, live_in, live}
 use Rattle.image.proofs.Apart.{All-among}
 use Rattle.image.proofs.Zero.{size-true, is_page-true}
 use Rattle.image.proofs.Alike.{page-first, Agree as AgreeIn, Alike, alike, height-alike, tree-alike, under-pages}
-use Rattle.image.proofs.Soundness.{Tree, tree-tree_in, sound-tree_in, sound-facts, tree_in-sound}
+use Rattle.image.proofs.Soundness.{sound-tree_in, sound-facts, tree_in-sound}
 use Rattle.image.proofs.Values.{page-fits}
 
 -- ---- parts and pages that agree
@@ -77,9 +77,6 @@ tree_in-reached img root t q k =
     let ok : ℕ → Type 0 = λ x. (kind : ℕ) × (page_ok kind x (page_of img x) ≡ true) in
     let o = All-among ok ps (under-pages format1 img ok (λ n lo hi x f. (suc n, f.page)) h 0 (suc top_key) root t.under) q k in
     record { page = All-among (λ (x : ℕ). is_page (page_count img) x ≡ true) ps t.inside q k; kind = o.0; ok = o.1 }
-
-pub tree-reached : (img : List ℕ) (root : ℕ) → is_page (page_count img) root ≡ true → Tree img root → (q : ℕ) → among q (reached img root) ≡ true → Reached img q
-tree-reached img root p t = tree_in-reached img root (tree-tree_in img root p t)
 
 -- ---- the tree under a root, where the reached pages say the same
 

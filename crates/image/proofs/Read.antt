@@ -1,40 +1,34 @@
--- What the definitions of the reading calls come to, by whether page 0 and the index open, and whether the leaf that is read is sound.
+-- What the definitions of the reading calls come to, by whether page 0 and the root open, and whether the pages that are read are sound.
 -- Assumes nothing.
 use Rattle.std.specs.Prelude.{Err, None, Ok, Option, Result, Some}
 use Prim.Native.Nat.{ℕ}
 use mathlib.Core.Path.{◌≡◌, refl, sym, ap, ◌∙◌, subst}
-use mathlib.Core.Logic.{◌⊎◌, inl, inr}
+use mathlib.Core.Logic.{◌⊎◌}
 use mathlib.Core.Bool.{Bool, true, false, true≢false}
-use mathlib.Core.List.{List, [], ◌∷◌, ◌++◌}
+use mathlib.Core.List.{List}
 use native.Mathlib.Omega.{arith}
 use lib.ListN.{length}
-use lib.Dec.{leb}
-use borrow.Author.Tests.{le-leb}
 use Rattle.image.specs.declared.Part.{Part}
-use Rattle.codec.specs.Lists.{pick}
+use Rattle.codec.specs.Lists.{pick, All}
 use Rattle.codec.proofs.Tests.{not-true}
 use Rattle.device.specs.Calls.{is_image_size, refusal}
 use Rattle.device.specs.declared.Refusal.{Refusal}
-use Rattle.page.specs.Layout.{top_key, Rec}
-use Rattle.page.specs.Page.{records}
-use Rattle.page.specs.Operations.{page_of}
 use Rattle.image.specs.PageZero.{page_count, is_page, page_zero}
-use Rattle.image.specs.Image.{child_of, children, index_ok}
-use Rattle.image.specs.Facts.{Index}
-use Rattle.image.specs.Table.{page_entries, found_in, above}
-use Rattle.image.specs.Descent.{leaf_for, leaf_sound, records_for}
-use Rattle.image.specs.Calls.{root_from, root_call, index_from, index_call, key_ok, leaf_lookup, ranged, leaf_next, next_after}
-use Rattle.image.specs.Says.{Opened, NotOpened, bad-size, wrong-zero, mark-waits, bad-index, Belongs, GoodLeaf, ReadSound, ReadUnsound}
+use Rattle.image.specs.Image.{index_ok}
+use Rattle.image.specs.Table.{page_entries, found_in}
+use Rattle.image.specs.Descent.{Way, leaf_read, root_read, nodes_after, records_for}
+use Rattle.image.specs.Calls.{root_from, root_call, index_from, index_call, key_ok, by_way, leaf_lookup, ranged}
+use Rattle.image.specs.Says.{Opened, NotOpened, bad-size, wrong-zero, mark-waits, bad-index, ReadSound, ReadUnsound, read_records}
+use Rattle.image.specs.Marks.{Judged}
 use Rattle.image.specs.declared.PageZero.{PageZero}
 use Rattle.image.specs.declared.PageZero.TheVariants.{Wrong, Waiting, Ready}
-use Rattle.image.specs.declared.Place.{Place}
 use Rattle.image.proofs.Zero.{ready-facts}
 use Rattle.image.proofs.Soundness.{index-facts, facts-index}
-use Rattle.image.proofs.Belonging.{leaf-is, belongs, leaf-good, good-leaf, belongs-after, below-after, below_key, below_none}
+use Rattle.image.proofs.Ways.{root-judged, judged-after, read-sound, read-unsound, read-or-not}
 
--- ---- page 0 and the index
+-- ---- page 0 and the root
 
--- what is said of page 0 and the index
+-- what is said of page 0 and the root
 abbrev pub OpeningSays : List ℕ → Result ℕ Refusal → Type 0
 OpeningSays img (Ok root) = Opened img root
 OpeningSays img (Err r) = NotOpened img r
@@ -66,90 +60,47 @@ module _ (img : List ℕ) where
   not-opened-call _ (mark-waits s k root z) = rw (s, z)
   not-opened-call _ (bad-index s root z i) = rw (s, z, not-true (index_ok img root) (λ t. i (index-facts img root t)))
 
--- ---- the leaf, sound or not
+-- ---- the pages judged first
 
--- each leaf that is read is one or the other
-pub good-or-not : (img : List ℕ) (root k : ℕ) → Index img root → (b : Belongs k (children img root)) →
-    GoodLeaf img b.before b.own b.later ⊎ (GoodLeaf img b.before b.own b.later → ⊥)
-good-or-not img root k index b = go (leaf_sound img root (leaf_for img root k)) refl
-  where
-    go : (t : Bool) → leaf_sound img root (leaf_for img root k) ≡ t → GoodLeaf img b.before b.own b.later ⊎ (GoodLeaf img b.before b.own b.later → ⊥)
-    go true e = inl (leaf-good img root index k b e)
-    go false e = inr (λ g. true≢false (sym (good-leaf img root index k b g) ∙ e))
+-- the root, once it is open
+pub opened-judged : (img : List ℕ) (root : ℕ) → Opened img root → All (Judged img) (root_read root)
+opened-judged img root o = root-judged img root o.index
 
-pub read-or-not : (img : List ℕ) (k root : ℕ) → Opened img root → ReadSound img k root ⊎ ReadUnsound img k root
-read-or-not img k root o = go (good-or-not img root k o.index b)
-  where
-    b : Belongs k (children img root)
-    b = belongs img root o.index k
+-- and those of the keys that were looked for before
+pub after-judged : (img : List ℕ) (root : ℕ) → Opened img root → (ks : List ℕ) → All (Judged img) (nodes_after img root (root_read root) ks)
+after-judged img root o ks = judged-after img root ks (root_read root) (opened-judged img root o)
 
-    go : GoodLeaf img b.before b.own b.later ⊎ (GoodLeaf img b.before b.own b.later → ⊥) → ReadSound img k root ⊎ ReadUnsound img k root
-    go (inl g) = inl (record { opened = o; belongs = b; good = g })
-    go (inr g) = inr (record { opened = o; belongs = b; bad = g })
+-- ---- the way, and its leaf
 
-module _ (img : List ℕ) (k root : ℕ) where
-  abbrev p : Place
-  p = leaf_for img root k
+module _ (img : List ℕ) (root : ℕ) (nodes : List ℕ) (k : ℕ) where
+  -- what is made of a way that is read
+  pub by-sound : {A : Type 0} (f : Way → Result A Refusal) (r : ReadSound img root nodes k) → by_way (leaf_read img root nodes k) f ≡ f r.way
+  by-sound f r = rw (read-sound img root k nodes r)
 
-  pub read-sound : ReadSound img k root → leaf_sound img root (leaf_for img root k) ≡ true
-  read-sound r = good-leaf img root r.opened.index k r.belongs r.good
+  pub by-unsound : {A : Type 0} (f : Way → Result A Refusal) → ReadUnsound img root nodes k → by_way (leaf_read img root nodes k) f ≡ Err (refusal 4)
+  by-unsound f u = rw (read-unsound img root k nodes u)
 
-  pub read-unsound : ReadUnsound img k root → leaf_sound img root (leaf_for img root k) ≡ false
-  read-unsound u = not-true (leaf_sound img root p) (λ t. u.bad (leaf-good img root u.opened.index k u.belongs t))
-
-  page-is : (b : Belongs k (children img root)) → (leaf_for img root k).page ≡ child_of b.own
-  page-is b = ap (λ (q : Place). q.page) (leaf-is img root k b)
-
-  pub read-lookup : (r : ReadSound img k root) → leaf_lookup img root k ≡ found_in k (page_entries img (child_of r.belongs.own))
+  pub read-lookup : (r : ReadSound img root nodes k) → leaf_lookup img root nodes k ≡ found_in k (page_entries img r.way.leaf.page)
   unfolding leaf_lookup
-  read-lookup r = rw (read-sound r) (ap (λ (q : ℕ). found_in k (page_entries img q)) (page-is r.belongs))
+  read-lookup r = by-sound (λ w. found_in k (page_entries img w.leaf.page)) r
 
-  pub unsound-lookup : ReadUnsound img k root → leaf_lookup img root k ≡ Err (refusal 4)
+  pub unsound-lookup : ReadUnsound img root nodes k → leaf_lookup img root nodes k ≡ Err (refusal 4)
   unfolding leaf_lookup
-  unsound-lookup u = rw (read-unsound u)
+  unsound-lookup u = by-unsound (λ w. found_in k (page_entries img w.leaf.page)) u
 
-  pub read-records : (r : ReadSound img k root) → records_for img root k ≡ Some (records (page_of img (child_of r.belongs.own)))
+-- the records that are read once other keys were looked for
+module _ (img : List ℕ) (root : ℕ) (ks : List ℕ) (k : ℕ) where
+  pub records-read : (r : ReadSound img root (nodes_after img root (root_read root) ks) k) → records_for img root ks k ≡ Some (read_records r)
   unfolding records_for
-  read-records r = rw (read-sound r) (ap (λ (q : ℕ). Some (records (page_of img q))) (page-is r.belongs))
+  records-read r = rw (read-sound img root k (nodes_after img root (root_read root) ks) r)
 
-  pub unsound-records : ReadUnsound img k root → records_for img root k ≡ None
+  pub records-unsound : ReadUnsound img root (nodes_after img root (root_read root) ks) k → records_for img root ks k ≡ None
   unfolding records_for
-  unsound-records u = rw (read-unsound u)
+  records-unsound u = rw (read-unsound img root k (nodes_after img root (root_read root) ks) u)
 
--- the smallest key above the number n, in the leaf of k
-module _ (img : List ℕ) (n k root : ℕ) where
-  pub read_next : (r : ReadSound img k root) → leaf_next img root n (leaf_for img root k) ≡ above n (records (page_of img (child_of r.belongs.own)))
-  unfolding leaf_next
-  read_next r = rw (read-sound img k root r) (ap (λ (q : Place). above n (records (page_of img q.page))) (leaf-is img root k r.belongs))
-
-  pub unsound-next : ReadUnsound img k root → leaf_next img root n (leaf_for img root k) ≡ Err (refusal 4)
-  unfolding leaf_next
-  unsound-next u = rw (read-unsound img k root u)
-
--- ---- the leaf after
-
-module _ (img : List ℕ) (k root : ℕ) (opened : Opened img root) (b : Belongs k (children img root)) where
-  abbrev index : Index img root
-  index = opened.index
-
-  -- by where the leaf's range ends
-  abbrev turn : ℕ → Result (Option ℕ) Refusal
-  turn below = pick (leb below top_key) (leaf_next img root k (leaf_for img root below)) (Ok None)
-
-  pub after_none : b.later ≡ [] → next_after img root k (leaf_for img root k) ≡ Ok None
-  unfolding next_after
-  after_none e = ap turn (below_none img root index k b e)
-
-  module _ (d : Rec) (ds : List Rec) (e : b.later ≡ d ∷ ds) where
-    goes_on : next_after img root k (leaf_for img root k) ≡ leaf_next img root k (leaf_for img root d.key)
-    unfolding next_after
-    goes_on = ap turn (below-after img root index k b d ds e) ∙ rw (le-leb d.key top_key (below_key img root index k b d ds e))
-
-    pub after-good : GoodLeaf img (b.before ++ b.own ∷ []) d ds → next_after img root k (leaf_for img root k) ≡ above k (records (page_of img (child_of d)))
-    after-good g = goes_on ∙ read_next img k d.key root (record { opened = opened; belongs = belongs-after img root index k b d ds e; good = g })
-
-    pub after-bad : (GoodLeaf img (b.before ++ b.own ∷ []) d ds → ⊥) → next_after img root k (leaf_for img root k) ≡ Err (refusal 4)
-    after-bad g = goes_on ∙ unsound-next img k d.key root (record { opened = opened; belongs = belongs-after img root index k b d ds e; bad = g })
+  -- each key is one or the other
+  pub after-read-or-not : Opened img root → ReadSound img root (nodes_after img root (root_read root) ks) k ⊎ ReadUnsound img root (nodes_after img root (root_read root) ks) k
+  after-read-or-not o = read-or-not img root k (nodes_after img root (root_read root) ks) (after-judged img root o ks)
 
 -- ---- 6, after what the leaf says
 
@@ -158,12 +109,6 @@ unfolding ranged
 ranged-is k (Ok (Some x)) h = refl
 ranged-is k (Ok None) h = refl
 ranged-is k (Err r) h = absurd (h r refl)
-
-pub ranged-in : (k : ℕ) → key_ok k ≡ true → (a : Result (Option Part) Refusal) → ranged k a ≡ a
-unfolding ranged
-ranged-in k q (Ok (Some x)) = rw q
-ranged-in k q (Ok None) = rw q
-ranged-in k q (Err r) = refl
 
 -- ---- what the code needs of a root
 
@@ -180,3 +125,16 @@ root-facts img root e = go (is_image_size (length img)) refl (page_zero img) ref
 
 pub call-opened : (img : List ℕ) (root : ℕ) → index_call img ≡ Ok root → Opened img root
 call-opened img root e = subst (OpeningSays img) e (opening-says img)
+
+pub opened-page : (img : List ℕ) (root : ℕ) → index_call img ≡ Ok root → is_page (page_count img) root ≡ true
+opened-page img root e = (ready-facts img root (call-opened img root e).zero).page
+
+-- one answer at a time
+pub no-root : (img : List ℕ) (r : Refusal) → index_call img ≡ Err r → (root : ℕ) → index_call img ≡ Ok root → ⊥
+no-root img r e root f =
+    let z : ◌≡◌ {A = Result ℕ Refusal} (Err r) (Ok root) = sym e ∙ f in
+    let n : ◌≡◌ {A = ℕ} 0 1 = cc in
+    omega arith
+
+pub root-same : (img : List ℕ) (q root : ℕ) → index_call img ≡ Ok q → index_call img ≡ Ok root → q ≡ root
+root-same img q root e f = let z : ◌≡◌ {A = Result ℕ Refusal} (Ok q) (Ok root) = sym e ∙ f in cc

@@ -1,34 +1,27 @@
--- Routing by separators: the pages before the routed one list smaller keys, those after it larger ones; the routed leaf or the leaf after it answers a next key.
+-- Routing by separators: the pages before the routed one list smaller keys, those after it larger ones.
 -- Assumes nothing.
-use Rattle.std.specs.Prelude.{None, Ok, Option, Result, Some}
+use Rattle.std.specs.Prelude.{None, Ok, Some}
 use Prim.Native.Nat.{ℕ, suc, ◌+◌, ◌≤◌, ◌<◌}
 use mathlib.Core.Path.{◌≡◌, refl, sym, ap, ◌∙◌, subst}
 use mathlib.Core.Logic.{◌⊎◌, inl, inr}
-use mathlib.Core.Bool.{Bool, true, false, true≢false}
-use mathlib.Core.List.{List, [], ◌∷◌, ◌++◌, map, append-nil}
+use mathlib.Core.Bool.{Bool, true, false}
+use mathlib.Core.List.{List, [], ◌∷◌, ◌++◌, map}
 use native.Mathlib.Omega.{arith}
 use native.Mathlib.Nat.{not-suc-le-zero}
-use lib.ListN.{length, get_or, take, drop, length-drop}
-use lib.Seq.{split_at}
+use lib.ListN.{length, get_or, take, drop}
 use lib.Dec.{leb, ltb, eqb}
 use borrow.Author.Tests.{leb-true, leb-false, lt-leb, lt-ltb, le-ltb, ne_eqb}
-use Rattle.device.specs.declared.Refusal.{Refusal}
 use Rattle.codec.specs.Lists.{All, pick}
 use Rattle.codec.proofs.Tests.{All-map}
-use Rattle.page.specs.Layout.{top_key, Rec}
-use Rattle.page.specs.Page.{Entry, records}
-use Rattle.page.specs.Operations.{page_of}
-use Rattle.image.specs.PageZero.{root_of}
-use Rattle.image.specs.Image.{child_of, children, joined, first_key, start_of, next_sep, sound}
-use Rattle.image.specs.Facts.{Rising, Leaves, Spans}
-use Rattle.image.specs.Table.{leaf_records, table, find, found_in, above, or_else}
+use Rattle.page.specs.Layout.{Rec}
+use Rattle.page.specs.Page.{Entry}
+use Rattle.image.specs.Image.{joined, first_key, start_of}
+use Rattle.image.specs.Facts.{Rising, Spans}
+use Rattle.image.specs.Table.{find, found_in, above, or_else}
 use Rattle.image.specs.Route.{last_from, route}
-use Rattle.image.proofs.General.{map_same, All-unmap, All-left}
+use Rattle.image.proofs.General.{All-unmap}
 use Rattle.image.proofs.Rising.{From, Below, rising-hi, rising-from, rising-below, rising-split}
 use Rattle.image.proofs.Ranges.{rising-first, spans-cut, spans-rising}
-use Rattle.image.proofs.OneHeight.{table-one}
-use Rattle.image.proofs.Soundness.{LeafIn, leaves-spans, Tree, index-rising, sound-facts, sound-tree}
-use Rattle.image.proofs.Order.{leaf_records-append, leaves-from}
 
 -- ---- the routed place
 
@@ -150,16 +143,6 @@ unfolding above
 above-none k [] h = refl
 above-none k (r ∷ l) h = above-skip k r l (omega (arith, h.0)) ∙ above-none k l h.1
 
--- the answer of the first of the leaves cs
-abbrev pub above_first : List ℕ → ℕ → List Rec → Result (Option ℕ) Refusal
-above_first img k [] = Ok None
-above_first img k (c ∷ cs) = above k (records (page_of img (child_of c)))
-
--- a leaf with a record, all of whose keys are above k
-pub record After (img : List ℕ) (k : ℕ) (c : Rec) : Type 0 where
-  pub filled : 1 ≤ length (records (page_of img (child_of c)))
-  pub over : From (suc k) (records (page_of img (child_of c)))
-
 -- it answers its first key, whatever follows it
 pub after-answers : (k : ℕ) (l m : List Rec) (z : Rec) → 1 ≤ length l → From (suc k) l → above k (l ++ m) ≡ Ok (Some (get_or l 0 z).key)
 after-answers k [] m z q f = absurd (not-suc-le-zero q)
@@ -194,107 +177,3 @@ module _ {A B : Type 0} (rec : A → Rec) (answer : A → B) (nothing : B) (k : 
       seek-middle (λ (x : A). (rec x).key) answer nothing k a b d
       (All-map (λ (x : A). (rec x).key < k) (λ (x : A). (rec x).key ≡ k → ⊥) (λ x q e. omega arith) a (All-unmap rec (λ (r : Rec). r.key < k) a low))
       (All-map (λ (x : A). suc k ≤ (rec x).key) (λ (x : A). (rec x).key ≡ k → ⊥) (λ x q e. omega arith) d (All-unmap rec (λ (r : Rec). suc k ≤ r.key) d high))
-
--- ---- the leaves
-
-module _ (img : List ℕ) (only : Bool) (pre : List Rec) (c : Rec) (post : List Rec) (s : Rising 0 (pre ++ c ∷ post) (suc top_key)) (h : Leaves img only 0 (pre ++ c ∷ post))
-    (k : ℕ) (low : start_of pre 0 c.key ≤ k) (high : k < first_key post (suc k)) where
-  pub before-below : Below (leaf_records img pre) k
-  unfolding leaf_records
-  before-below =
-      pages-before (LeafIn img only) (λ x. records (page_of img x)) (λ a b x l. l.rising) 0 pre c post (suc top_key) s (leaves-spans img only 0 (pre ++ c ∷ post) h) k low
-
-  pub after-above : From (suc k) (leaf_records img post)
-  unfolding leaf_records
-  after-above =
-      pages-after (LeafIn img only) (λ x. records (page_of img x)) (λ a b x l. l.rising) 0 pre c post (suc top_key) s (leaves-spans img only 0 (pre ++ c ∷ post) h) k high
-
-  pub find-here : find k (leaf_records img (pre ++ c ∷ post)) ≡ find k (records (page_of img (child_of c)))
-  unfolding leaf_records
-  find-here =
-      let a = leaf_records img pre in
-      let b = records (page_of img (child_of c)) in
-      let d = leaf_records img post in
-      ap (find k) (leaf_records-append img pre (c ∷ post))
-      ∙ find-seek k (a ++ (b ++ d))
-      ∙ seek-between (λ (r : Rec). r) (λ (r : Rec). Some r.value) None k a b d (rw (map_same a) before-below) (rw (map_same d) after-above)
-      ∙ sym (find-seek k b)
-
-  -- the leaf after it, unless it is the last
-  pub leaf-after : (1 ≤ length post → only ≡ false) → (d : Rec) (ds : List Rec) → post ≡ d ∷ ds → After img k d
-  unfolding leaf_records
-  leaf-after many d ds e =
-      let p = page_of img (child_of d) in
-      let l : Leaves img only (next_sep (d ∷ ds)) (d ∷ ds) = subst (λ (cs : List Rec). Leaves img only (next_sep cs) cs) e (leaves-from img only 0 pre c post h).1 in
-      let f : From (suc k) (records p ++ leaf_records img ds) = subst (λ (cs : List Rec). From (suc k) (leaf_records img cs)) e after-above in
-      record { filled = filled l.0.filled; over = All-left (λ (r : Rec). suc k ≤ r.key) (records p) (leaf_records img ds) f }
-    where
-      filled : (only ≡ true) ⊎ (1 ≤ length (records (page_of img (child_of d)))) → 1 ≤ length (records (page_of img (child_of d)))
-      filled (inl q) = absurd (true≢false (sym q ∙ many (subst (λ (cs : List Rec). 1 ≤ length cs) (sym e) (omega arith))))
-      filled (inr q) = q
-
-  -- the leaf itself, and the one after it
-  pub above-here : (1 ≤ length post → only ≡ false) → above k (leaf_records img (pre ++ c ∷ post)) ≡ or_else (above k (records (page_of img (child_of c)))) (above_first img k post)
-  unfolding leaf_records
-  above-here many =
-      let a = leaf_records img pre in
-      let b = records (page_of img (child_of c)) in
-      let d = leaf_records img post in
-      ap (above k) (leaf_records-append img pre (c ∷ post))
-      ∙ above-append k a (b ++ d)
-      ∙ ap (λ (x : Result (Option ℕ) Refusal). or_else x (above k (b ++ d))) (above-none k a (All-map (λ (r : Rec). r.key < k) (λ (r : Rec). r.key < suc k) (λ r q. omega arith) a before-below))
-      ∙ above-append k b d
-      ∙ ap (or_else (above k b)) (next post refl)
-    where
-      next : (cs : List Rec) → post ≡ cs → above k (leaf_records img cs) ≡ above_first img k cs
-      next [] e = above-none k [] tt
-      next (d ∷ ds) e =
-          let p = page_of img (child_of d) in
-          let a = leaf-after many d ds e in
-          after-answers k (records p) (leaf_records img ds) d a.filled a.over
-          ∙ sym (after-answers k (records p) [] d a.filled a.over)
-          ∙ ap (above k) (append-nil (records p))
-
--- ---- the routed leaf, in the tree under a root
-
--- the page of the leaf that k belongs to
-abbrev pub routed_page : ℕ → List Rec → Rec → ℕ
-routed_page k cs z = child_of (get_or cs (route k cs) z)
-
-module _ (img : List ℕ) (root : ℕ) (t : Tree img root) (k : ℕ) (z : Rec) where
-  abbrev cs : List Rec
-  cs = children img root
-
-  abbrev i : ℕ
-  i = route k cs
-
-  pub tree-routed : Routed k (children img root) z
-  tree-routed = routed k 0 cs (suc top_key) z (index-rising img root t.index) t.index.some
-
-  shape : cs ≡ take i cs ++ get_or cs i z ∷ drop (suc i) cs
-  shape = split_at cs i z tree-routed.inside
-
-  seps : Rising 0 (take i cs ++ get_or cs i z ∷ drop (suc i) cs) (suc top_key)
-  seps = subst (λ (l : List Rec). Rising 0 l (suc top_key)) shape (index-rising img root t.index)
-
-  held : Leaves img (eqb (length cs) 1) 0 (take i cs ++ get_or cs i z ∷ drop (suc i) cs)
-  held = subst (Leaves img (eqb (length cs) 1) 0) shape t.leaves
-
-  many : 1 ≤ length (drop (suc i) cs) → eqb (length cs) 1 ≡ false
-  many q = ne_eqb (length cs) 1 (λ e. omega (arith, length-drop (suc i) cs))
-
-  pub tree-above : above k (leaf_records img (children img root)) ≡
-      or_else (above k (records (page_of img (routed_page k (children img root) z)))) (above_first img k (drop (suc (route k (children img root))) (children img root)))
-  tree-above =
-      ap (λ (l : List Rec). above k (leaf_records img l)) shape
-      ∙ above-here img (eqb (length cs) 1) (take i cs) (get_or cs i z) (drop (suc i) cs) seps held k tree-routed.low tree-routed.high many
-
--- ---- the same of a sound image
-
-module _ (img : List ℕ) (h : sound img ≡ true) (k : ℕ) (z : Rec) where
-  abbrev tree : Tree img (root_of img)
-  tree = sound-tree img (sound-facts img h)
-
-  pub next-routed : above k (table img) ≡
-      or_else (above k (records (page_of img (routed_page k (children img (root_of img)) z)))) (above_first img k (drop (suc (route k (children img (root_of img)))) (children img (root_of img))))
-  next-routed = ap (above k) (table-one img) ∙ tree-above img (root_of img) tree k z

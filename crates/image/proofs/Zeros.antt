@@ -2,6 +2,7 @@
 -- Assumes nothing.
 use Prim.Native.Nat.{ℕ, suc, ◌+◌, ◌-◌, ◌*◌, ◌/◌, ◌%◌, ◌≤◌, ◌<◌}
 use mathlib.Core.Path.{◌≡◌, refl, sym, ap, ◌∙◌, subst}
+use mathlib.Core.Logic.{◌⊎◌, inl, inr}
 use mathlib.Core.Bool.{Bool, true, false, ◌&&◌}
 use mathlib.Core.List.{List, [], ◌∷◌, ◌++◌, append_assoc}
 use native.Mathlib.Omega.{arith}
@@ -13,7 +14,7 @@ use borrow.Author.Tests.{leb-false, ltb-false}
 use Rattle.codec.specs.Lists.{All}
 use Rattle.codec.proofs.Lists.{get_or-part}
 use Rattle.codec.proofs.Agree.{or_left, or_right}
-use Rattle.page.specs.Layout.{page_size, line_size, leaf_kind, index_kind, Rec, size, Head, read_head, unused_head}
+use Rattle.page.specs.Layout.{page_size, line_size, slot_count, leaf_kind, index_kind, top_kind, Rec, size, Head, read_head, unused_head}
 use Rattle.page.specs.Page.{Entry, end, entries, RecOk}
 use Rattle.page.specs.Operations.{fill, placed, sizes, OnePage, page_of}
 use Rattle.page.proofs.Facts.{is-entries}
@@ -21,12 +22,12 @@ use Rattle.page.proofs.Operations.{fill_start, fill_is, fill-page, fill-stays}
 use Rattle.image.specs.PageZero.{root_of, no_mark, words_past}
 use Rattle.image.specs.Image.{reached, among}
 use Rattle.image.specs.Live.{covered, live_in, live}
-use Rattle.image.specs.Fresh.{zero_page, fresh_zero, numbered, index_over, leaf_pages, stored, Storable}
+use Rattle.image.specs.Fresh.{zero_page, fresh_zero, numbered, index_over, index_pages, top_over, pages_over, stored, Storable}
 use Rattle.image.proofs.General.{zeros-at}
 use Rattle.image.proofs.Apart.{among_first, among-rest}
-use Rattle.image.proofs.OneHeight.{reached-one}
-use Rattle.image.proofs.FilledPages.{length-zero_page, length-fresh_zero, Stand, length-past, index-good, index-fits}
-use Rattle.image.proofs.Stored.{stored-pages, stored-root, stored-index, stored-leaf, stored-length, stored-children, stored-names}
+use Rattle.image.proofs.FilledPages.{length-zero_page, length-fresh_zero, length-past, Fills, Stand}
+use Rattle.image.proofs.InPages.{above-one, above-top, length-index_pages}
+use Rattle.image.proofs.Stored.{first_leaf, few-or-many, small, leafs, index-filled, indexes-filled, top-filled, leaf_pages, stored-pages, stored-root, stored-length, stored-leaf, index-stands, top-stands, stored-indexes, page_lists, length-lists, stored-reached}
 
 -- zeros past other bytes
 zeros-past : (a : List ℕ) (m i : ℕ) → length a ≤ i → get_or (a ++ replicate m 0) i 0 ≡ 0
@@ -70,18 +71,18 @@ fill-clean kind own rs k w good fit o h c =
     fill-stays zero_page kind own rs length-zero_page k w good room fit.few o (ltb-false o line_size (or_left (ltb o line_size) (covered o (entries p)) c)) (omega arith)
     ∙ zeros-at page_size o
 
--- ---- the leaves
+-- ---- pages that stand, one after the other
 
-clean_at : (img : List ℕ) (k : ℕ) (ls : List (List Rec)) → Stand img k ls → All (All RecOk) ls → All OnePage ls → k + length ls ≤ 65536 →
+clean_at : (kind : ℕ) (img : List ℕ) (k : ℕ) (ls : List (List Rec)) → kind < 256 → Stand kind img k ls → Fills kind k ls → k + length ls ≤ 65536 →
     (q : ℕ) → k ≤ q → q < k + length ls → Clean (page_of img q)
-clean_at img k [] t good fit small q low high = absurd (omega arith)
-clean_at img k (l ∷ ls) t good fit small q low high = go (dec_lt k q) (λ h. clean_at img (suc k) ls t.1 good.1 fit.1 (omega arith) q h (omega arith))
+clean_at kind img k [] w t f small q low high = absurd (omega arith)
+clean_at kind img k (l ∷ ls) w t f small q low high = go (dec_lt k q) (λ h. clean_at kind img (suc k) ls w t.1 f.1 (omega arith) q h (omega arith))
   where
     go : Dec (k < q) → (k < q → Clean (page_of img q)) → Clean (page_of img q)
     go (yes h) g = g h
     go (no h) g =
         let e : k ≡ q = omega arith in
-        subst (λ (j : ℕ). Clean (page_of img j)) e (subst Clean (sym t.0) (fill-clean leaf_kind k l (omega arith) (omega arith) good.0 fit.0))
+        subst (λ (j : ℕ). Clean (page_of img j)) e (subst Clean (sym t.0) (fill-clean kind k l w (omega arith) f.0.good f.0.fit))
 
 pages-among : (q k : ℕ) (ls : List (List Rec)) → k ≤ q → q < k + length ls → among q (numbered k ls) ≡ true
 unfolding numbered
@@ -110,32 +111,37 @@ byte-in img i =
     let e : i ≡ page_size * (i / page_size) + i % page_size = omega arith in
     ap (λ (j : ℕ). get_or img j 0) e ∙ sym (get_or-part img (page_size * (i / page_size)) page_size (i % page_size) (omega arith))
 
-module _ (n : ℕ) (ls : List (List Rec)) (s : Storable ls) (room : 2 + length ls ≤ n) where
+module _ (n : ℕ) (ls : List (List Rec)) (s : Storable ls) (room : first_leaf ls + length ls ≤ n) where
   abbrev img : List ℕ
   img = stored n ls
 
-  reached-is : reached img (root_of img) ≡ numbered 1 ([] ∷ ls)
-  unfolding numbered
-  reached-is = reached-one img (root_of img) ∙ rw (stored-root n ls, stored-children n ls s, stored-names n ls s)
+  leaf-clean : (q : ℕ) → first_leaf ls ≤ q → q < first_leaf ls + length ls → Clean (page_of img q)
+  leaf-clean q low high = clean_at leaf_kind img (first_leaf ls) ls (omega arith) (stored-leaf n ls s) (leafs ls s) (small ls s) q low high
 
-  page-clean : (q : ℕ) → 1 ≤ q → q < 2 + length ls → Clean (page_of img q)
-  page-clean q low high = go (dec_lt 1 q)
+  above-clean : (q : ℕ) → 1 ≤ q → q < first_leaf ls → Clean (page_of img q)
+  above-clean q low high = go (few-or-many (length ls)) (dec_lt 1 q)
     where
-      go : Dec (1 < q) → Clean (page_of img q)
-      go (yes h) = clean_at img 2 ls (stored-leaf n ls s) s.good s.fit (omega (arith, s.few)) q h high
-      go (no h) =
-          let e : 1 ≡ q = omega arith in
-          subst (λ (j : ℕ). Clean (page_of img j)) e
-          (subst Clean (sym (stored-index n ls s)) (fill-clean index_kind 1 (index_over ls) (omega arith) (omega arith) (index-good ls s) (index-fits ls s)))
+      go : (length ls ≤ slot_count) ⊎ (slot_count < length ls) → Dec (1 < q) → Clean (page_of img q)
+      go (inl h) d = clean_at index_kind img 1 (index_over ls ∷ []) (omega arith) (index-stands n ls s h) (index-filled ls s h) (omega arith) q low (omega (arith, above-one (length ls) h))
+      go (inr h) (yes d) =
+          clean_at index_kind img 2 (index_pages ls) (omega arith) (stored-indexes n ls s h) (indexes-filled ls s) (omega (arith, length-index_pages ls, s.few)) q d
+          (omega (arith, above-top (length ls) h, length-index_pages ls))
+      go (inr h) (no d) = clean_at top_kind img 1 (top_over ls ∷ []) (omega arith) (top-stands n ls s h) (top-filled ls s) (omega arith) q low (omega arith)
+
+  page-clean : (q : ℕ) → 1 ≤ q → q < first_leaf ls + length ls → Clean (page_of img q)
+  page-clean q low high = go (dec_lt q (first_leaf ls))
+    where
+      go : Dec (q < first_leaf ls) → Clean (page_of img q)
+      go (yes h) = above-clean q low h
+      go (no h) = leaf-clean q (omega arith) high
 
   -- past the leaves
-  past-clean : (i : ℕ) → page_size * (2 + length ls) ≤ i → get_or img i 0 ≡ 0
+  past-clean : (i : ℕ) → page_size * (first_leaf ls + length ls) ≤ i → get_or img i 0 ≡ 0
   past-clean i h =
-      let index = fill zero_page index_kind 1 (index_over ls) in
-      let front = fresh_zero n ++ (index ++ leaf_pages 2 ls) in
-      let m = page_size * (n - (2 + length ls)) in
+      let front = fresh_zero n ++ (pages_over ls ++ leaf_pages n ls) in
+      let m = page_size * (n - (first_leaf ls + length ls)) in
       let zeros : List ℕ = replicate m 0 in
-      let shape : img ≡ front ++ zeros = stored-pages n ls ∙ three (fresh_zero n) index (leaf_pages 2 ls) zeros in
+      let shape : img ≡ front ++ zeros = stored-pages n ls ∙ three (fresh_zero n) (pages_over ls) (leaf_pages n ls) zeros in
       let long : length img ≡ length front + length zeros = ap length shape ∙ length-append front zeros in
       ap (λ (l : List ℕ). get_or l i 0) shape ∙ zeros-past front m i (omega (arith, stored-length n ls s room, length-replicate {A = ℕ} m 0))
     where
@@ -144,7 +150,7 @@ module _ (n : ℕ) (ls : List (List Rec)) (s : Storable ls) (room : 2 + length l
 
   pub stored-zeros : (i : ℕ) → live img i ≡ false → get_or img i 0 ≡ 0
   unfolding live
-  stored-zeros i c = go (dec_lt q (2 + length ls)) (dec_lt 0 q)
+  stored-zeros i c = go (dec_lt q (first_leaf ls + length ls)) (dec_lt 0 q)
     where
       q : ℕ
       q = i / page_size
@@ -152,12 +158,18 @@ module _ (n : ℕ) (ls : List (List Rec)) (s : Storable ls) (room : 2 + length l
       low : line_size ≤ i
       low = ltb-false i line_size (or_left (ltb i line_size) (among q (reached img (root_of img)) && live_in (page_of img q) (i % page_size)) c)
 
-      free : 1 ≤ q → q < 2 + length ls → live_in (page_of img q) (i % page_size) ≡ false
+      among_is : 1 ≤ q → q < first_leaf ls + length ls → among q (reached img (root_of img)) ≡ true
+      among_is h k =
+          ap (λ (r : ℕ). among q (reached img r)) (stored-root n ls)
+          ∙ stored-reached n ls s q
+          ∙ pages-among q 1 (page_lists n ls s) h (omega (arith, length-lists n ls s))
+
+      free : 1 ≤ q → q < first_leaf ls + length ls → live_in (page_of img q) (i % page_size) ≡ false
       free h k =
-          ap (λ (b : Bool). b && live_in (page_of img q) (i % page_size)) (sym (ap (among q) reached-is ∙ pages-among q 1 ([] ∷ ls) h (omega arith)))
+          ap (λ (b : Bool). b && live_in (page_of img q) (i % page_size)) (sym (among_is h k))
           ∙ or_right (ltb i line_size) (among q (reached img (root_of img)) && live_in (page_of img q) (i % page_size)) c
 
-      go : Dec (q < 2 + length ls) → Dec (0 < q) → get_or img i 0 ≡ 0
+      go : Dec (q < first_leaf ls + length ls) → Dec (0 < q) → get_or img i 0 ≡ 0
       go (no h) z = past-clean i (omega arith)
       go (yes h) (yes z) = byte-in img i ∙ page-clean q z h (i % page_size) (omega arith) (free z h)
       go (yes h) (no z) =

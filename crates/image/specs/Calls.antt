@@ -11,11 +11,10 @@ use Rattle.page.specs.Page.{records}
 use Rattle.page.specs.Operations.{page_of}
 use Rattle.image.specs.Image.{index_ok, tree_ok}
 use Rattle.image.specs.Table.{page_entries, found_in, above, or_else}
-use Rattle.image.specs.Descent.{leaf_for, leaf_sound}
+use Rattle.image.specs.Descent.{Way, leaf_read, root_read}
 use Rattle.image.specs.Fresh.{fresh}
 use Rattle.image.specs.declared.PageZero.{PageZero}
 use Rattle.image.specs.declared.PageZero.TheVariants.{Wrong, Waiting, Ready}
-use Rattle.image.specs.declared.Place.{Place}
 
 -- ---- format
 
@@ -28,7 +27,7 @@ unfoldable pub format_call : List ℕ → Formatted
 format_call img =
     pick (is_image_size (length img)) (record { answer = Ok tt; image = fresh (page_count img) }) (record { answer = Err (refusal image_size); image = img })
 
--- ---- page 0 and the index
+-- ---- page 0 and the root
 
 -- "4 if page 0 is wrong; 3 if a well-formed mark waits", else the root
 unfoldable pub root_from : PageZero → Result ℕ Refusal
@@ -39,7 +38,7 @@ root_from (Ready root) = Ok root
 unfoldable pub root_call : List ℕ → Result ℕ Refusal
 root_call img = pick (is_image_size (length img)) (root_from (page_zero img)) (Err (refusal image_size))
 
--- what the reading calls read first, "page 0, the index": 4 if the index breaks soundness by itself
+-- what the reading calls read first, "page 0, the index": 4 if the root page breaks soundness by itself
 unfoldable pub index_from : List ℕ → Result ℕ Refusal → Result ℕ Refusal
 index_from img (Err r) = Err r
 index_from img (Ok root) = pick (index_ok img root) (Ok root) (Err (refusal unsound))
@@ -49,7 +48,7 @@ index_call img = index_from img (root_call img)
 
 -- ---- check
 
--- "4 if unsound": the index and every leaf
+-- "4 if unsound": the root and every page under it
 unfoldable pub check_from : List ℕ → Result ℕ Refusal → Answer
 check_from img (Err r) = Err r
 check_from img (Ok root) = pick (tree_ok img root) (Ok tt) (Err (refusal unsound))
@@ -64,11 +63,14 @@ check_call img = check_from img (root_call img)
 unfoldable pub key_ok : ℕ → Bool
 key_ok k = leb 1 k && leb k top_key
 
--- "one leaf": the one that the key belongs to; 4 if it breaks soundness by itself, "separator bounds included"
-unfoldable pub leaf_lookup : List ℕ → ℕ → ℕ → Result (Option Part) Refusal
-leaf_lookup img root k =
-    let p = leaf_for img root k in
-    pick (leaf_sound img root p) (found_in k (page_entries img p.page)) (Err (refusal unsound))
+-- what the way of a key comes to: 4 if a page that is read on it "breaks soundness", "separator bounds included"
+abbrev pub by_way : {A : Type 0} → Option Way → (Way → Result A Refusal) → Result A Refusal
+by_way None f = Err (refusal unsound)
+by_way (Some w) f = f w
+
+-- "one leaf": the one that the key belongs to, once the pages `nodes` are read
+unfoldable pub leaf_lookup : List ℕ → ℕ → List ℕ → ℕ → Result (Option Part) Refusal
+leaf_lookup img root nodes k = by_way (leaf_read img root nodes k) (λ w. found_in k (page_entries img w.leaf.page))
 
 -- "1, 3, 4 and 6 in the old order": 6 comes after the leaf's 4
 unfoldable pub ranged : ℕ → Result (Option Part) Refusal → Result (Option Part) Refusal
@@ -77,9 +79,9 @@ ranged k (Ok found) = pick (key_ok k) (Ok found) (Err (refusal key_range))
 
 unfoldable pub lookup_from : List ℕ → ℕ → Result ℕ Refusal → Result (Option Part) Refusal
 lookup_from img k (Err r) = Err r
-lookup_from img k (Ok root) = ranged k (leaf_lookup img root k)
+lookup_from img k (Ok root) = ranged k (leaf_lookup img root (root_read root) k)
 
--- "A lookup now reads page 0, the index and one leaf."
+-- "A lookup now reads page 0, the index and one leaf", and under a top page one index page
 unfoldable pub lookup_call : List ℕ → ℕ → Result (Option Part) Refusal
 lookup_call img k = lookup_from img k (index_call img)
 
@@ -94,20 +96,18 @@ value_call img k = value_at img (lookup_call img k)
 
 -- ---- next key
 
--- the smallest larger key of the leaf at p, or none; 4 if it breaks soundness by itself
-unfoldable pub leaf_next : List ℕ → ℕ → ℕ → Place → Result (Option ℕ) Refusal
-leaf_next img root k p = pick (leaf_sound img root p) (above k (records (page_of img p.page))) (Err (refusal unsound))
+-- the smallest larger key of the leaf that a way comes to, or none
+unfoldable pub leaf_next : List ℕ → ℕ → Way → Result (Option ℕ) Refusal
+leaf_next img k w = above k (records (page_of img w.leaf.page))
 
--- "the leaf after" that at p, if there is one: the leaf that the end of its range belongs to
-unfoldable pub next_after : List ℕ → ℕ → ℕ → Place → Result (Option ℕ) Refusal
-next_after img root k p = pick (leb p.below top_key) (leaf_next img root k (leaf_for img root p.below)) (Ok None)
+-- "the leaf after" it, if there is one: the leaf that the end of its range belongs to, judged with what was read before
+unfoldable pub next_after : List ℕ → ℕ → ℕ → Way → Result (Option ℕ) Refusal
+next_after img root k w = pick (leb w.leaf.below top_key) (by_way (leaf_read img root w.nodes w.leaf.below) (leaf_next img k)) (Ok None)
 
 -- "Next key reads that and, only if that leaf holds no larger key, the leaf after."
 unfoldable pub next_from : List ℕ → ℕ → Result ℕ Refusal → Result (Option ℕ) Refusal
 next_from img k (Err r) = Err r
-next_from img k (Ok root) =
-    let p = leaf_for img root k in
-    or_else (leaf_next img root k p) (next_after img root k p)
+next_from img k (Ok root) = by_way (leaf_read img root (root_read root) k) (λ w. or_else (leaf_next img k w) (next_after img root k w))
 
 -- "Next takes any 8-byte number and answers the smallest key above it, or none."
 unfoldable pub next_call : List ℕ → ℕ → Result (Option ℕ) Refusal

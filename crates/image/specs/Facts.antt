@@ -1,27 +1,20 @@
 -- What the tests of soundness stand for.
 -- Assumes nothing.
-use Rattle.std.specs.Prelude.{ℕ, zero, suc, ◌≤◌, ◌≡◌, ◌⊎◌, Bool, true, List, [], ◌∷◌, map, length, eqb}
+use Rattle.std.specs.Prelude.{ℕ, zero, suc, ◌≤◌, ◌≡◌, ◌⊎◌, Bool, true, false, List, [], ◌∷◌, ◌++◌, length}
 use Rattle.codec.specs.Lists.{All}
 use Rattle.device.specs.Calls.{is_image_size}
-use Rattle.page.specs.Layout.{leaf_kind, index_kind, top_key, Rec}
-use Rattle.page.specs.Page.{page_ok}
+use Rattle.page.specs.Layout.{leaf_kind, top_key, Rec}
 use Rattle.page.specs.PageFormat.{PageFormat, format1}
 use Rattle.page.specs.Operations.{page_of}
 use Rattle.image.specs.PageZero.{page_count, is_page, root_of, page_zero}
-use Rattle.image.specs.Image.{child_of, children, records_at, pages_in, leaves_in, distinct, first_key, next_sep}
+use Rattle.image.specs.Image.{child_of, names_of, records_at, pages_in, leaves_in, height_of, distinct, first_key, top_place}
 use Rattle.image.specs.declared.PageZero.TheVariants.{Ready}
+use Rattle.image.specs.declared.Place.{Place}
 
 -- keys rise strictly from lo on, and are below hi
 abbrev pub Rising : ℕ → List Rec → ℕ → Type 0
 Rising lo [] hi = lo ≤ hi
 Rising lo (r ∷ rs) hi = (lo ≤ r.key) × Rising (suc r.key) rs hi
-
--- `index_ok`
-pub record Index (img : List ℕ) (root : ℕ) : Type 0 where
-  pub page : page_ok index_kind root (page_of img root) ≡ true
-  pub some : 1 ≤ length (children img root)
-  pub inside : All (λ (p : ℕ). is_page (page_count img) p ≡ true) (map child_of (children img root))
-  pub apart : distinct (root ∷ map child_of (children img root)) ≡ true
 
 -- `bound_ok`
 pub record Bound (Pg : PageFormat) (kind : ℕ) (empty : Bool) (lo hi own : ℕ) (p : List ℕ) : Type 0 where
@@ -33,10 +26,15 @@ pub record Bound (Pg : PageFormat) (kind : ℕ) (empty : Bool) (lo hi own : ℕ)
 abbrev pub Leaf : Bool → ℕ → ℕ → ℕ → List ℕ → Type 0
 Leaf only lo hi own p = Bound format1 leaf_kind only lo hi own p
 
--- `leaves_ok`: the leaves fill the range of keys from lo on
-abbrev pub Leaves : List ℕ → Bool → ℕ → List Rec → Type 0
-Leaves img only lo [] = Unit {0}
-Leaves img only lo (c ∷ cs) = Leaf only lo (next_sep cs) (child_of c) (page_of img (child_of c)) × Leaves img only (next_sep cs) cs
+-- `node_ok`
+pub record Node (img : List ℕ) (h : ℕ) (names : List ℕ) (p : Place) : Type 0 where
+  pub bound : Bound format1 (suc h) false p.from p.below p.page (page_of img p.page)
+  pub inside : All (λ (q : ℕ). is_page (page_count img) q ≡ true) (names_of img p.page)
+  pub apart : distinct (names_of img p.page ++ names) ≡ true
+
+-- `index_ok`
+abbrev pub Index : List ℕ → ℕ → Type 0
+Index img root = Node img (height_of img root) (root ∷ []) (top_place root)
 
 -- ---- by the height
 
@@ -75,5 +73,4 @@ pub record TreeIn (Pg : PageFormat) (img : List ℕ) (h root : ℕ) : Type 0 whe
 pub record Sound (img : List ℕ) : Type 0 where
   pub size : is_image_size (length img) ≡ true
   pub zero : page_zero img ≡ Ready (root_of img)
-  pub index : Index img (root_of img)
-  pub leaves : Leaves img (eqb (length (children img (root_of img))) 1) 0 (children img (root_of img))
+  pub tree : TreeIn format1 img (height_of img (root_of img)) (root_of img)

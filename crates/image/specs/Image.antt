@@ -1,12 +1,13 @@
 -- When an image is sound: page 0, and the tree of pages under the root, each within its range of keys (document 01, "An image is sound if ..").
--- A page has a height: a leaf 0, the index 1. What lies under a page, and when it is sound, goes by the height, for pages of any format.
+-- A page has a height: a leaf 0, an index page 1, a top page 2. What lies under a page, and when it is sound, goes by the height, for pages of any format
+-- (document 02 (j)).
 -- Assumes nothing.
-use Rattle.std.specs.Prelude.{ℕ, zero, suc, ◌-◌, ◌≡◌, Bool, true, false, ◌&&◌, ◌||◌, not, List, [], ◌∷◌, ◌++◌, map, length, leb, ltb, eqb}
+use Rattle.std.specs.Prelude.{ℕ, zero, suc, ◌+◌, ◌-◌, ◌≡◌, Bool, true, false, ◌&&◌, ◌||◌, not, List, [], ◌∷◌, ◌++◌, map, length, leb, ltb, eqb}
 use Rattle.codec.specs.Lists.{every, all_b, All, pick}
 use Rattle.codec.specs.Numbers.{number, bytes_of}
 use Rattle.device.specs.Calls.{is_image_size}
-use Rattle.page.specs.Layout.{leaf_kind, index_kind, top_key, Rec, rec_of}
-use Rattle.page.specs.Page.{records, page_ok}
+use Rattle.page.specs.Layout.{leaf_kind, top_key, Rec, rec_of}
+use Rattle.page.specs.Page.{records}
 use Rattle.page.specs.PageFormat.{PageFormat, format1}
 use Rattle.page.specs.Operations.{page_of}
 use Rattle.image.specs.PageZero.{page_count, is_page, page_zero}
@@ -34,9 +35,12 @@ IsEntry c = length c.value ≡ 2
 abbrev pub Entries : List Rec → Type 0
 Entries cs = All IsEntry cs
 
--- the records of the root page, each a separator and a leaf
+-- the records of a page above the leaves, each a separator and a page; and the pages alone
 unfoldable pub children : List ℕ → ℕ → List Rec
 children img root = records (page_of img root)
+
+abbrev pub names_of : List ℕ → ℕ → List ℕ
+names_of img q = map child_of (children img q)
 
 unfoldable pub among : ℕ → List ℕ → Bool
 among p [] = false
@@ -45,6 +49,15 @@ among p (q ∷ qs) = eqb p q || among p qs
 unfoldable pub distinct : List ℕ → Bool
 distinct [] = true
 distinct (p ∷ ps) = not (among p ps) && distinct ps
+
+-- 1 if p is the page x, else 0
+unfoldable pub hit : ℕ → ℕ → ℕ
+hit x p = pick (eqb x p) 1 0
+
+-- how often x stands in a list
+abbrev pub count : ℕ → List ℕ → ℕ
+count x [] = 0
+count x (p ∷ ps) = hit x p + count x ps
 
 -- ---- what lies under a page, by its height
 
@@ -72,11 +85,11 @@ pages_in Pg img h q = gathered Pg itself itself img h q
 unfoldable pub leaves_in : PageFormat → List ℕ → ℕ → ℕ → List ℕ
 leaves_in Pg img h q = gathered Pg itself (λ x. []) img h q
 
--- the greatest height of a root: "the root is an index"
+-- the greatest height of a root: "A top page, kind 3, in the index form, may now stand above 1 to 28 index pages, and the root word may name either kind."
 abbrev pub tallest : ℕ
-tallest = 1
+tallest = 2
 
--- the root's height, which its kind tells; where that is none, 1
+-- the root's height, which its kind tells: 1 for an index page, 2 for a top page; where it is neither, 1, and the root is not sound
 unfoldable pub height_in : PageFormat → List ℕ → ℕ → ℕ
 height_in Pg img root =
     let h = Pg.kind_of (page_of img root) - 1 in
@@ -85,22 +98,9 @@ height_in Pg img root =
 abbrev pub height_of : List ℕ → ℕ → ℕ
 height_of img root = height_in format1 img root
 
--- "A page is reached if it is the root or is named by a root record."
+-- "A page is reached if it is the root or is named by a root record", or, under a top page, by a record of an index page
 unfoldable pub reached : List ℕ → ℕ → List ℕ
 reached img root = pages_in format1 img (height_of img root) root
-
--- ---- the index by itself
-
--- "the root is an index with 1 to 28 records; its pages are distinct leaves in 1 to N-1, none the root"
-unfoldable pub index_ok : List ℕ → ℕ → Bool
-index_ok img root =
-    let cs = children img root in
-    every
-    (page_ok index_kind root (page_of img root)
-    ∷ leb 1 (length cs)
-    ∷ all_b (is_page (page_count img)) (map child_of cs)
-    ∷ distinct (root ∷ map child_of cs)
-    ∷ [])
 
 -- ---- ranges of keys
 
@@ -114,12 +114,9 @@ abbrev pub start_of : List Rec → ℕ → ℕ → ℕ
 start_of [] lo sep = lo
 start_of (b ∷ pre) lo sep = sep
 
--- the end of a leaf's keys, by the index records after its own: "below the next separator", or past the largest key
-unfoldable pub next_sep : List Rec → ℕ
-next_sep cs = first_key cs (suc top_key)
-
 -- the pages that the index records cs name, each with its range of keys, where the range of them all is from lo on and below hi: "each leaf's
--- keys are not below its separator (first leaf excepted) and are below the next separator"
+-- keys are not below its separator (first leaf excepted) and are below the next separator"; "The first leaf of any index page may hold keys below its own separator but not
+-- below that page's, the first index page excepted"; "its last leaf's keys stay below the next index page's separator"
 unfoldable pub places : ℕ → List Rec → ℕ → List Place
 places lo [] hi = []
 places lo (c ∷ cs) hi = record { page = child_of c; from = lo; below = first_key cs hi } ∷ places (first_key cs hi) cs hi
@@ -149,9 +146,20 @@ leaf_ok only lo hi own p = bound_ok format1 leaf_kind only lo hi own p
 unfoldable pub leaf_at : List ℕ → Bool → Place → Bool
 leaf_at img only p = leaf_ok only p.from p.below p.page (page_of img p.page)
 
--- the leaves of the index records cs, where the keys of the first start at lo, whatever its separator
-unfoldable pub leaves_ok : List ℕ → Bool → ℕ → List Rec → Bool
-leaves_ok img only lo cs = all_b (leaf_at img only) (places lo cs (suc top_key))
+-- ---- a page above the leaves, by itself
+
+-- the page at p, of height h, by itself: "1 to 28 records", separators within its range, its pages in 1 to N-1; and its pages and those in `names`, which were named before, are distinct
+unfoldable pub node_ok : List ℕ → ℕ → List ℕ → Place → Bool
+node_ok img h names p =
+    every
+    (bound_ok format1 (suc h) false p.from p.below p.page (page_of img p.page)
+    ∷ all_b (is_page (page_count img)) (names_of img p.page)
+    ∷ distinct (names_of img p.page ++ names)
+    ∷ [])
+
+-- the root: "its pages are distinct .. in 1 to N-1, none the root"
+unfoldable pub index_ok : List ℕ → ℕ → Bool
+index_ok img root = node_ok img (height_of img root) (root ∷ []) (top_place root)
 
 -- ---- the tree
 

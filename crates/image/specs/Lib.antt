@@ -4,6 +4,7 @@ pub mod Facts
 pub mod Table
 pub mod Route
 pub mod Descent
+pub mod Marks
 pub mod Live
 pub mod Fresh
 pub mod Calls

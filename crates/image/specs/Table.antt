@@ -1,6 +1,6 @@
 -- The table of an image, and what a lookup and a next key say of it (document 01, 'The plain ledger' and 'Each call').
 -- Assumes nothing.
-use Rattle.std.specs.Prelude.{ℕ, ◌+◌, ◌*◌, List, [], ◌∷◌, map, length, ltb, eqb, Err, None, Ok, Option, Result, Some}
+use Rattle.std.specs.Prelude.{ℕ, ◌+◌, ◌*◌, List, [], ◌∷◌, ◌++◌, map, length, ltb, eqb, Err, None, Ok, Option, Result, Some}
 use Rattle.device.specs.declared.Refusal.{Refusal}
 use Rattle.image.specs.declared.Part.{Part}
 use Rattle.codec.specs.Lists.{pick}
@@ -9,11 +9,12 @@ use Rattle.page.specs.Page.{Entry, entries, records}
 use Rattle.page.specs.Operations.{page_of}
 use Rattle.image.specs.PageZero.{root_of}
 use Rattle.page.specs.PageFormat.{PageFormat, format1}
-use Rattle.image.specs.Image.{records_at, joined, gathered, height_of}
+use Rattle.image.specs.Image.{records_at, gathered, height_of}
 
--- the records of the leaves that the index records cs name
-unfoldable pub leaf_records : List ℕ → List Rec → List Rec
-leaf_records img cs = joined (λ x. records (page_of img x)) cs
+-- the records of the leaves ps, one after the other
+unfoldable pub records_on : List ℕ → List ℕ → List Rec
+records_on img [] = []
+records_on img (p ∷ ps) = records (page_of img p) ++ records_on img ps
 
 -- the records of the leaves under page q of height h
 unfoldable pub table_in : PageFormat → List ℕ → ℕ → ℕ → List Rec
@@ -31,10 +32,7 @@ in_image q e = record { at = page_size * q + e.at; rec = e.rec }
 abbrev pub page_entries : List ℕ → ℕ → List Entry
 page_entries img q = map (in_image q) (entries (page_of img q))
 
-unfoldable pub leaf_entries : List ℕ → List Rec → List Entry
-leaf_entries img cs = joined (λ x. page_entries img x) cs
-
--- the same of the table
+-- the table with its records' offsets
 unfoldable pub listing : List ℕ → List Entry
 listing img = gathered format1 (λ x. page_entries img x) (λ x. []) img (height_of img (root_of img)) (root_of img)
 

@@ -1,12 +1,15 @@
 // The calls: format, check, lookup with its companion, and next key.
-ghost use Rattle.std.specs.Prelude.{◌≡◌, Ok, Err, MatchResult};
+ghost use Rattle.std.specs.Prelude.{◌≡◌, ℕ, true, replicate, Ok, Err, MatchResult};
+ghost use Rattle.image.specs.Descent.{root_read};
+ghost use Rattle.image.specs.Marks.{Marked};
 ghost use Rattle.image.specs.Calls.{format_call, root_call, index_call, check_call, ranged, lookup_call, value_call, next_call};
 
 use crate::descent::Indexed;
 use crate::format::put_fresh;
+use crate::node::index_ok;
 use crate::page_zero::page_zero;
 use crate::pages::TOP_KEY;
-use crate::tree::{index_ok, tree_ok};
+use crate::tree::tree_ok;
 use crate::{PageZero, Part};
 use device::{Cause, Refusal, is_image_size};
 
@@ -36,12 +39,14 @@ pub fn root_in(image: &[u8]) -> Result<usize, Refusal>
     }
 }
 
-// The image with its root, by page 0 and the index: what every reading call reads first.
-pub fn index_in(image: &[u8]) -> Result<Indexed<'_>, Refusal>
-    ensures { MatchResult result (λ x. (x.image.now ≡ image.now) × (index_call image.now ≡ Ok x.root)) (λ e. index_call image.now ≡ Err e) }
+// The image with its root, by page 0 and the root page: what every reading call reads first. The marks stand for what is read then.
+pub fn index_in<'a>(image: &'a [u8], marks: &mut [u8]) -> Result<Indexed<'a>, Refusal>
+    requires { marks.now ≡ replicate 64 0 }
+    ensures value { MatchResult result (λ x. (x.image.now ≡ image.now) × (index_call image.now ≡ Ok x.root)) (λ e. index_call image.now ≡ Err e) }
+    ensures marks_after { (root : ℕ) → index_call image.now ≡ Ok root → Marked image.now root (root_read root) marks.new }
 {
     let root = root_in(image)?;
-    if !index_ok(image, root) {
+    if !index_ok(image, root, marks) {
         return Err(Refusal::of(Cause::Unsound));
     }
     Ok(Indexed { image, root })
@@ -75,7 +80,8 @@ fn ranged(key: u64, found: Option<Part>) -> Result<Option<Part>, Refusal>
 pub fn lookup(image: &[u8], key: u64) -> Result<Option<Part>, Refusal>
     ensures { result ≡ lookup_call image.now key }
 {
-    let found = index_in(image)?.find_key(key)?;
+    let mut marks = [0u8; 64];
+    let found = index_in(image, &mut marks)?.find_key(&mut marks, key)?;
     ranged(key, found)
 }
 
@@ -97,5 +103,6 @@ pub fn value(image: &[u8], key: u64) -> &[u8]
 pub fn next_key(image: &[u8], key: u64) -> Result<Option<u64>, Refusal>
     ensures { result ≡ next_call image.now key }
 {
-    index_in(image)?.next_above(key)
+    let mut marks = [0u8; 64];
+    index_in(image, &mut marks)?.next_above(&mut marks, key)
 }

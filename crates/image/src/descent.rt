@@ -1,20 +1,24 @@
-// One descent from the root to a leaf, and what the leaf answers. The index is sound; the leaf is judged as it is read.
-ghost use Rattle.std.specs.Prelude.{◌≡◌, true, Ok, map, ◌+◌, ◌*◌, ◌≤◌, ◌<◌, length, get_or};
-ghost use Rattle.page.specs.Layout.{page_size, leaf_kind, index_kind, top_key};
+// One descent from the root to a leaf, and what the leaf answers. The root is sound by itself; the other pages are judged as they are read. The steps are put into
+// their callers, as the judging of a page is (`node`).
+ghost use Rattle.std.specs.Prelude.{◌≡◌, true, Ok, ℕ, List, map, ◌+◌, ◌*◌, ◌≤◌, ◌<◌, length, get_or};
+ghost use Rattle.device.specs.Calls.{is_image_size};
+ghost use Rattle.page.specs.Layout.{leaf_kind, top_key};
 ghost use Rattle.page.specs.Page.{records, entries, page_ok, keys_rise};
-ghost use Rattle.image.specs.PageZero.{root_of};
+ghost use Rattle.page.specs.Operations.{page_of};
+ghost use Rattle.image.specs.PageZero.{root_of, page_count, is_page};
 ghost use Rattle.image.specs.Image.{places};
 ghost use Rattle.image.specs.Table.{in_image, found_in, above};
 ghost use Rattle.image.specs.Route.{route};
-ghost use Rattle.image.specs.Descent.{leaf_for, leaf_sound};
-ghost use Rattle.image.specs.Calls.{index_call, leaf_lookup, leaf_next, next_from};
+ghost use Rattle.image.specs.Descent.{root_read};
+ghost use Rattle.image.specs.Calls.{index_call, leaf_lookup, next_from};
+ghost use Rattle.image.specs.Marks.{NodePage, Marked, IsMarked, ReadBy, WayBy, LeafBy};
 
-use crate::tree::{leaf_ok, sep_after};
-use crate::{Part, Place, pages};
+use crate::node::{height_of, leaf_ok, node_ok, sep_after};
+use crate::{LeafPlace, Part, Place, pages};
 use device::{Cause, Refusal};
 use page::laid::Page;
 
-// An image whose page 0 and index were read and found sound, with the number of its root.
+// An image whose page 0 and root page were read and found sound, with the root's number.
 #[derive(Clone, Copy)]
 pub struct Indexed<'a> {
     pub image: &'a [u8],
@@ -46,10 +50,11 @@ pub fn route(page: Page, key: u64) -> usize
     }
 }
 
-// One step down, from an index page with its range to the page that a key belongs to with its own: the first page in it takes the start of the
+// One step down, from a page above the leaves with its range to the page that a key belongs to with its own: the first page in it takes the start of the
 // range, the last its end.
+#[inline(always)]
 pub fn down(page: &[u8], at: Place, key: u64) -> Place
-    requires { (page_ok index_kind at.page page.now ≡ true) × (1 ≤ length (records page.now)) }
+    requires { NodePage at.page page.now }
     ensures { result ≡ get_or (places at.from (records page.now) at.below) (route key (records page.now)) at }
 {
     let page = Page { bytes: page };
@@ -104,62 +109,101 @@ pub fn next_in(page: Page, key: u64) -> Option<u64>
     }
 }
 
+// Reads the page at a place, of this height above the leaves: it is judged unless it was read before.
+#[inline(always)]
+pub fn read_node(image: &[u8], height: usize, at: Place, marks: &mut [u8]) -> bool
+    requires { (is_image_size (length image.now) ≡ true) × (is_page (page_count image.now) at.page ≡ true) × (1 ≤ height) × (height ≤ 2) × (length marks.now ≡ 64) × (get_or marks.now at.page 0 ≡ 0 → ⊥) }
+    ensures { ReadBy image.now height at marks.old result marks.new }
+{
+    if marks[at.page] == 2 {
+        return true;
+    }
+    if !node_ok(image, height, at, marks) {
+        return false;
+    }
+    marks[at.page] = 2;
+    true
+}
+
 impl Indexed<'_> {
-    // The leaf that a key belongs to.
-    pub fn leaf_for(&self, key: u64) -> Place
-        ensures { result ≡ leaf_for self.now.image.now self.now.root key }
+    // The way of a key down to its leaf: each page above the leaves is judged as it is read, with what was read before.
+    #[inline(always)]
+    pub fn way_to(&self, marks: &mut [u8], key: u64) -> Option<LeafPlace>
+        requires { IsMarked self.now.image.now self.now.root marks.now }
+        ensures { WayBy self.now.image.now self.now.root key marks.old result marks.new }
     {
-        let top = Place {
+        let mut place = Place {
             page: self.root,
             from: 0,
             below: pages::KEYS_END,
         };
-        down(pages::page_of(self.image, self.root), top, key)
-    }
-
-    // Whether the leaf at a place is sound.
-    pub fn leaf_sound(&self, leaf: Place) -> bool
-        requires { page_size * leaf.page + page_size ≤ length self.now.image.now }
-        ensures { result ≡ leaf_sound self.now.image.now self.now.root leaf }
-    {
-        let only = pages::laid_page(self.image, self.root).count() == 1;
-        leaf_ok(self.image, only, leaf.from, leaf.below, leaf.page)
-    }
-
-    // Judges the one leaf that a key belongs to, and looks the key up in it.
-    pub fn find_key(&self, key: u64) -> Result<Option<Part>, Refusal>
-        ensures { result ≡ leaf_lookup self.now.image.now self.now.root key }
-    {
-        let leaf = self.leaf_for(key);
-        if !self.leaf_sound(leaf) {
-            return Err(Refusal::of(Cause::Unsound));
+        let mut only = true;
+        let mut height = height_of(self.image, self.root);
+        while 0 < height {
+            if !read_node(self.image, height, place, marks) {
+                return None;
+            }
+            let page = pages::page_of(self.image, place.page);
+            only = only && Page { bytes: page }.count() == 1;
+            place = down(page, place, key);
+            height -= 1;
         }
-        Ok(find_in(pages::page_of(self.image, leaf.page), leaf.page, key))
+        Some(LeafPlace { only, place })
     }
 
-    // Judges the leaf at a place, and takes its smallest key above a number.
-    pub fn next_at(&self, key: u64, leaf: Place) -> Result<Option<u64>, Refusal>
-        requires { page_size * leaf.page + page_size ≤ length self.now.image.now }
-        ensures { result ≡ leaf_next self.now.image.now self.now.root key leaf }
+    // The way of a key and its leaf, which is judged too.
+    #[inline(always)]
+    pub fn leaf_read(&self, marks: &mut [u8], key: u64) -> Result<LeafPlace, Refusal>
+        requires { IsMarked self.now.image.now self.now.root marks.now }
+        ensures { LeafBy self.now.image.now self.now.root key marks.old result marks.new }
     {
-        if !self.leaf_sound(leaf) {
-            return Err(Refusal::of(Cause::Unsound));
+        match self.way_to(marks, key) {
+            Some(leaf) => {
+                let at = leaf.place;
+                if !leaf_ok(self.image, leaf.only, at.from, at.below, at.page) {
+                    return Err(Refusal::of(Cause::Unsound));
+                }
+                Ok(leaf)
+            }
+            None => Err(Refusal::of(Cause::Unsound)),
         }
+    }
+
+    // Looks a key up in the one leaf that it belongs to.
+    #[inline(always)]
+    pub fn find_key(&self, marks: &mut [u8], key: u64) -> Result<Option<Part>, Refusal>
+        requires { IsMarked self.now.image.now self.now.root marks.now }
+        ensures { (nodes : List ℕ) → Marked self.now.image.now self.now.root nodes marks.old → result ≡ leaf_lookup self.now.image.now self.now.root nodes key }
+    {
+        let own = self.leaf_read(marks, key)?.place.page;
+        Ok(find_in(pages::page_of(self.image, own), own, key))
+    }
+
+    // The smallest key of a leaf above a number.
+    #[inline(always)]
+    fn next_at(&self, own: usize, key: u64) -> Option<u64>
+        requires { (is_page (page_count self.now.image.now) own ≡ true) × (page_ok leaf_kind own (page_of self.now.image.now own) ≡ true) }
+        ensures { Ok result ≡ above key (records (page_of self.now.image.now own)) }
+    {
         if pages::TOP_KEY <= key {
-            return Ok(None);
+            return None;
         }
-        Ok(next_in(pages::laid_page(self.image, leaf.page), key))
+        next_in(pages::laid_page(self.image, own), key)
     }
 
     // The smallest key above a number: in the leaf that it belongs to, and only if that has none, in the leaf after it.
-    pub fn next_above(&self, key: u64) -> Result<Option<u64>, Refusal>
+    pub fn next_above(&self, marks: &mut [u8], key: u64) -> Result<Option<u64>, Refusal>
+        requires { Marked self.now.image.now self.now.root (root_read self.now.root) marks.now }
         ensures { result ≡ next_from self.now.image.now key (Ok self.now.root) }
     {
-        let leaf = self.leaf_for(key);
-        match self.next_at(key, leaf)? {
+        let leaf = self.leaf_read(marks, key)?.place;
+        match self.next_at(leaf.page, key) {
             Some(next) => Ok(Some(next)),
             None if pages::TOP_KEY < leaf.below => Ok(None),
-            None => self.next_at(key, self.leaf_for(leaf.below)),
+            None => {
+                let after = self.leaf_read(marks, leaf.below)?.place;
+                Ok(self.next_at(after.page, key))
+            }
         }
     }
 }

@@ -4,6 +4,7 @@
 pub mod calls;
 pub mod descent;
 pub mod format;
+pub mod node;
 pub mod page_zero;
 pub mod pages;
 pub mod tree;
@@ -25,6 +26,20 @@ pub struct Place {
     pub page: usize,
     pub from: u64,
     pub below: u64,
+}
+
+// The leaf that a way from the root comes to, and whether each page on the way names one page alone.
+#[derive(Clone, Copy)]
+pub struct LeafPlace {
+    pub only: bool,
+    pub place: Place,
+}
+
+// The leaves of an image, in order: their pages, as many as `count`.
+#[derive(Clone, Copy)]
+pub struct Leaves {
+    pub pages: [u8; 64],
+    pub count: usize,
 }
 
 // A part of a lent slice: the offset of its first byte, and its length.

@@ -13,6 +13,8 @@ pub const LEAF: u8 = 1;
 
 pub const INDEX: u8 = 2;
 
+pub const TOP: u8 = 3;
+
 // The largest key, and the largest separator.
 pub const TOP_KEY: u64 = 999999999999;
 

@@ -19,8 +19,8 @@ use Rattle.image.specs.PageZero.{page_count, is_page, root_of}
 use Rattle.image.specs.Image.{reached, among, distinct, sound}
 use Rattle.image.proofs.General.{part-part}
 use Rattle.image.proofs.Zero.{is_page-true, true-is_page, ready-facts}
-use Rattle.image.proofs.Soundness.{sound-facts, sound-tree}
-use Rattle.image.proofs.Frame.{Reached, tree-reached}
+use Rattle.image.proofs.Soundness.{sound-tree_in}
+use Rattle.image.proofs.Frame.{Reached, tree_in-reached}
 use Rattle.journal.specs.Changes.{header_line, changed_from, changed_pages}
 use Rattle.journal.specs.Log.{own_page}
 
@@ -28,7 +28,7 @@ use Rattle.journal.specs.Log.{own_page}
 
 module _ (img : List ℕ) (s : sound img ≡ true) (p : ℕ) (h : among p (reached img (root_of img)) ≡ true) where
   reached-facts : Reached img p
-  reached-facts = tree-reached img (root_of img) (ready-facts img (root_of img) (sound-facts img s).zero).page (sound-tree img (sound-facts img s)) p h
+  reached-facts = tree_in-reached img (root_of img) (sound-tree_in img s) p h
 
   pub reached-page : is_page (page_count img) p ≡ true
   reached-page = reached-facts.page

@@ -1,68 +1,27 @@
 -- How many leaves the records of two books fill: one leaf at a time, by what is left of both.
 -- Assumes nothing.
 use Rattle.std.specs.Prelude.{Result, Err, Ok}
-use Prim.Native.Nat.{ℕ, suc, ◌+◌, ◌-◌, ◌*◌, ◌≤◌, ◌<◌}
+use Prim.Native.Nat.{ℕ, suc, ◌+◌, ◌-◌, ◌≤◌, ◌<◌}
 use mathlib.Core.Path.{◌≡◌, refl, sym, ap, ◌∙◌}
 use mathlib.Core.Bool.{Bool, true, false}
 use mathlib.Core.List.{List, [], ◌∷◌, ◌++◌}
 use native.Mathlib.Omega.{arith}
-use lib.ListN.{length, length-append}
-use lib.Dec.{ltb}
+use lib.ListN.{length}
 use Rattle.device.specs.declared.Refusal.{Refusal}
 use Rattle.device.specs.Calls.{key_in_both, refusal}
 use Rattle.codec.specs.Lists.{pick}
-use Rattle.page.specs.Layout.{page_size, line_size, slot_count, leaf_kind, top_key, Rec, rec_of, size}
-use Rattle.page.specs.Page.{records}
-use Rattle.page.specs.Operations.{sizes, OnePage, page_of}
-use Rattle.page.proofs.Facts.{page_ok-true}
-use Rattle.page.proofs.Listed.{few-listed}
+use Rattle.page.specs.Layout.{page_size, line_size, top_key, Rec, size}
+use Rattle.page.specs.Operations.{sizes, OnePage}
 use Rattle.page.proofs.Totals.{size-most, one-page, two-pages}
-use Rattle.image.specs.PageZero.{root_of}
-use Rattle.image.specs.Image.{child_of, children, next_sep, sound}
-use Rattle.image.specs.Facts.{Leaves}
-use Rattle.image.specs.Table.{leaf_records, table}
-use Rattle.image.proofs.OneHeight.{table-one}
-use Rattle.image.proofs.Soundness.{sound-facts}
-use Rattle.edit.specs.Ledger.{add}
+use Rattle.image.specs.Image.{sound}
+use Rattle.image.specs.Table.{table}
 use Rattle.merge.specs.Tables.{merged, apart}
 use Rattle.merge.specs.Leaves.{packed, leaves_of}
 use Rattle.merge.specs.Cursors.{Ready, left_of, apart_at, Passed, takes}
 use Rattle.merge.specs.declared.Cursors.{Cursors}
-use Rattle.merge.proofs.Standing.{few-leaves}
+use Rattle.merge.proofs.Bounds.{few-merged}
 use Rattle.merge.proofs.Coming.{next_of, ends-none, same-twice, next-ok, passed_is}
 use Rattle.merge.proofs.Packing.{length_last, sizes-last, fits-takes, one-alone, packed-end, packed-takes, packed-closes}
-
--- ---- how many records there are
-
-length-add : (k : ℕ) (v : List ℕ) (t : List Rec) → length (add k v t) ≡ suc (length t)
-unfolding add
-length-add k v [] = refl
-length-add k v (r ∷ t) = go (ltb k r.key) (length-add k v t)
-  where
-    go : (b : Bool) → length (add k v t) ≡ suc (length t) → length (pick b (rec_of k v ∷ r ∷ t) (r ∷ add k v t)) ≡ suc (suc (length t))
-    go true e = refl
-    go false e = ap suc e
-
-length_merged : (t u : List Rec) → length (merged t u) ≡ length t + length u
-unfolding merged
-length_merged t [] = omega arith
-length_merged t (r ∷ u) = omega (arith, length_merged (add r.key r.value t) u, length-add r.key r.value t)
-
-few-records : (img : List ℕ) (only : Bool) (lo : ℕ) (cs : List Rec) → Leaves img only lo cs → length (leaf_records img cs) ≤ slot_count * length cs
-unfolding leaf_records
-few-records img only lo [] k = omega arith
-few-records img only lo (c ∷ cs) k =
-    let p = page_of img (child_of c) in
-    omega (
-      arith,
-      length-append (records p) (leaf_records img cs),
-      few-listed p (page_ok-true leaf_kind (child_of c) p k.0.page).laid,
-      few-records img only (next_sep cs) cs k.1,
-    )
-
--- 28 leaves of 28 records
-table-few : (img : List ℕ) → sound img ≡ true → length (table img) ≤ 784
-table-few img h = omega (arith, ap length (table-one img), few-records img _ 0 (children img (root_of img)) (sound-facts img h).leaves, few-leaves img h _ refl)
 
 -- ---- counting leaves
 
@@ -82,7 +41,7 @@ pub record Counting (a b : List ℕ) (at : Cursors) (leaves n s : ℕ) : Type 0 
   pub count : n ≡ length last
   pub sum : s ≡ sizes last
   pub whole : leaves + length (packed last (left_of a b at)) ≡ 1 + length (leaves_of (merged (table a) (table b)))
-  pub few : leaves + length (left_of a b at) ≤ 1569
+  pub few : leaves + length (left_of a b at) ≤ 3585
 
 pub count-starts : {a b : List ℕ} {at : Cursors} → (sound a ≡ true) × (sound b ≡ true) →
     Ready a b at × (left_of a b at ≡ merged (table a) (table b)) × (apart_at a b at ≡ apart (table a) (table b)) → Counting a b at 1 0 0
@@ -96,7 +55,7 @@ count-starts {a = a} {b = b} h k =
       count = refl;
       sum = refl;
       whole = ap (λ (l : List Rec). 1 + length (packed [] l)) k.1;
-      few = omega (arith, ap length k.1, length_merged (table a) (table b), table-few a h.0, table-few b h.1);
+      few = omega (arith, ap length k.1, few-merged a b h.0 h.1);
     }
 
 module _ {a b : List ℕ} {at : Cursors} {leaves n s : ℕ} (k : Counting a b at leaves n s) where

@@ -1,4 +1,4 @@
--- The definitions, computed: how many records each leaf takes, and two small tables into one.
+-- The definitions, computed: how many records each leaf takes, how many pages stand above the leaves, and two small tables into one.
 -- Assumes nothing.
 use Prim.Native.Nat.{ℕ, zero, suc}
 use mathlib.Core.Path.{◌≡◌, refl, ap, ◌∙◌}
@@ -10,6 +10,7 @@ use Rattle.codec.specs.Lists.{all_b}
 use Rattle.page.specs.Layout.{Rec, rec_of, up8, size}
 use Rattle.page.specs.Operations.{sizes}
 use Rattle.image.specs.Table.{find}
+use Rattle.image.specs.Fresh.{index_count, pages_above}
 use Rattle.edit.specs.Ledger.{add}
 use Rattle.edit.specs.Keys.{holds}
 use Rattle.merge.specs.Tables.{merged, apart}
@@ -53,6 +54,16 @@ just-fits = refl
 just-passes : map length (leaves_of (rising 4 1 200 ++ rising 1 5 81)) ≡ 4 ∷ 1 ∷ []
 unfolding leaves_of packed rising sizes size up8
 just-passes = refl
+
+-- ---- the pages above n leaves: one up to 28, then a top page over index pages of 28 leaves each
+
+alone : map pages_above (1 ∷ 28 ∷ []) ≡ 1 ∷ 1 ∷ []
+unfolding pages_above index_count
+alone = refl
+
+topped : map pages_above (29 ∷ 56 ∷ 57 ∷ 784 ∷ []) ≡ 3 ∷ 3 ∷ 4 ∷ 29 ∷ []
+unfolding pages_above index_count
+topped = refl
 
 -- ---- tables
 

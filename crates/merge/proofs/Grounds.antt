@@ -1,7 +1,7 @@
 -- What merge answers: each refusal where its ground is the first that holds, and acceptance where none does.
 -- Assumes nothing.
 use Rattle.std.specs.Prelude.{Err, Ok}
-use Prim.Native.Nat.{ℕ, ◌+◌, ◌-◌, ◌≤◌, ◌<◌}
+use Prim.Native.Nat.{ℕ, suc, ◌+◌, ◌-◌, ◌≤◌, ◌<◌}
 use mathlib.Core.Path.{◌≡◌, refl, sym, ap, ◌∙◌, subst}
 use mathlib.Core.Bool.{Bool, true, false, true≢false}
 use mathlib.Core.List.{List}
@@ -9,15 +9,17 @@ use native.Mathlib.Omega.{arith}
 use native.Mathlib.Decide.{dec_lt}
 use lib.ListN.{length}
 use borrow.Author.Tests.{le-leb, lt-leb}
-use Rattle.codec.specs.Lists.{All}
-use Rattle.device.specs.Calls.{is_image_size, Ran, accepted, refused, unless, Answer}
-use Rattle.page.specs.Layout.{slot_count, Rec}
+use Rattle.codec.specs.Lists.{pick, All}
+use Rattle.device.specs.Calls.{number_of, is_image_size, Ran, accepted, refused, refusal, refusal_at, unless, Answer}
+use Rattle.page.specs.Layout.{Rec}
 use Rattle.page.specs.Page.{RecOk}
-use Rattle.image.specs.PageZero.{page_count}
-use Rattle.image.specs.Image.{sound}
+use Rattle.image.specs.PageZero.{page_count, page_zero}
+use Rattle.image.specs.declared.PageZero.{PageZero}
+use Rattle.image.specs.declared.PageZero.TheVariants.{Wrong, Waiting, Ready}
+use Rattle.image.specs.Image.{tree_ok, sound}
 use Rattle.image.specs.Table.{table}
-use Rattle.image.specs.Fresh.{Storable, stored}
-use Rattle.image.specs.Calls.{check_call}
+use Rattle.image.specs.Fresh.{index_count, pages_above, Storable, stored}
+use Rattle.image.specs.Calls.{root_from, root_call, check_from, check_call}
 use Rattle.image.proofs.Answers.{check_sound}
 use Rattle.image.proofs.Order.{table-rising, table-ok}
 use Rattle.merge.specs.Tables.{merged, apart, Joins}
@@ -27,6 +29,7 @@ use Rattle.merge.specs.Says.{Begun, Filling, MergeSays, bad-buffer, bad-first, b
 use Rattle.merge.proofs.Tables.{All-merged}
 use Rattle.merge.proofs.Joined as joined
 use Rattle.merge.proofs.Packing.{packed-is, is-packed, packed-storable}
+use Rattle.merge.proofs.Bounds.{leaves-few, indexes-few, indexes-fit, indexes-pass, above-is, above-only, above-some}
 
 -- ---- the tables of two books that are sound
 
@@ -37,22 +40,22 @@ module _ (a b : List ℕ) (one : sound a ≡ true) (two : sound b ≡ true) wher
   both-joins : apart (table a) (table b) ≡ true → Joins (table a) (table b) (merged (table a) (table b))
   both-joins h = joined.merged-joins (table a) (table b) (table-rising a one) (table-rising b two) h
 
-  -- a store can be made of their leaves, if they are not too many
-  pub both-storable : apart (table a) (table b) ≡ true → length (leaves_of (merged (table a) (table b))) ≤ slot_count → Storable (leaves_of (merged (table a) (table b)))
-  both-storable h few = packed-storable (merged (table a) (table b)) both_ok (both-joins h).rising few
+  -- a store can be made of their leaves
+  pub both-storable : apart (table a) (table b) ≡ true → Storable (leaves_of (merged (table a) (table b)))
+  both-storable h = packed-storable (merged (table a) (table b)) both_ok (both-joins h).rising (indexes-few a b one two both_ok)
 
--- ---- room for the leaves
+-- ---- room for the leaves and the pages above them
 
 module _ (ls : List (List Rec)) (out : List ℕ) where
-  pub store_many : 28 < length ls → store_leaves ls out ≡ refused 10 out
+  pub store_many : 28 < index_count (length ls) → store_leaves ls out ≡ refused 10 out
   unfolding store_leaves unless
   store_many many = rw lt-leb
 
-  pub store-short : length ls ≤ 28 → page_count out < length ls + 2 → store_leaves ls out ≡ refused 11 out
+  pub store-short : index_count (length ls) ≤ 28 → page_count out < suc (pages_above (length ls) + length ls) → store_leaves ls out ≡ refused 11 out
   unfolding store_leaves unless
   store-short few short = rw (le-leb, lt-leb)
 
-  pub store-fits : length ls ≤ 28 → length ls + 2 ≤ page_count out → store_leaves ls out ≡ accepted (stored (page_count out) ls)
+  pub store-fits : index_count (length ls) ≤ 28 → suc (pages_above (length ls) + length ls) ≤ page_count out → store_leaves ls out ≡ accepted (stored (page_count out) ls)
   unfolding store_leaves unless
   store-fits few fit = rw (le-leb, le-leb)
 
@@ -101,9 +104,9 @@ module _ (a b out : List ℕ) where
   says-merge _ (bad-first e r c) = rw (e, c)
   says-merge _ (bad-second e one r c) = rw (e, one, c)
   says-merge _ (in_both B i) = begun-call B ∙ rw (joined.both-in (table a) (table b) i)
-  says-merge _ (no_index ls f many) = filled-call ls f ∙ store_many ls out many
-  says-merge _ (no-pages ls f few short) = filled-call ls f ∙ store-short ls out few (omega (arith, short))
-  says-merge _ (merges ls f few fit) = filled-call ls f ∙ store-fits ls out few (omega (arith, fit))
+  says-merge _ (no_index ls f many) = filled-call ls f ∙ store_many ls out (indexes-pass (length ls) many)
+  says-merge _ (no-pages ls f few m above short) = filled-call ls f ∙ store-short ls out (indexes-fit (length ls) few) (omega (arith, short, above-only (length ls) m above))
+  says-merge _ (merges ls f few m above fit) = filled-call ls f ∙ store-fits ls out (indexes-fit (length ls) few) (omega (arith, fit, above-only (length ls) m above, above-some (length ls) m above))
 
   -- ---- and one of them holds
 
@@ -111,12 +114,12 @@ module _ (a b out : List ℕ) where
   told r s = subst (MergeSays a b out) (sym (says-merge r s)) s
 
   room_says : (ls : List (List Rec)) → Filling a b out ls → MergeSays a b out (merge_call a b out)
-  room_says ls f = go (dec_lt 28 (length ls)) (dec_lt (page_count out - 1) (1 + length ls))
+  room_says ls f = go (dec_lt 784 (length ls)) (dec_lt (page_count out - 1) (pages_above (length ls) + length ls))
     where
-      go : Dec (28 < length ls) → Dec (page_count out - 1 < 1 + length ls) → MergeSays a b out (merge_call a b out)
+      go : Dec (784 < length ls) → Dec (page_count out - 1 < pages_above (length ls) + length ls) → MergeSays a b out (merge_call a b out)
       go (yes many) d = told _ (no_index ls f many)
-      go (no h) (yes short) = told _ (no-pages ls f (omega arith) short)
-      go (no h) (no k) = told _ (merges ls f (omega arith) (omega arith))
+      go (no h) (yes short) = told _ (no-pages ls f (omega arith) (pages_above (length ls)) (above-is (length ls)) short)
+      go (no h) (no k) = told _ (merges ls f (omega arith) (pages_above (length ls)) (above-is (length ls)) (omega arith))
 
   begun-says : Begun a b out → (t : Bool) → apart (table a) (table b) ≡ t → MergeSays a b out (merge_call a b out)
   begun-says B true e = room_says (leaves_of (merged (table a) (table b))) (fills B e)
@@ -130,3 +133,34 @@ module _ (a b out : List ℕ) where
       go true size (Err r) one d two = told _ (bad-first size r one)
       go true size (Ok done) one (Err r) two = told _ (bad-second size one r two)
       go true size (Ok done) one (Ok also) two = begun-says (record { size = size; first = one; second = two }) (apart (table a) (table b)) refl
+
+  -- ---- "10 .. is shown never to occur"
+
+  checks-few : (img : List ℕ) → number_of (check_call img) ≤ 4
+  unfolding check_call root_call check_from root_from
+  checks-few img = go (is_image_size (length img)) (page_zero img)
+    where
+      tree : (t : Bool) → number_of (pick {A = Answer} t (Ok tt) (Err (refusal 4))) ≤ 4
+      tree true = omega arith
+      tree false = omega arith
+
+      go : (s : Bool) (z : PageZero) → number_of (check_from img (pick s (root_from z) (Err (refusal 1)))) ≤ 4
+      go false z = omega arith
+      go true Wrong = omega arith
+      go true (Waiting k root) = omega arith
+      go true (Ready root) = tree (tree_ok img root)
+
+  pub merge-never-ten : (merge_call a b out).answer ≡ Err (refusal_at 10 0) → ⊥
+  merge-never-ten e = go (merge_call a b out) merge-says (ap (λ (x : Answer). number_of x) e)
+    where
+      go : (r : Ran) → MergeSays a b out r → number_of r.answer ≡ 10 → ⊥
+      go _ (bad-buffer _) n = omega (arith, n)
+      go _ (bad-first _ r c) n = omega (arith, n, checks-few a, ap (λ (x : Answer). number_of x) c)
+      go _ (bad-second _ _ r c) n = omega (arith, n, checks-few b, ap (λ (x : Answer). number_of x) c)
+      go _ (in_both _ _) n = omega (arith, n)
+      go _ (no_index ls f many) n =
+          let one = check_sound a f.begun.first in
+          let two = check_sound b f.begun.second in
+          omega (arith, many, ap length (leaves-are ls f), leaves-few a b one two (both_ok a b one two))
+      go _ (no-pages _ _ _ _ _ _) n = omega (arith, n)
+      go _ (merges _ _ _ _ _ _) n = omega (arith, n)

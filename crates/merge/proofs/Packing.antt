@@ -16,7 +16,7 @@ use Rattle.page.specs.Page.{RecOk}
 use Rattle.page.specs.Operations.{sizes, fits_page, OnePage, TwoPages}
 use Rattle.page.proofs.Totals.{size-most, sizes-append, one-page, two-pages}
 use Rattle.image.specs.Facts.{Rising}
-use Rattle.image.specs.Fresh.{all_records, Storable}
+use Rattle.image.specs.Fresh.{index_count, all_records, Storable}
 use Rattle.image.proofs.General.{All-left, All-right}
 use Rattle.merge.specs.Leaves.{packed, leaves_of, Fullest, Packed}
 use Rattle.merge.specs.Cursors.{takes}
@@ -191,12 +191,12 @@ is-packed rs (l ∷ ls) p =
 
 -- ---- a store can be made of them
 
-all-parts : (P : Rec → Type 0) (ls : List (List Rec)) → All P (all_records ls) → All (All P) ls
+pub all-parts : (P : Rec → Type 0) (ls : List (List Rec)) → All P (all_records ls) → All (All P) ls
 unfolding all_records
 all-parts P [] h = tt
 all-parts P (l ∷ ls) h = (All-left P l (all_records ls) h, all-parts P ls (All-right P l (all_records ls) h))
 
-pub packed-storable : (rs : List Rec) → All RecOk rs → Rising 1 rs (suc top_key) → length (leaves_of rs) ≤ slot_count → Storable (leaves_of rs)
+pub packed-storable : (rs : List Rec) → All RecOk rs → Rising 1 rs (suc top_key) → index_count (length (leaves_of rs)) ≤ slot_count → Storable (leaves_of rs)
 packed-storable rs k up few =
     let p = packed-is rs k in
     record {

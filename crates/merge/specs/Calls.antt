@@ -1,20 +1,21 @@
--- What a merge answers, and what it leaves in the third buffer (document 02 (i)).
+-- What a merge answers, and what it leaves in the third buffer (document 02 (i) and (j)).
 -- Assumes nothing.
-use Rattle.std.specs.Prelude.{ℕ, ◌+◌, List, length, leb, Err, Ok}
+use Rattle.std.specs.Prelude.{ℕ, suc, ◌+◌, List, length, leb, Err, Ok}
 use Rattle.device.specs.Calls.{image_size, index_full, pages_out, key_in_both, is_image_size, Ran, accepted, unless, Answer}
 use Rattle.page.specs.Layout.{slot_count, Rec}
 use Rattle.image.specs.PageZero.{page_count}
 use Rattle.image.specs.Table.{table}
-use Rattle.image.specs.Fresh.{stored}
+use Rattle.image.specs.Fresh.{index_count, pages_above, stored}
 use Rattle.image.specs.Calls.{check_call}
 use Rattle.merge.specs.Tables.{merged, apart}
 use Rattle.merge.specs.Leaves.{leaves_of}
 
--- "10, then 11": more leaves than the index page names; page 1 and the leaves exceed the pages past page 0
+-- "10, then 11": "10 now means a 29th record in the top page" (document 02 (j)), of index pages that are "filled to 28 each"; 11 that the pages above the leaves and the leaves exceed the pages
+-- past page 0
 unfoldable pub store_leaves : List (List Rec) → List ℕ → Ran
 store_leaves ls out =
-    unless (leb (length ls) slot_count) index_full out
-    (unless (leb (length ls + 2) (page_count out)) pages_out out
+    unless (leb (index_count (length ls)) slot_count) index_full out
+    (unless (leb (suc (pages_above (length ls) + length ls)) (page_count out)) pages_out out
     (accepted (stored (page_count out) ls)))
 
 -- "20 if a key is in both"

@@ -1,14 +1,13 @@
 -- Places in two books, as the code goes through both in key order: what is left of each, and what its functions ask for and hand on.
 -- Assumes nothing.
 use Rattle.std.specs.Prelude.{ℕ, suc, ◌+◌, ◌-◌, ◌<◌, ◌≡◌, ◌⊎◌, Bool, true, false, ◌&&◌, List, [], ◌∷◌, ◌++◌, length, get_or, take, drop, ltb, leb}
-use Rattle.page.specs.Layout.{page_size, line_size, slot_count, leaf_kind, top_key, Rec, rec_of, size}
+use Rattle.page.specs.Layout.{page_size, line_size, slot_count, leaf_kind, top_key, Rec, size}
 use Rattle.page.specs.Page.{records}
 use Rattle.page.specs.Operations.{fill, page_of}
-use Rattle.image.specs.PageZero.{root_of}
-use Rattle.image.specs.Image.{child_of, children, first_key, sound}
-use Rattle.image.specs.Table.{leaf_records}
+use Rattle.image.specs.Image.{first_key, sound}
+use Rattle.image.specs.Table.{records_on}
 use Rattle.merge.specs.Tables.{merged, apart}
-use Rattle.merge.specs.Leaves.{packed}
+use Rattle.merge.specs.Leaves.{leaf_pages, packed}
 use Rattle.merge.specs.declared.Cursor.{Cursor}
 use Rattle.merge.specs.declared.Cursors.{Cursors}
 
@@ -16,13 +15,13 @@ use Rattle.merge.specs.declared.Cursors.{Cursors}
 
 -- what is left of the book's table at a place in it
 unfoldable pub left_at : List ℕ → Cursor → List Rec
-left_at img c = drop c.slot (records (page_of img c.page)) ++ leaf_records img (drop (suc c.leaf) (children img (root_of img)))
+left_at img c = drop c.slot (records (page_of img c.page)) ++ records_on img (drop (suc c.leaf) (leaf_pages img))
 
 -- a place in the book: in one of its leaves, at a record of it unless nothing is left; with the key of what comes next, or the end of all keys
 pub record Stands (img : List ℕ) (c : Cursor) : Type 0 where
   pub is_sound : sound img ≡ true
-  pub leaf : c.leaf < length (children img (root_of img))
-  pub page : c.page ≡ child_of (get_or (children img (root_of img)) c.leaf (rec_of 0 []))
+  pub leaf : c.leaf < length (leaf_pages img)
+  pub page : c.page ≡ get_or (leaf_pages img) c.leaf 0
   pub slot : (c.slot < length (records (page_of img c.page))) ⊎ (left_at img c ≡ [])
   pub key : c.key ≡ first_key (left_at img c) (suc top_key)
 

@@ -1,10 +1,17 @@
--- How many records each leaf takes (document 02 (i)).
+-- The leaves of a book, and how many records each leaf of two books takes (document 02 (i)).
 -- Assumes nothing.
-use Rattle.std.specs.Prelude.{◌+◌, ◌≤◌, ◌<◌, ◌≡◌, ◌⊎◌, List, [], ◌∷◌, ◌++◌, length}
+use Rattle.std.specs.Prelude.{ℕ, ◌+◌, ◌≤◌, ◌<◌, ◌≡◌, ◌⊎◌, List, [], ◌∷◌, ◌++◌, length}
 use Rattle.codec.specs.Lists.{pick, All}
 use Rattle.page.specs.Layout.{Rec, size}
+use Rattle.page.specs.PageFormat.{format1}
 use Rattle.page.specs.Operations.{sizes, fits_page}
+use Rattle.image.specs.PageZero.{root_of}
+use Rattle.image.specs.Image.{leaves_in, height_of}
 use Rattle.image.specs.Fresh.{all_records}
+
+-- the pages of the leaves of an image, in order, at both heights
+abbrev pub leaf_pages : List ℕ → List ℕ
+leaf_pages img = leaves_in format1 img (height_of img (root_of img)) (root_of img)
 
 -- "each as many as 28 records and 960 bytes allow": the leaf that has the records l takes the next of rs if they then still fit a page, by the transaction's own rule;
 -- else it is closed, and the next leaf starts with it

@@ -1,36 +1,39 @@
 // Two books, record by record, in key order.
 ghost use Rattle.std.specs.Prelude.{◌≡◌, true, [], suc, ◌<◌, length, get_or, take, drop};
+ghost use Rattle.codec.specs.Lists.{eqs};
 ghost use Rattle.page.specs.Layout.{page_size, top_key, rec_of, size};
 ghost use Rattle.page_edit.specs.Filling.{Room, Filled};
-ghost use Rattle.image.specs.PageZero.{root_of};
-ghost use Rattle.image.specs.Image.{child_of, children, sound};
-ghost use Rattle.image.specs.Table.{leaf_records, table};
+ghost use Rattle.image.specs.Image.{sound};
+ghost use Rattle.image.specs.Table.{records_on, table};
 ghost use Rattle.merge.specs.Tables.{merged, apart};
+ghost use Rattle.merge.specs.Leaves.{leaf_pages};
 ghost use Rattle.merge.specs.Cursors.{left_at, Stands, Ready, left_of, apart_at, Comes, Passed, takes_next};
 
 use crate::leaves::takes;
 use crate::{Cursor, Cursors};
-use image::descent::root_of;
 use image::pages;
 use page::header::Header;
 use page_edit::append_copy;
 
 // ---- one book
 
-// A sound image, read as a book. The places in it are no part of it: what says that a place is one has two cases (`Stands`), and a ghost field of
-// that needs a law in specs/, where no laws stand.
+// A sound image, read as a book, with the pages of its leaves, which are gathered once: no page above them is read again. The places in it are no part of it: what says
+// that a place is one has two cases (`Stands`), and a ghost field of that needs a law in specs/, where no laws stand.
 #[derive(Clone, Copy)]
 pub(crate) struct Book<'a> {
     pub(crate) image: &'a [u8],
+    pub(crate) leaves: &'a [u8],
     ghost is_sound: { sound image.now ≡ true },
+    ghost listed: { eqs leaves.now (leaf_pages image.now) ≡ true },
 }
 
 impl Book<'_> {
     // Before the first record of a leaf.
-    fn on_leaf(&self, leaf: usize, page: usize) -> Cursor
-        requires { (leaf < length (children self.now.image.now (root_of self.now.image.now))) × (page ≡ child_of (get_or (children self.now.image.now (root_of self.now.image.now)) leaf (rec_of 0 []))) }
-        ensures { Stands self.now.image.now result × (left_at self.now.image.now result ≡ leaf_records self.now.image.now (drop leaf (children self.now.image.now (root_of self.now.image.now)))) }
+    fn on_leaf(&self, leaf: usize) -> Cursor
+        requires { leaf < length (leaf_pages self.now.image.now) }
+        ensures { Stands self.now.image.now result × (left_at self.now.image.now result ≡ records_on self.now.image.now (drop leaf (leaf_pages self.now.image.now))) }
     {
+        let page = self.leaves[leaf] as usize;
         let p = pages::laid_page(self.image, page);
         let key = if p.count() == 0 {
             pages::KEYS_END
@@ -49,8 +52,7 @@ impl Book<'_> {
     fn begin(&self) -> Cursor
         ensures { Stands self.now.image.now result × (left_at self.now.image.now result ≡ table self.now.image.now) }
     {
-        let index = pages::laid_page(self.image, root_of(self.image));
-        self.on_leaf(0, pages::child_at(index, 0))
+        self.on_leaf(0)
     }
 
     // Past the record that comes next. No leaf after another is empty.
@@ -64,10 +66,9 @@ impl Book<'_> {
             let key = p.key_at(slot);
             return Cursor { slot, key, ..at };
         }
-        let index = pages::laid_page(self.image, root_of(self.image));
         let leaf = at.leaf + 1;
-        if leaf < index.count() {
-            return self.on_leaf(leaf, pages::child_at(index, leaf));
+        if leaf < self.leaves.len() {
+            return self.on_leaf(leaf);
         }
         Cursor {
             slot,

@@ -1,13 +1,13 @@
-// Leaves of the records of two books: how many there are, and their pages.
-ghost use Rattle.std.specs.Prelude.{◌≡◌, true, Ok, Err, [], ◌∷◌, ◌+◌, ◌*◌, ◌≤◌, ◌<◌, length, take};
+// Leaves of the records of two books: how many there are, their pages, and the pages above them.
+ghost use Rattle.std.specs.Prelude.{◌≡◌, true, Ok, Err, [], ◌∷◌, ◌+◌, ◌*◌, ◌≤◌, ◌<◌, length, take, map};
 ghost use Rattle.codec.specs.Lists.{pick, All};
 ghost use Rattle.device.specs.Calls.{refusal, key_in_both};
-ghost use Rattle.page.specs.Layout.{page_size, index_kind, top_key};
+ghost use Rattle.page.specs.Layout.{page_size, leaf_kind, index_kind, top_key};
 ghost use Rattle.page.specs.Operations.{fill};
 ghost use Rattle.page_edit.specs.Filling.{Room, Filled};
-ghost use Rattle.image.specs.Image.{index_rec, sound};
+ghost use Rattle.image.specs.Image.{index_rec, first_key, sound};
 ghost use Rattle.image.specs.Table.{table};
-ghost use Rattle.image.specs.Fresh.{separators, named, put_leaves};
+ghost use Rattle.image.specs.Fresh.{separators, named, index_count, in_pages, put_filled};
 ghost use Rattle.merge.specs.Tables.{merged, apart};
 ghost use Rattle.merge.specs.Leaves.{leaves_of};
 ghost use Rattle.merge.specs.Cursors.{takes, Ready, apart_at, LeafFilled};
@@ -71,25 +71,25 @@ pub(crate) fn fill_leaf(page: &mut [u8], own: usize, books: &Books<'_>, from: Cu
     at
 }
 
-// Fills the leaves into the pages from 2 on, one for each separator, and gives the separators: the first is 0, the others are smallest keys.
-pub(crate) fn fill_leaves(out: &mut [u8], seps: &mut [u64], books: &Books<'_>)
-    requires first_value { (length seps.old ≤ 28) × (page_size * (length seps.old + 2) ≤ length out.old) }
+// Fills the leaves into the pages from `first` on, one for each separator, and gives the separators: the first is 0, the others are smallest keys.
+pub(crate) fn fill_leaves(out: &mut [u8], first: usize, seps: &mut [u64], books: &Books<'_>)
+    requires first_value { page_size * (length seps.old + first) ≤ length out.old }
     requires second_value { (apart (table books.now.first.image.now) (table books.now.second.image.now) ≡ true) × (length seps.old ≡ length (leaves_of (merged (table books.now.first.image.now) (table books.now.second.image.now)))) }
-    ensures out_after { out.new ≡ put_leaves out.old 2 (leaves_of (merged (table books.now.first.image.now) (table books.now.second.image.now))) }
+    ensures out_after { out.new ≡ put_filled leaf_kind out.old first (leaves_of (merged (table books.now.first.image.now) (table books.now.second.image.now))) }
     ensures seps_after { seps.new ≡ separators (leaves_of (merged (table books.now.first.image.now) (table books.now.second.image.now))) }
 {
     let mut at = books.begin();
     let mut next = 0;
     for (i, sep) in seps.iter_mut().enumerate() {
         *sep = next;
-        let a = pages::PAGE_SIZE * (i + 2);
+        let a = pages::PAGE_SIZE * (i + first);
         let e = a + pages::PAGE_SIZE;
-        at = fill_leaf(&mut out[a..e], i + 2, books, at);
+        at = fill_leaf(&mut out[a..e], i + first, books, at);
         next = at.first.key.min(at.second.key);
     }
 }
 
-// Gives the index that is being filled the record of page k.
+// Gives the page that is being filled the record of page k.
 pub(crate) fn name_page(page: &mut [u8], h: Header, sep: u64, k: usize) -> Header
     requires { (length page.old ≡ page_size) × (sep ≤ top_key) × Room h (index_rec sep k ∷ []) }
     ensures { Filled h page.old (index_rec sep k ∷ []) result page.new }
@@ -99,14 +99,36 @@ pub(crate) fn name_page(page: &mut [u8], h: Header, sep: u64, k: usize) -> Heade
     append_new(page, h, sep, &value)
 }
 
-// Fills the index over the pages from 2 on, by their separators.
-pub(crate) fn fill_index(page: &mut [u8], seps: &[u64])
-    requires { (length page.old ≡ page_size) × (length seps.now ≤ 28) × All (λ s. s ≤ top_key) seps.now }
-    ensures { page.new ≡ fill page.old index_kind 1 (named 2 seps.now) }
+// Fills a page above the leaves with the records of the pages from k on, by their separators.
+pub(crate) fn fill_node(page: &mut [u8], kind: u8, own: usize, seps: &[u64], k: usize)
+    requires { (length page.old ≡ page_size) × (length seps.now ≤ 28) × All (λ s. s ≤ top_key) seps.now × (k ≤ 65536) }
+    ensures { page.new ≡ fill page.old kind own (named k seps.now) }
 {
-    let mut h = Header::unused(pages::INDEX, 1);
+    let mut h = Header::unused(kind, own);
     for (i, sep) in seps.iter().enumerate() {
-        h = name_page(page, h, *sep, i + 2);
+        h = name_page(page, h, *sep, i + k);
     }
     h.write(page);
+}
+
+// Fills the index pages over the leaves, from page 2 on, 28 records each, and gives the first separator of each.
+pub(crate) fn fill_indexes(out: &mut [u8], tops: &mut [u64], seps: &[u64], first: usize)
+    requires { (page_size * (length tops.old + 2) ≤ length out.old) × (length tops.old ≡ index_count (length seps.now)) × All (λ s. s ≤ top_key) seps.now × (first + length seps.now ≤ 65536) }
+    ensures out_after { out.new ≡ put_filled index_kind out.old 2 (in_pages (length tops.old) (named first seps.now)) }
+    ensures tops_after { tops.new ≡ map (λ cs. first_key cs 0) (in_pages (length tops.old) (named first seps.now)) }
+{
+    for (i, top) in tops.iter_mut().enumerate() {
+        let at = 28 * i;
+        let end = (at + 28).min(seps.len());
+        *top = seps[at];
+        let a = pages::PAGE_SIZE * (i + 2);
+        let e = a + pages::PAGE_SIZE;
+        fill_node(
+            &mut out[a..e],
+            pages::INDEX,
+            i + 2,
+            &seps[at..end],
+            first + at,
+        );
+    }
 }

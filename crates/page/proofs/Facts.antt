@@ -1,6 +1,6 @@
 -- Each test of a page's layout holds exactly if its facts do.
 -- Assumes nothing.
-use Rattle.std.proofs.Common.{◌≡◌, ℕ, ◌≤◌, true, false, leb, ◌⊎◌, List, [], ◌∷◌, ◌++◌, map, length, drop, sym, refl, ap, ◌∙◌, inl, inr, arith, take-append-drop, ltb-true, lt-ltb, eq-eqb, eqb-true, le-leb, leb-true}
+use Rattle.std.proofs.Common.{◌≡◌, ◌==◌, ℕ, suc, ◌≤◌, true, false, leb, ◌⊎◌, List, [], ◌∷◌, ◌++◌, map, length, drop, sym, refl, ap, ◌∙◌, inl, inr, arith, take-append-drop, ltb-true, lt-ltb, eq-eqb, eqb-true, ne_eqb, le-leb, leb-true}
 use mathlib.Core.Bool.{or-true}
 use lib.ListN.{length-map}
 use Rattle.codec.specs.Lists.{all_b, All}
@@ -264,10 +264,14 @@ pub form-leaf : (r : Rec) → 1 ≤ r.key → form_ok leaf_kind r ≡ true
 unfolding form_ok
 form-leaf r h = le-leb _ _ h
 
-pub index-form : (r : Rec) → form_ok index_kind r ≡ true → length r.value ≡ 2
-unfolding form_ok
-index-form r t = eqb-true _ _ t
+-- a kind above a leaf's is not the leaf's
+not-leaf : (h : ℕ) → (suc (suc h) == leaf_kind) ≡ false
+not-leaf h = ne_eqb (suc (suc h)) leaf_kind (λ e. omega arith)
 
-pub form-index : (r : Rec) → length r.value ≡ 2 → form_ok index_kind r ≡ true
+pub index-form : (h : ℕ) (r : Rec) → form_ok (suc (suc h)) r ≡ true → length r.value ≡ 2
 unfolding form_ok
-form-index r h = eq-eqb _ _ h
+index-form h r t = eqb-true (length r.value) 2 (rw (not-leaf h) at t)
+
+pub form-index : (h : ℕ) (r : Rec) → length r.value ≡ 2 → form_ok (suc (suc h)) r ≡ true
+unfolding form_ok
+form-index h r k = rw (not-leaf h) (eq-eqb (length r.value) 2 k)

@@ -25,6 +25,10 @@ leaf_kind = 1
 abbrev pub index_kind : ℕ
 index_kind = 2
 
+-- "A top page, kind 3, in the index form" (document 02 (j))
+abbrev pub top_kind : ℕ
+top_kind = 3
+
 -- "Keys are 1 to 999,999,999,999": the largest key, and the largest separator
 abbrev pub top_key : ℕ
 top_key = 999999999999

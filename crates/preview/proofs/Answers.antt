@@ -7,7 +7,7 @@ use Prim.Native.Nat.{ℕ, ◌≤◌}
 use mathlib.Core.Path.{◌≡◌, refl, sym, ap, ◌∙◌, subst}
 use mathlib.Core.Logic.{◌⊎◌, inl, inr}
 use mathlib.Core.Bool.{Bool, true, false}
-use mathlib.Core.List.{List, [], ◌∷◌}
+use mathlib.Core.List.{List, [], ◌∷◌, ◌++◌, map}
 use lib.ListN.{length}
 use Rattle.preview.specs.declared.Preview.{Preview}
 use Rattle.image.specs.declared.Part.{Part}
@@ -19,30 +19,26 @@ use Rattle.page.specs.Layout.{Rec}
 use Rattle.image.specs.PageZero.{root_of}
 use Rattle.image.specs.Image.{sound}
 use Rattle.image.specs.Table.{table, listing, find, found_in}
-use Rattle.image.specs.Descent.{records_for}
-use Rattle.image.specs.Calls.{index_call, key_ok, leaf_lookup, lookup_from, lookup_call}
+use Rattle.image.specs.Descent.{root_read, nodes_after, records_for}
+use Rattle.image.specs.Calls.{index_call, key_ok, lookup_call}
 use Rattle.image.specs.Says.{Opened, ReadSound, ReadUnsound, read_records}
 use Rattle.image.proofs.General.{All-middle}
 use Rattle.image.proofs.KeyRange.{key_ok-true, true-key_ok, key_ok-false, false-key_ok}
-use Rattle.image.proofs.Read.{OpeningSays, opening-says, opened-call, not-opened-call, read-or-not, read-lookup, unsound-lookup, ranged-in}
-use Rattle.image.proofs.Says.{read-tells}
-use Rattle.image.proofs.Answers.{check_sound, sound-check, sound-opened, leaf-sound, records-sound, lookup-value, lookup-none}
+use Rattle.image.proofs.Read.{OpeningSays, opening-says, opened-call, not-opened-call, unsound-lookup, after-read-or-not}
+use Rattle.image.proofs.Answers.{check_sound, sound-check, sound-opened, lookup-after, records-sound, lookup-value, lookup-none}
 use Rattle.edit.specs.EditList.{Edit, insert, update, delete, key_of, Listed, listed, faulty, edit_list}
 use Rattle.edit.specs.Ledger.{apply_edits}
 use Rattle.edit.specs.Reads.{Filled, list_bytes, Whole}
 use Rattle.edit.specs.Keys.{wholly, keys_from, keys_read, AllKept, FirstBroken}
 use Rattle.edit.proofs.General.{by-test}
 use Rattle.edit.proofs.Parsing.{reads-filled, list-whole, whole-list, list-fault, fault-list}
-use Rattle.edit.proofs.Keys.{kept-keys, keys_kept, keys-fault, fault-keys, SameFor, Alike, keys-same}
-use Rattle.preview.specs.Calls.{in_image, brings, seen, rules_of, keys_of, list_of, opened_of, preview_call, part_of, preview_value_call}
+use Rattle.edit.proofs.Keys.{kept-keys, keys_kept, keys-fault, fault-keys, SameFor, wholly-steady, Alike, AllAlike, keys-same}
+use Rattle.preview.specs.Calls.{in_image, brings, seen, rules_of, keys_of, list_of, stored_after, opened_of, preview_call, part_of, preview_value_call}
 use Rattle.preview.specs.Says.{previewed, looked_up, held, bytes_in}
-use Rattle.preview.specs.Answers.{NoEdit, LastEdit, Asked, AskedSound, Answers, bad-image, bad-list, bad-key, bad-edit, in_list, deleted, bad-leaf, of_image, missing}
+use Rattle.preview.specs.Answers.{NoEdit, LastEdit, Asked, AskedSound, Answers, bad-image, bad-list, bad-key, bad-edit, in_list, deleted, bad-way, of_image, missing}
 use Rattle.preview.proofs.LastEdit.{no-edit, last-edit, last-or-none}
-use Rattle.preview.proofs.Shown.{Shows, seen-shows, sound-shows, Inside, seen-inside}
-
-all_of : {A : Type 0} (P : A → Type 0) → ((x : A) → P x) → (l : List A) → All P l
-all_of P f [] = tt
-all_of P f (x ∷ l) = (f x, all_of P f l)
+use Rattle.preview.proofs.ReadAgain.{records-steady}
+use Rattle.preview.proofs.Shown.{Shows, leaf-shows, seen-shows, sound-shows, Inside, seen-inside}
 
 -- the part of an answer, if it is one of the list, is not empty
 abbrev FilledPart : Result (Option Preview) Refusal → Type 0
@@ -60,13 +56,19 @@ shows-held img bytes (Ok None) x s = sym (ap held s)
 shows-held img bytes (Err r) x s = absurd s
 
 -- a leaf that is read is not refused
-read-answers : (img : List ℕ) (k root : ℕ) → ReadSound img k root → (s : Refusal) → leaf_lookup img root k ≡ Err s → ⊥
-read-answers img k root r s e = read-tells img k root r (Err s) (sym (read-lookup img k root r) ∙ e)
+read-answers : (img : List ℕ) (k root : ℕ) → Opened img root → (ks : List ℕ) → ReadSound img root (nodes_after img root (root_read root) ks) k → (s : Refusal) → stored_after img root k ks ≡ Err s → ⊥
+unfolding in_image
+read-answers img k root o ks r s e = subst (λ (a : Result (Option Part) Refusal). Shows img [] (find k (read_records r)) (in_image a)) e (leaf-shows img [] k root o ks r)
+
+-- one that is not sound is
+unsound-answers : (img : List ℕ) (k root : ℕ) (ks : List ℕ) → ReadUnsound img root (nodes_after img root (root_read root) ks) k → stored_after img root k ks ≡ Err (refusal 4)
+unfolding stored_after
+unsound-answers img k root ks u = unsound-lookup img root (nodes_after img root (root_read root) ks) k u
 
 module _ (img bytes : List ℕ) (k : ℕ) where
   -- ---- where nothing is refused
 
-  opened-list : (root : ℕ) → Opened img root → (es : List Edit) → Whole bytes es → preview_call img bytes k ≡ keys_of (records_for img root) (leaf_lookup img root k) k es
+  opened-list : (root : ℕ) → Opened img root → (es : List Edit) → Whole bytes es → preview_call img bytes k ≡ keys_of (records_for img root) (stored_after img root k) k es
   unfolding preview_call opened_of list_of
   opened-list root o es w = rw (opened-call img root o, whole-list bytes es w)
 
@@ -74,23 +76,18 @@ module _ (img bytes : List ℕ) (k : ℕ) where
     asked-ranged : key_ok k ≡ true
     asked-ranged = true-key_ok k A.low A.high
 
-    pub asked-call : preview_call img bytes k ≡ seen (leaf_lookup img root k) k es
+    pub asked-call : preview_call img bytes k ≡ seen (stored_after img root k (map key_of es)) k es
     unfolding keys_of rules_of
     asked-call = opened-list root A.opened es A.whole ∙ rw (asked-ranged, kept-keys 0 es (records_for img root) A.kept)
 
-    -- a key in range is looked up in its leaf
-    asked-lookup : lookup_call img k ≡ leaf_lookup img root k
-    unfolding lookup_call lookup_from
-    asked-lookup = rw (opened-call img root A.opened) (ranged-in k asked-ranged (leaf_lookup img root k))
-
     -- which of the two slices, and where
-    pub asked-none : NoEdit k es → preview_call img bytes k ≡ in_image (leaf_lookup img root k)
+    pub asked-none : NoEdit k es → preview_call img bytes k ≡ in_image (stored_after img root k (map key_of es))
     unfolding seen
-    asked-none h = asked-call ∙ no-edit k 0 (in_image (leaf_lookup img root k)) es h
+    asked-none h = asked-call ∙ no-edit k 0 (in_image (stored_after img root k (map key_of es))) es h
 
     pub asked-last : (l : LastEdit k es) → preview_call img bytes k ≡ brings (length (list_bytes l.before)) l.edit
     unfolding seen
-    asked-last l = asked-call ∙ last-edit k (in_image (leaf_lookup img root k)) es l
+    asked-last l = asked-call ∙ last-edit k (in_image (stored_after img root k (map key_of es))) es l
 
   -- ---- the cases, in the order of document 02
 
@@ -98,34 +95,36 @@ module _ (img bytes : List ℕ) (k : ℕ) where
   unfolding preview_call opened_of list_of keys_of rules_of in_image brings
   preview-answers = opening (index_call img) (opening-says img)
     where
-      image : (root : ℕ) (es : List Edit) (A : Asked img bytes k root es) → NoEdit k es → ReadSound img k root ⊎ ReadUnsound img k root → (a : Result (Option Part) Refusal) → leaf_lookup img root k ≡ a → Answers img bytes k (in_image a)
-      image root es A h x (Ok (Some f)) e = of_image root es A h f.offset f.length (asked-lookup root es A ∙ e)
-      image root es A h x (Ok None) e = missing root es A h (asked-lookup root es A ∙ e)
-      image root es A h (inr u) (Err r) e = let four : (refusal_at 4 0) ≡ r = cc (unsound-lookup img k root u, e) in subst (λ (s : Refusal). Answers img bytes k (Err s)) four (bad-leaf root es A h u)
-      image root es A h (inl r) (Err s) e = absurd (read-answers img k root r s e)
+      image : (root : ℕ) (es : List Edit) (A : Asked img bytes k root es) → NoEdit k es →
+          ReadSound img root (nodes_after img root (root_read root) (map key_of es)) k ⊎ ReadUnsound img root (nodes_after img root (root_read root) (map key_of es)) k →
+          (a : Result (Option Part) Refusal) → stored_after img root k (map key_of es) ≡ a → Answers img bytes k (in_image a)
+      image root es A h x (Ok (Some f)) e = of_image root es A h f.offset f.length e
+      image root es A h x (Ok None) e = missing root es A h e
+      image root es A h (inr u) (Err r) e = let four : (refusal_at 4 0) ≡ r = cc (unsound-answers img k root (map key_of es) u, e) in subst (λ (s : Refusal). Answers img bytes k (Err s)) four (bad-way root es A h u)
+      image root es A h (inl r) (Err s) e = absurd (read-answers img k root A.opened (map key_of es) r s e)
 
       decided : (root : ℕ) (es : List Edit) → Asked img bytes k root es → (l : LastEdit k es) → (e : Edit) → l.edit ≡ e → key_of e ≡ k → Answers img bytes k (brings (length (list_bytes l.before)) e)
       decided root es A l (insert j v) e own = in_list root es A l v (inl (e ∙ ap (λ (x : ℕ). insert x v) own))
       decided root es A l (update j v) e own = in_list root es A l v (inr (e ∙ ap (λ (x : ℕ). update x v) own))
       decided root es A l (delete j) e own = deleted root es A l (e ∙ ap delete own)
 
-      shown : (root : ℕ) (es : List Edit) → Asked img bytes k root es → NoEdit k es ⊎ LastEdit k es → Answers img bytes k (seen (leaf_lookup img root k) k es)
+      shown : (root : ℕ) (es : List Edit) → Asked img bytes k root es → NoEdit k es ⊎ LastEdit k es → Answers img bytes k (seen (stored_after img root k (map key_of es)) k es)
       shown root es A (inl h) =
-          subst (Answers img bytes k) (sym (asked-none root es A h) ∙ asked-call root es A) (image root es A h (read-or-not img k root A.opened) (leaf_lookup img root k) refl)
+          subst (Answers img bytes k) (sym (asked-none root es A h) ∙ asked-call root es A) (image root es A h (after-read-or-not img root (map key_of es) k A.opened) (stored_after img root k (map key_of es)) refl)
       shown root es A (inr l) = subst (Answers img bytes k) (sym (asked-last root es A l) ∙ asked-call root es A) (decided root es A l l.edit refl l.own)
 
       keys : (root : ℕ) → Opened img root → (es : List Edit) → Whole bytes es → 1 ≤ k → k ≤ 999999999999 → (j : Answer) → keys_from 0 es (records_for img root) ≡ j →
-          Answers img bytes k (rules_of (seen (leaf_lookup img root k) k es) j)
+          Answers img bytes k (rules_of (seen (stored_after img root k (map key_of es)) k es) j)
       keys root o es w low high (Err r) e =
           subst (λ (x : Refusal). Answers img bytes k (Err x)) (refusal-numbered r) (bad-edit root o es w low high (number_in r) r.edit (keys-fault es (records_for img root) r e))
       keys root o es w low high (Ok done) e = shown root es (record { opened = o; whole = w; low = low; high = high; kept = keys_kept es (records_for img root) e }) (last-or-none k es)
 
       key : (root : ℕ) → Opened img root → (es : List Edit) → Whole bytes es → (b : Bool) → key_ok k ≡ b →
-          Answers img bytes k (pick b (rules_of (seen (leaf_lookup img root k) k es) (keys_from 0 es (records_for img root))) (Err (refusal 6)))
+          Answers img bytes k (pick b (rules_of (seen (stored_after img root k (map key_of es)) k es) (keys_from 0 es (records_for img root))) (Err (refusal 6)))
       key root o es w true e = let q = key_ok-true k e in keys root o es w q.0 q.1 (keys_from 0 es (records_for img root)) refl
       key root o es w false e = bad-key root o es w (key_ok-false k e)
 
-      list : (root : ℕ) → Opened img root → (l : Listed) → edit_list bytes ≡ l → Answers img bytes k (list_of (records_for img root) (leaf_lookup img root k) k l)
+      list : (root : ℕ) → Opened img root → (l : Listed) → edit_list bytes ≡ l → Answers img bytes k (list_of (records_for img root) (stored_after img root k) k l)
       list root o (faulty n i) e = bad-list root o n i (list-fault bytes n i e)
       list root o (listed es) e = key root o es (list-whole bytes es e) (key_ok k) refl
 
@@ -143,16 +142,17 @@ module _ (img bytes : List ℕ) (k : ℕ) where
   answers-preview _ (in_list root es A l v (inl e)) = asked-last root es A l ∙ ap (brings (length (list_bytes l.before))) e
   answers-preview _ (in_list root es A l v (inr e)) = asked-last root es A l ∙ ap (brings (length (list_bytes l.before))) e
   answers-preview _ (deleted root es A l e) = asked-last root es A l ∙ ap (brings (length (list_bytes l.before))) e
-  answers-preview _ (bad-leaf root es A h u) = asked-none root es A h ∙ ap in_image (unsound-lookup img k root u)
-  answers-preview _ (of_image root es A h o n e) = asked-none root es A h ∙ ap in_image (sym (asked-lookup root es A) ∙ e)
-  answers-preview _ (missing root es A h e) = asked-none root es A h ∙ ap in_image (sym (asked-lookup root es A) ∙ e)
+  answers-preview _ (bad-way root es A h u) = asked-none root es A h ∙ ap in_image (unsound-answers img k root (map key_of es) u)
+  answers-preview _ (of_image root es A h o n e) = asked-none root es A h ∙ ap in_image e
+  answers-preview _ (missing root es A h e) = asked-none root es A h ∙ ap in_image e
 
   -- ---- "the pages read alone, and the look's list, give the answer by the same rules": the ledger's, on the records of the leaf that the key belongs to
 
-  pub preview-read : (root : ℕ) (es : List Edit) → Asked img bytes k root es → (r : ReadSound img k root) → previewed img bytes (preview_call img bytes k) ≡ held (find k (apply_edits es (read_records r)))
+  pub preview-read : (root : ℕ) (es : List Edit) → Asked img bytes k root es → (r : ReadSound img root (nodes_after img root (root_read root) (map key_of es)) k) →
+      previewed img bytes (preview_call img bytes k) ≡ held (find k (apply_edits es (read_records r)))
   preview-read root es A r =
       ap (previewed img bytes) (asked-call root es A)
-      ∙ shows-held img bytes (seen (leaf_lookup img root k) k es) (find k (apply_edits es (read_records r))) (seen-shows img bytes k root es A.whole.reads A.kept r)
+      ∙ shows-held img bytes (seen (stored_after img root k (map key_of es)) k es) (find k (apply_edits es (read_records r))) (seen-shows img bytes k root A.opened es A.whole.reads A.kept r)
 
   -- the companion hands back the value's bytes; "refused or missing, the part is empty"
   pub part-exact : preview_value_call img bytes k ≡ bytes_in (previewed img bytes (preview_call img bytes k))
@@ -174,11 +174,11 @@ module _ (img bytes : List ℕ) (k : ℕ) where
       rules x h (Err r) = tt
       rules x h (Ok done) = h
 
-      list : (root : ℕ) → Opened img root → (l : Listed) → edit_list bytes ≡ l → Inside img bytes (list_of (records_for img root) (leaf_lookup img root k) k l)
+      list : (root : ℕ) → Opened img root → (l : Listed) → edit_list bytes ≡ l → Inside img bytes (list_of (records_for img root) (stored_after img root k) k l)
       list root o (faulty n i) e = tt
       list root o (listed es) e =
           by-test (Inside img bytes) (key_ok k)
-          (λ q. rules (seen (leaf_lookup img root k) k es) (seen-inside img bytes k root o es (list-whole bytes es e).reads) (keys_from 0 es (records_for img root)))
+          (λ q. rules (seen (stored_after img root k (map key_of es)) k es) (seen-inside img bytes k root o es (list-whole bytes es e).reads) (keys_from 0 es (records_for img root)))
           (λ q. tt)
 
       opening : (x : Result ℕ Refusal) → OpeningSays img x → Inside img bytes (opened_of img bytes k x)
@@ -200,29 +200,39 @@ module _ (img bytes : List ℕ) (k : ℕ) where
       go _ (in_list root es A l v (inl e)) = subst Filled e (last es A.whole l)
       go _ (in_list root es A l v (inr e)) = subst Filled e (last es A.whole l)
       go _ (deleted root es A l e) = tt
-      go _ (bad-leaf root es A h u) = tt
+      go _ (bad-way root es A h u) = tt
       go _ (of_image root es A h o n e) = tt
       go _ (missing root es A h e) = tt
 
 -- ---- "On a sound image every answer is as it was": by the whole table
 
--- each key's leaf holds for it what the table holds
-sound-alike : (img : List ℕ) → sound img ≡ true → (j : ℕ) → Alike (records_for img (root_of img)) (wholly (table img)) j
-sound-alike img h j =
-    let r = records-sound img h j in
+-- each key's leaf holds for it what the table holds, whatever was looked for before
+sound-alike : (img : List ℕ) → sound img ≡ true → (ks : List ℕ) (j : ℕ) → Alike (records_for img (root_of img)) (wholly (table img)) ks j
+sound-alike img h ks j =
+    let r = records-sound img h j ks in
     subst (λ (o : Option (List Rec)). SameFor j o (Some (table img))) (sym r.1) r.2
+
+sound-all : (img : List ℕ) → sound img ≡ true → (ks js : List ℕ) → AllAlike (records_for img (root_of img)) (wholly (table img)) ks js
+sound-all img h ks [] = tt
+sound-all img h ks (j ∷ js) = (sound-alike img h ks j, sound-all img h (ks ++ j ∷ []) js)
 
 module _ (img bytes : List ℕ) (h : sound img ≡ true) where
   pub keys-sound : (es : List Edit) → keys_from 0 es (records_for img (root_of img)) ≡ keys_from 0 es (wholly (table img))
-  keys-sound es = keys-same 0 es (records_for img (root_of img)) (wholly (table img)) (all_of (Alike (records_for img (root_of img)) (wholly (table img))) (sound-alike img h) (keys_read 0 es (records_for img (root_of img))))
+  keys-sound es =
+      keys-same 0 es (records_for img (root_of img)) (wholly (table img)) (records-steady img (root_of img)) (wholly-steady (table img))
+      (sound-all img h [] (keys_read 0 es (records_for img (root_of img))))
 
-  pub preview-sound : (k : ℕ) → preview_call img bytes k ≡ list_of (wholly (table img)) (found_in k (listing img)) k (edit_list bytes)
+  stored-sound : (k : ℕ) (ks : List ℕ) → stored_after img (root_of img) k ks ≡ found_in k (listing img)
+  unfolding stored_after
+  stored-sound k ks = lookup-after img h k ks
+
+  pub preview-sound : (k : ℕ) → preview_call img bytes k ≡ list_of (wholly (table img)) (λ ks. found_in k (listing img)) k (edit_list bytes)
   unfolding preview_call opened_of list_of keys_of
-  preview-sound k = rw (opened-call img (root_of img) (sound-opened img h), leaf-sound img h k) (go (edit_list bytes))
+  preview-sound k = rw (opened-call img (root_of img) (sound-opened img h)) (go (edit_list bytes))
     where
-      go : (l : Listed) → list_of (records_for img (root_of img)) (found_in k (listing img)) k l ≡ list_of (wholly (table img)) (found_in k (listing img)) k l
+      go : (l : Listed) → list_of (records_for img (root_of img)) (stored_after img (root_of img) k) k l ≡ list_of (wholly (table img)) (λ ks. found_in k (listing img)) k l
       go (faulty n i) = refl
-      go (listed es) = rw (keys-sound es)
+      go (listed es) = rw (keys-sound es, stored-sound k (map key_of es))
 
   module _ (k : ℕ) (es : List Edit) (w : Whole bytes es) (low : 1 ≤ k) (high : k ≤ 999999999999) where
     by-rules : (j : Answer) → keys_from 0 es (wholly (table img)) ≡ j → preview_call img bytes k ≡ rules_of (seen (found_in k (listing img)) k es) j

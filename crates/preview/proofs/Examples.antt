@@ -55,7 +55,7 @@ rows =
 
 -- what a fresh store leaves of the definition: it is sound, and its table is empty
 abbrev on_fresh : ℕ → Listed → Result (Option Preview) Refusal
-on_fresh k l = list_of (wholly []) (Ok None) k l
+on_fresh k l = list_of (wholly []) (λ ks. Ok None) k l
 
 fresh-call : (bytes : List ℕ) (k : ℕ) → preview_call (fresh 8) bytes k ≡ on_fresh k (edit_list bytes)
 unfolding find
@@ -63,7 +63,7 @@ fresh-call bytes k =
     let sound = fresh-sound 8 refl in
     let empty = fresh-table 8 in
     let none = missing-lookup (fresh 8) sound k (ap (find k) empty) in
-    preview-sound (fresh 8) bytes sound k ∙ ap₂ (λ (t : List Rec) (a : Result (Option Part) Refusal). list_of (wholly t) a k (edit_list bytes)) empty none
+    preview-sound (fresh 8) bytes sound k ∙ ap₂ (λ (t : List Rec) (a : Result (Option Part) Refusal). list_of (wholly t) (λ ks. a) k (edit_list bytes)) empty none
 
 computed : (rs : List Row) → map given rs ≡ map (λ (r : Row). on_fresh r.key (edit_list (list_bytes r.edits))) rs
 computed [] = refl

@@ -1,3 +1,5 @@
+pub mod ReadAgain
+pub mod SameLeaf
 pub mod Walk
 pub mod Shown
 pub mod Judging

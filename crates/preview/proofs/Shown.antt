@@ -5,7 +5,7 @@ use Prim.Native.Nat.{ℕ, ◌+◌, ◌≤◌}
 use mathlib.Core.Path.{◌≡◌, refl, sym, ap, ◌∙◌, subst}
 use mathlib.Core.Logic.{◌⊎◌, inl, inr}
 use mathlib.Core.Bool.{true}
-use mathlib.Core.List.{List, [], ◌∷◌}
+use mathlib.Core.List.{List, [], ◌∷◌, map}
 use native.Mathlib.Omega.{arith}
 use lib.ListN.{length, drop, length-drop}
 use lib.Seq.{drop-drop}
@@ -18,22 +18,26 @@ use Rattle.preview.specs.declared.Preview.TheVariants.{InImage, InList}
 use Rattle.codec.specs.Lists.{part}
 use Rattle.codec.proofs.Lists.{length_part, part-drop}
 use Rattle.page.specs.Layout.{Rec}
-use Rattle.image.specs.Image.{child_of, sound}
+use Rattle.image.specs.Image.{sound}
 use Rattle.image.specs.Table.{table, listing, page_entries, find, found_in}
-use Rattle.image.specs.Descent.{records_for}
+use Rattle.image.specs.Descent.{root_read, nodes_after, records_for}
 use Rattle.image.specs.Calls.{leaf_lookup}
 use Rattle.image.specs.Says.{Opened, ReadSound, ReadUnsound, read_records}
-use Rattle.image.proofs.Exact.{Told, lookup-found, lookup-missing, lookup-answers}
-use Rattle.image.proofs.Read.{read-or-not, read-lookup, unsound-lookup, read-records}
-use Rattle.image.proofs.Says.{read-tells}
+use Rattle.image.proofs.Exact.{Told, entries-tell, lookup-found, lookup-missing, lookup-answers}
+use Rattle.image.proofs.Ways.{leaf-inside}
+use Rattle.image.proofs.Read.{after-judged, after-read-or-not, read-lookup, unsound-lookup, records-read}
+use Rattle.image.proofs.Zero.{ready-facts}
+use Rattle.image.proofs.Order.{recs-page}
+use Rattle.image.proofs.Values.{page-listed}
 use Rattle.edit.specs.EditList.{Edit, insert, update, delete, key_of, head_size, length_in, edit_bytes, edit_in}
 use Rattle.edit.specs.Ledger.{apply_edit, apply_edits}
 use Rattle.edit.specs.Reads.{edit_value, Faultless, Reads}
 use Rattle.edit.specs.Keys.{Source, wholly, made_in, made, Kept, KeptIn, AllKeptBy, AllKept}
 use Rattle.edit.proofs.General.{by-test}
 use Rattle.edit.proofs.Reading.{edit-size, edit-value}
-use Rattle.edit.proofs.Keys.{gives, find-own, find-other}
-use Rattle.preview.specs.Calls.{in_image, brings, seen_from, seen}
+use Rattle.edit.proofs.Keys.{gives, find-own, find-other, Steady, wholly-steady, made-steady, kept-again}
+use Rattle.preview.specs.Calls.{in_image, brings, seen_from, seen, stored_after}
+use Rattle.preview.proofs.ReadAgain.{records-steady}
 
 -- the answer says that a table holds x for the key, and its part lies in its slice
 abbrev pub Shows : List ℕ → List ℕ → Option (List ℕ) → Result (Option Preview) Refusal → Type 0
@@ -77,39 +81,58 @@ reads-rest bytes at e es r =
     omega (arith, ap (λ (x : Edit). length (edit_bytes x)) r.1, edit-size (drop at bytes) r.0) in
     subst (λ (l : List ℕ). Reads l es []) (drop-drop (head_size + length_in (drop at bytes)) at bytes ∙ ap (λ (o : ℕ). drop o bytes) skip) r.2
 
--- what an edit's rule says of the records that are read for its key
-kept_read : (e : Edit) (k : ℕ) (s : Source) (t : List Rec) → s k ≡ Some t → key_of e ≡ k → KeptIn e (s (key_of e)) → Kept e t
-kept_read e k s t r own h = subst (KeptIn e) (ap s own ∙ r) h
+-- what an edit's rule says of the records that are read for its key, whatever is looked for after it
+kept_read : (e : Edit) (k : ℕ) (more : List ℕ) (s : Source) (t : List Rec) → Steady s → s (key_of e ∷ more) k ≡ Some t → key_of e ≡ k → KeptIn e (s [] (key_of e)) → Kept e t
+kept_read e k more s t st r own h = subst (KeptIn e) (ap (s (key_of e ∷ more)) own ∙ r) (kept-again e s st [] more h)
 
-shows-from : (img bytes : List ℕ) (k at : ℕ) (answer : Result (Option Preview) Refusal) (es : List Edit) (s : Source) (t : List Rec) → s k ≡ Some t → Reads (drop at bytes) es [] → AllKeptBy es s →
+shows-from : (img bytes : List ℕ) (k at : ℕ) (answer : Result (Option Preview) Refusal) (es : List Edit) (s : Source) (t : List Rec) → Steady s → s (map key_of es) k ≡ Some t → Reads (drop at bytes) es [] → AllKeptBy es s →
     Shows img bytes (find k t) answer → Shows img bytes (find k (apply_edits es t)) (seen_from k at answer es)
 unfolding seen_from apply_edits
-shows-from img bytes k at answer [] s t q r h w = w
-shows-from img bytes k at answer (e ∷ es) s t q r h w =
-    shows-from img bytes k (at + length (edit_bytes e)) _ es (made e s) (apply_edit e t) (ap (made_in e) q) (reads-rest bytes at e es r) h.1
+shows-from img bytes k at answer [] s t st q r h w = w
+shows-from img bytes k at answer (e ∷ es) s t st q r h w =
+    shows-from img bytes k (at + length (edit_bytes e)) _ es (made e s) (apply_edit e t) (made-steady e s st) (ap (made_in e) q) (reads-rest bytes at e es r) h.1
     (by-test (Shows img bytes (find k (apply_edit e t))) (eqb (key_of e) k)
     (λ c.
     let own = eqb-true (key_of e) k c in
-    subst (λ (x : Option (List ℕ)). Shows img bytes x (brings at e)) (sym (find-own e t (kept_read e k s t q own h.0)) ∙ ap (λ (j : ℕ). find j (apply_edit e t)) own) (brings-shows img bytes at e r.0 r.1))
+    subst (λ (x : Option (List ℕ)). Shows img bytes x (brings at e)) (sym (find-own e t (kept_read e k (map key_of es) s t st q own h.0)) ∙ ap (λ (j : ℕ). find j (apply_edit e t)) own) (brings-shows img bytes at e r.0 r.1))
     (λ c. subst (λ (x : Option (List ℕ)). Shows img bytes x answer) (sym (find-other e k t (eqb-false (key_of e) k c))) w))
 
 -- ---- from the image on
 
--- what the leaf of the key says of its records
-leaf-shows : (img bytes : List ℕ) (k root : ℕ) (r : ReadSound img k root) → Shows img bytes (find k (read_records r)) (in_image (leaf_lookup img root k))
-unfolding in_image
-leaf-shows img bytes k root r = rw (read-lookup img k root r) (go (found_in k (page_entries img (child_of r.belongs.own))) (read-tells img k root r _ refl))
-  where
-    go : (a : Result (Option Part) Refusal) → Told img k (read_records r) a → Shows img bytes (find k (read_records r)) (in_image a)
-    go (Ok (Some x)) e = e
-    go (Ok None) e = e
-    go (Err s) e = e
+module _ (img bytes : List ℕ) (k root : ℕ) (o : Opened img root) (ks : List ℕ) where
+  tells : (r : ReadSound img root (nodes_after img root (root_read root) ks) k) (a : Result (Option Part) Refusal) → found_in k (page_entries img r.way.leaf.page) ≡ a → Told img k (read_records r) a
+  tells r a e =
+      let q = r.way.leaf.page in
+      let inside = leaf-inside img root k (nodes_after img root (root_read root) ks) (after-judged img root o ks) (ready-facts img root o.zero).page r in
+      subst (λ (rs : List Rec). Told img k rs a) (recs-page img q) (entries-tell img k (page_entries img q) (page-listed img q inside r.good.page) a e)
 
-module _ (img bytes : List ℕ) (k root : ℕ) (es : List Edit) (r : Reads bytes es []) (kept : AllKeptBy es (records_for img root)) where
-  pub seen-shows : (read : ReadSound img k root) → Shows img bytes (find k (apply_edits es (read_records read))) (seen (leaf_lookup img root k) k es)
+  -- what the leaf of the key says of its records, once other keys were looked for
+  pub leaf-shows : (r : ReadSound img root (nodes_after img root (root_read root) ks) k) → Shows img bytes (find k (read_records r)) (in_image (stored_after img root k ks))
+  unfolding in_image stored_after
+  leaf-shows r =
+      rw (read-lookup img root (nodes_after img root (root_read root) ks) k r) (go (found_in k (page_entries img r.way.leaf.page)) (tells r _ refl))
+    where
+      go : (a : Result (Option Part) Refusal) → Told img k (read_records r) a → Shows img bytes (find k (read_records r)) (in_image a)
+      go (Ok (Some x)) e = e
+      go (Ok None) e = e
+      go (Err s) e = e
+
+  -- a value that is found is that of the records that are read for the key
+  pub value-read : (p n : ℕ) → stored_after img root k ks ≡ Ok (Some (record { offset = p; length = n })) → (t : List Rec) × (records_for img root ks k ≡ Some t) × (find k t ≡ Some (part img p n))
+  unfolding in_image stored_after
+  value-read p n e = go (after-read-or-not img root ks k o)
+    where
+      go : ReadSound img root (nodes_after img root (root_read root) ks) k ⊎ ReadUnsound img root (nodes_after img root (root_read root) ks) k → (t : List Rec) × (records_for img root ks k ≡ Some t) × (find k t ≡ Some (part img p n))
+      go (inl r) = (read_records r, records-read img root ks k r, (tells r _ (sym (read-lookup img root (nodes_after img root (root_read root) ks) k r) ∙ e)).0)
+      go (inr u) = let z : ◌≡◌ {A = ℕ} 0 1 = cc (unsound-lookup img root (nodes_after img root (root_read root) ks) k u, e) in absurd (omega arith)
+
+module _ (img bytes : List ℕ) (k root : ℕ) (o : Opened img root) (es : List Edit) (r : Reads bytes es []) (kept : AllKeptBy es (records_for img root)) where
+  pub seen-shows : (read : ReadSound img root (nodes_after img root (root_read root) (map key_of es)) k) →
+      Shows img bytes (find k (apply_edits es (read_records read))) (seen (stored_after img root k (map key_of es)) k es)
   unfolding seen
   seen-shows read =
-      shows-from img bytes k 0 (in_image (leaf_lookup img root k)) es (records_for img root) (read_records read) (read-records img k root read) r kept (leaf-shows img bytes k root read)
+      shows-from img bytes k 0 (in_image (stored_after img root k (map key_of es))) es (records_for img root) (read_records read) (records-steady img root) (records-read img root (map key_of es) k read) r kept
+      (leaf-shows img bytes k root o (map key_of es) read)
 
 -- the whole table, in a sound image
 image-shows : (img bytes : List ℕ) → sound img ≡ true → (k : ℕ) → Shows img bytes (find k (table img)) (in_image (found_in k (listing img)))
@@ -124,7 +147,7 @@ image-shows img bytes h k = go (found_in k (listing img)) refl
 pub sound-shows : (img bytes : List ℕ) → sound img ≡ true → (k : ℕ) (es : List Edit) → Reads bytes es [] → AllKept es (table img) →
     Shows img bytes (find k (apply_edits es (table img))) (seen (found_in k (listing img)) k es)
 unfolding seen
-sound-shows img bytes h k es r kept = shows-from img bytes k 0 (in_image (found_in k (listing img))) es (wholly (table img)) (table img) refl r kept (image-shows img bytes h k)
+sound-shows img bytes h k es r kept = shows-from img bytes k 0 (in_image (found_in k (listing img))) es (wholly (table img)) (table img) (wholly-steady (table img)) refl r kept (image-shows img bytes h k)
 
 -- ---- the part lies in its slice
 
@@ -147,14 +170,14 @@ inside-from img bytes k at answer (e ∷ es) r w =
     inside-from img bytes k (at + length (edit_bytes e)) _ es (reads-rest bytes at e es r)
     (by-test (Inside img bytes) (eqb (key_of e) k) (λ c. shows-inside img bytes (gives e) (brings at e) (brings-shows img bytes at e r.0 r.1)) (λ c. w))
 
-leaf-inside : (img bytes : List ℕ) (k root : ℕ) → Opened img root → Inside img bytes (in_image (leaf_lookup img root k))
-unfolding in_image
-leaf-inside img bytes k root o = go (read-or-not img k root o)
+image-inside : (img bytes : List ℕ) (k root : ℕ) → Opened img root → (ks : List ℕ) → Inside img bytes (in_image (stored_after img root k ks))
+unfolding in_image stored_after
+image-inside img bytes k root o ks = go (after-read-or-not img root ks k o)
   where
-    go : ReadSound img k root ⊎ ReadUnsound img k root → Inside img bytes (in_image (leaf_lookup img root k))
-    go (inl r) = shows-inside img bytes (find k (read_records r)) (in_image (leaf_lookup img root k)) (leaf-shows img bytes k root r)
-    go (inr u) = rw (unsound-lookup img k root u) tt
+    go : ReadSound img root (nodes_after img root (root_read root) ks) k ⊎ ReadUnsound img root (nodes_after img root (root_read root) ks) k → Inside img bytes (in_image (leaf_lookup img root (nodes_after img root (root_read root) ks) k))
+    go (inl r) = shows-inside img bytes (find k (read_records r)) (in_image (stored_after img root k ks)) (leaf-shows img bytes k root o ks r)
+    go (inr u) = rw (unsound-lookup img root (nodes_after img root (root_read root) ks) k u) tt
 
-pub seen-inside : (img bytes : List ℕ) (k root : ℕ) → Opened img root → (es : List Edit) → Reads bytes es [] → Inside img bytes (seen (leaf_lookup img root k) k es)
+pub seen-inside : (img bytes : List ℕ) (k root : ℕ) → Opened img root → (es : List Edit) → Reads bytes es [] → Inside img bytes (seen (stored_after img root k (map key_of es)) k es)
 unfolding seen
-seen-inside img bytes k root o es r = inside-from img bytes k 0 (in_image (leaf_lookup img root k)) es r (leaf-inside img bytes k root o)
+seen-inside img bytes k root o es r = inside-from img bytes k 0 (in_image (stored_after img root k (map key_of es))) es r (image-inside img bytes k root o (map key_of es))

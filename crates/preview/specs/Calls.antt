@@ -1,13 +1,13 @@
--- What a preview answers, and the part that it hands back (document 02 (a) and (b)).
+-- What a preview answers, and the part that it hands back (document 02 (a), (b) and (j)).
 -- Assumes nothing.
-use Rattle.std.specs.Prelude.{ℕ, ◌+◌, List, [], ◌∷◌, length, eqb, Err, None, Ok, Option, Result, Some}
+use Rattle.std.specs.Prelude.{ℕ, ◌+◌, List, [], ◌∷◌, map, length, eqb, Err, None, Ok, Option, Result, Some}
 use Rattle.preview.specs.declared.Preview.{Preview}
 use Rattle.device.specs.declared.Refusal.{Refusal}
 use Rattle.image.specs.declared.Part.{Part}
 use Rattle.preview.specs.declared.Preview.TheVariants.{InImage, InList}
 use Rattle.codec.specs.Lists.{part, pick}
 use Rattle.device.specs.Calls.{key_range, refusal, Answer, refusal_at}
-use Rattle.image.specs.Descent.{records_for}
+use Rattle.image.specs.Descent.{root_read, nodes_after, records_for}
 use Rattle.image.specs.Calls.{index_call, key_ok, leaf_lookup}
 use Rattle.edit.specs.EditList.{Edit, insert, update, delete, key_of, head_size, edit_bytes, Listed, listed, faulty, edit_list}
 use Rattle.edit.specs.Keys.{Source, keys_from}
@@ -41,19 +41,24 @@ unfoldable pub rules_of : Result (Option Preview) Refusal → Answer → Result 
 rules_of answer (Err r) = Err r
 rules_of answer (Ok done) = answer
 
--- "then 6 for the key asked, then 8 and 9": "The key rules of edits hold for the whole list", by what is read for each edit's key
-unfoldable pub keys_of : Source → Result (Option Part) Refusal → ℕ → List Edit → Result (Option Preview) Refusal
-keys_of read stored k es = pick (key_ok k) (rules_of (seen stored k es) (keys_from 0 es read)) (Err (refusal key_range))
+-- "then 6 for the key asked, then 8 and 9": "The key rules of edits hold for the whole list", by what is read for each edit's key; `stored` is what the image holds for the key
+-- asked once other keys were looked for
+unfoldable pub keys_of : Source → (List ℕ → Result (Option Part) Refusal) → ℕ → List Edit → Result (Option Preview) Refusal
+keys_of read stored k es = pick (key_ok k) (rules_of (seen (stored (map key_of es)) k es) (keys_from 0 es read)) (Err (refusal key_range))
 
 -- "then the list's"
-unfoldable pub list_of : Source → Result (Option Part) Refusal → ℕ → Listed → Result (Option Preview) Refusal
+unfoldable pub list_of : Source → (List ℕ → Result (Option Part) Refusal) → ℕ → Listed → Result (Option Preview) Refusal
 list_of read stored k (faulty n i) = Err (refusal_at n i)
 list_of read stored k (listed es) = keys_of read stored k es
 
--- "Refused: check's", of page 0 and the index; each key is looked for in the one leaf that it belongs to
+-- what the image holds for the key k, once the keys ks were looked for
+unfoldable pub stored_after : List ℕ → ℕ → ℕ → List ℕ → Result (Option Part) Refusal
+stored_after img root k ks = leaf_lookup img root (nodes_after img root (root_read root) ks) k
+
+-- "Refused: check's", of page 0 and the root page; each key is looked for in the one leaf that it belongs to: "In the look an index page's 4 comes where its leaf's would."
 unfoldable pub opened_of : List ℕ → List ℕ → ℕ → Result ℕ Refusal → Result (Option Preview) Refusal
 opened_of img bytes k (Err r) = Err r
-opened_of img bytes k (Ok root) = list_of (records_for img root) (leaf_lookup img root k) k (edit_list bytes)
+opened_of img bytes k (Ok root) = list_of (records_for img root) (stored_after img root k) k (edit_list bytes)
 
 unfoldable pub preview_call : List ℕ → List ℕ → ℕ → Result (Option Preview) Refusal
 preview_call img bytes k = opened_of img bytes k (index_call img)

@@ -1,4 +1,4 @@
--- What the reading calls read, and what they reply: lookup, next key and preview, each with its companion (document 02 (b)).
+-- What the reading calls read, and what they reply: lookup, next key and preview, each with its companion (document 02 (b) and (j)).
 -- Assumes nothing.
 use Rattle.std.specs.Prelude.{ℕ, Bool, false, ◌||◌, List, [], ◌∷◌, ◌++◌, eqb, Err, Ok, Option, Result}
 use Rattle.preview.specs.declared.Preview.{Preview}
@@ -50,7 +50,7 @@ reply_to (lookup k) img = looked (lookup_call img k) (value_call img k)
 reply_to (next_key k) img = next (next_call img k)
 reply_to (preview bytes k) img = seen (preview_call img bytes k) (preview_value_call img bytes k)
 
--- the keys whose leaves are read
+-- the keys whose ways and leaves are read
 unfoldable pub keys_for : Asking → List ℕ → ℕ → List ℕ
 keys_for (lookup k) img root = lookup_reads k root
 keys_for (next_key k) img root = next_reads img k root

@@ -1,14 +1,16 @@
 // The key rules of a list: "8 insert of a key present; 9 other edit of a missing key", each edit seeing those before it and the one leaf that its
 // key belongs to.
-ghost use Rattle.std.specs.Prelude.{◌≡◌, true, Ok, ◌≤◌, eqb};
+ghost use Rattle.std.specs.Prelude.{◌≡◌, true, Ok, None, map, eqb};
 ghost use Rattle.page.specs.Page.{records, keys_rise};
-ghost use Rattle.image.specs.Descent.{records_for};
-ghost use Rattle.edit.specs.EditList.{listed, edits_of, edit_list};
+ghost use Rattle.image.specs.Descent.{root_read, nodes_after, records_for};
+ghost use Rattle.image.specs.Marks.{Marked};
+ghost use Rattle.edit.specs.EditList.{key_of, listed, edits_of, edit_list};
 ghost use Rattle.edit.specs.Keys.{holds, keys_from};
-ghost use Rattle.preview.specs.Noted.{kind_noted, presence, there_by, fault_by, Marks};
+ghost use Rattle.preview.specs.Noted.{kind_noted, fault_by, AreMarks, Looked};
 
 use device::{Cause, Refusal};
 use image::descent::Indexed;
+use image::node::leaf_ok;
 use image::pages::laid_page;
 use page::laid::Page;
 
@@ -38,18 +40,30 @@ fn in_page(page: Page, key: u64) -> bool
     page.find(key).is_ok()
 }
 
-// Whether the image holds a key, by the leaf that it belongs to. A leaf that is found sound is marked by its page, and not judged again.
-fn in_leaf(index: &Indexed<'_>, judged: &mut [u8], key: u64) -> Result<bool, Refusal>
-    requires { Marks index.now.image.now index.now.root judged.old }
-    ensures value { result ≡ presence key (records_for index.now.image.now index.now.root key) }
-    ensures marks { Marks index.now.image.now index.now.root judged.new }
+// Whether the image holds a key, by the leaf that its way comes to. A leaf that is found sound is marked by its page, and not judged again.
+fn in_leaf(
+    index: &Indexed<'_>,
+    marks: &mut [u8],
+    judged: &mut [u8],
+    key: u64,
+) -> Result<bool, Refusal>
+    requires { AreMarks index.now.image.now index.now.root marks.old judged.old }
+    ensures { Looked index.now.image.now index.now.root key None marks.old judged.old result marks.new judged.new }
 {
-    let leaf = index.leaf_for(key);
-    let own = leaf.page;
+    let Some(leaf) = index.way_to(marks, key) else {
+        return Err(Refusal::of(Cause::Unsound));
+    };
+    let own = leaf.place.page;
     if judged[own] != 0 {
         return Ok(in_page(laid_page(index.image, own), key));
     }
-    if !index.leaf_sound(leaf) {
+    if !leaf_ok(
+        index.image,
+        leaf.only,
+        leaf.place.from,
+        leaf.place.below,
+        own,
+    ) {
         return Err(Refusal::of(Cause::Unsound));
     }
     judged[own] = 1;
@@ -59,16 +73,16 @@ fn in_leaf(index: &Indexed<'_>, judged: &mut [u8], key: u64) -> Result<bool, Ref
 // Whether a key is there after the edits that are noted: as the last of them that has it leaves it, else as the image has it.
 fn is_there(
     index: &Indexed<'_>,
+    marks: &mut [u8],
     judged: &mut [u8],
     noted: &[Noted],
     key: u64,
 ) -> Result<bool, Refusal>
-    requires { Marks index.now.image.now index.now.root judged.old }
-    ensures value { result ≡ there_by (kind_noted noted.now key) (presence key (records_for index.now.image.now index.now.root key)) }
-    ensures marks { Marks index.now.image.now index.now.root judged.new }
+    requires { AreMarks index.now.image.now index.now.root marks.old judged.old }
+    ensures { Looked index.now.image.now index.now.root key (kind_noted noted.now key) marks.old judged.old result marks.new judged.new }
 {
     match kind_noted(noted, key) {
-        None => in_leaf(index, judged, key),
+        None => in_leaf(index, marks, judged, key),
         Some(3) => Ok(false),
         Some(_) => Ok(true),
     }
@@ -97,9 +111,10 @@ fn key_fault(n: u8, kind: u8, there: bool) -> Result<(), Refusal>
 }
 
 // Judges the keys of a well-formed list, edit by edit. Key and kind of each are noted, so that the edits after it need not read the list again.
-pub(crate) fn judge_keys(index: &Indexed<'_>, list: &[u8]) -> Result<(), Refusal>
-    requires { edit_list list.now ≡ listed (edits_of (edit_list list.now)) }
-    ensures { result ≡ keys_from 0 (edits_of (edit_list list.now)) (records_for index.now.image.now index.now.root) }
+pub(crate) fn judge_keys(index: &Indexed<'_>, marks: &mut [u8], list: &[u8]) -> Result<(), Refusal>
+    requires { (edit_list list.now ≡ listed (edits_of (edit_list list.now))) × Marked index.now.image.now index.now.root (root_read index.now.root) marks.old }
+    ensures value { result ≡ keys_from 0 (edits_of (edit_list list.now)) (records_for index.now.image.now index.now.root) }
+    ensures marks_after { result ≡ Ok tt → Marked index.now.image.now index.now.root (nodes_after index.now.image.now index.now.root (root_read index.now.root) (map key_of (edits_of (edit_list list.now)))) marks.new }
 {
     let mut noted = [Noted { key: 0, kind: 0 }; 16];
     let mut judged = [0u8; 64];
@@ -109,7 +124,7 @@ pub(crate) fn judge_keys(index: &Indexed<'_>, list: &[u8]) -> Result<(), Refusal
     while at < list.len() {
         let kind = list[at];
         let key = codec::long_at(list, at + 2);
-        let there = is_there(index, &mut judged, &noted[..n], key)?;
+        let there = is_there(index, marks, &mut judged, &noted[..n], key)?;
         key_fault(n as u8, kind, there)?;
         noted[n] = Noted { key, kind };
         n += 1;

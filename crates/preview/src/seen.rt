@@ -1,7 +1,8 @@
 // What is seen of a key after a list of edits.
-ghost use Rattle.std.specs.Prelude.{◌≡◌, Ok, Some, None, eqb};
+ghost use Rattle.std.specs.Prelude.{◌≡◌, ℕ, List, Ok, Some, None, eqb};
 ghost use Rattle.codec.specs.Lists.{pick};
 ghost use Rattle.image.specs.Calls.{leaf_lookup};
+ghost use Rattle.image.specs.Marks.{Marked, IsMarked};
 ghost use Rattle.edit.specs.EditList.{listed, edits_of, edit_list};
 ghost use Rattle.preview.specs.Calls.{seen};
 
@@ -21,9 +22,14 @@ fn brought(kind: u8, offset: usize, length: usize) -> Option<Preview>
 }
 
 // What is seen of a key after a well-formed list: what the last edit of the key brings; the leaf of the key is read only if no edit has the key.
-pub(crate) fn see(index: &Indexed<'_>, list: &[u8], key: u64) -> Result<Option<Preview>, Refusal>
-    requires { edit_list list.now ≡ listed (edits_of (edit_list list.now)) }
-    ensures { result ≡ seen (leaf_lookup index.now.image.now index.now.root key) key (edits_of (edit_list list.now)) }
+pub(crate) fn see(
+    index: &Indexed<'_>,
+    marks: &mut [u8],
+    list: &[u8],
+    key: u64,
+) -> Result<Option<Preview>, Refusal>
+    requires { (edit_list list.now ≡ listed (edits_of (edit_list list.now))) × IsMarked index.now.image.now index.now.root marks.now }
+    ensures { (nodes : List ℕ) → Marked index.now.image.now index.now.root nodes marks.old → result ≡ seen (leaf_lookup index.now.image.now index.now.root nodes key) key (edits_of (edit_list list.now)) }
 {
     let mut last = None;
     let mut at = 0;
@@ -38,6 +44,6 @@ pub(crate) fn see(index: &Indexed<'_>, list: &[u8], key: u64) -> Result<Option<P
     }
     match last {
         Some(answer) => Ok(answer),
-        None => Ok(index.find_key(key)?.map(Preview::InImage)),
+        None => Ok(index.find_key(marks, key)?.map(Preview::InImage)),
     }
 }

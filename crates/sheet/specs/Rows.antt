@@ -4,9 +4,10 @@ use Rattle.std.specs.Prelude.{ℕ, ◌+◌, ◌/◌, ◌≡◌, List, [], ◌∷
 use Rattle.codec.specs.Lists.{pick}
 use Rattle.page.specs.Layout.{page_size, Rec}
 use Rattle.page.specs.Page.{Entry, records}
+use Rattle.page.specs.PageFormat.{format1}
 use Rattle.page.specs.Operations.{page_of}
 use Rattle.image.specs.PageZero.{root_of}
-use Rattle.image.specs.Image.{children, child_of}
+use Rattle.image.specs.Image.{leaves_in, height_of}
 use Rattle.sheet.specs.declared.listing.Row.{Row}
 
 -- a row: where a record stands, "page .., slot from 0 .., key .., value length"
@@ -21,13 +22,14 @@ unfoldable pub leaf_rows : ℕ → ℕ → List Rec → List Shown
 leaf_rows page i [] = []
 leaf_rows page i (r ∷ rs) = record { page = page; slot = i; key = r.key; size = length r.value } ∷ leaf_rows page (i + 1) rs
 
-unfoldable pub rows_in : List ℕ → List Rec → List Shown
+-- of the leaves ps
+unfoldable pub rows_in : List ℕ → List ℕ → List Shown
 rows_in img [] = []
-rows_in img (c ∷ cs) = leaf_rows (child_of c) 0 (records (page_of img (child_of c))) ++ rows_in img cs
+rows_in img (p ∷ ps) = leaf_rows p 0 (records (page_of img p)) ++ rows_in img ps
 
 -- the rows of a sound image: its leaves in order, the records of each by slot
 unfoldable pub rows_of : List ℕ → List Shown
-rows_of img = rows_in img (children img (root_of img))
+rows_of img = rows_in img (leaves_in format1 img (height_of img (root_of img)) (root_of img))
 
 -- row number i of the listing
 pub record RowAt (img : List ℕ) (i page slot key size : ℕ) : Type 0 where

@@ -1,23 +1,21 @@
 -- Recovery of a waiting mark: the logged pages judged by marks, the replayed image, and each way out of the call.
 -- Assumes nothing.
 use Rattle.std.specs.Prelude.{Err, Ok, Result}
-use Prim.Native.Nat.{ℕ, zero, suc, ◌+◌, ◌*◌, ◌^◌, ◌≤◌, ◌<◌}
+use Prim.Native.Nat.{ℕ, ◌+◌, ◌*◌, ◌^◌, ◌≤◌, ◌<◌}
 use mathlib.Core.Path.{◌≡◌, refl, sym, ap, ap₂, ◌∙◌, subst}
-use mathlib.Core.Bool.{Bool, true, false, ◌&&◌, true≢false}
-use mathlib.Core.List.{List, [], ◌∷◌, map}
+use mathlib.Core.Bool.{Bool, true, ◌&&◌, and_comm}
+use mathlib.Core.List.{List, [], ◌∷◌, map, append-nil}
 use native.Mathlib.Omega.{arith}
-use native.Mathlib.Decide.{dec_lt}
-use native.Mathlib.Nat.{not-suc-le-zero}
-use lib.ListN.{length, get_or, set, replicate}
+use lib.ListN.{length, set, replicate}
 use lib.Seq.{sets}
 use lib.Dec.{eqb}
-use borrow.Author.Tests.{le-leb, lt-leb, eq-eqb, eqb-true, eqb-false}
+use borrow.Author.Tests.{le-leb, lt-leb, eq-eqb, eqb-true}
 use Rattle.device.specs.declared.Cause.TheVariants.{TapeShort}
 use Rattle.journal.specs.declared.Redone.{Redone}
 use Rattle.device.specs.declared.Cause.{Cause}
 use Rattle.codec.specs.Lists.{part, splice, eqs, all_b}
 use Rattle.codec.specs.Numbers.{number, bytes_of}
-use Rattle.codec.proofs.Tests.{both, first, second, all_b-true, true-all_b, eqs-true, eqs-same}
+use Rattle.codec.proofs.Tests.{eqs-true, eqs-same}
 use Rattle.codec.proofs.Lists.{splice-sets}
 use Rattle.codec.proofs.Numbers.{number-bytes_of}
 use Rattle.device.specs.Tape.{Op, flush_count, tape_bytes}
@@ -25,8 +23,8 @@ use Rattle.page.proofs.CheckBytes.{same_test, Bytes, bytes-part}
 use Rattle.image.specs.PageZero.{is_page, no_mark}
 use Rattle.image.specs.Image.{distinct}
 use Rattle.image.proofs.General.{part-part}
-use Rattle.image.proofs.Zero.{is_page-true, true-is_page}
-use Rattle.image.proofs.CodeMarks.{claims, claims-on, claims-past, claims-twice, claims-none, claims-apart, apart-claims}
+use Rattle.image.specs.Marks.{claims}
+use Rattle.image.proofs.CodeMarks.{named-claims, zero-named}
 use Rattle.image.specs.declared.PageZero.TheVariants.{Waiting}
 use Rattle.journal.specs.Log.{own_page, replay_tape}
 use Rattle.journal.specs.Recovery.{logged, with_headers, replayed, replay_from, recovery_tape}
@@ -43,55 +41,11 @@ use Rattle.tape_write.proofs.Endings.{replay-size, replay-count}
 abbrev pub first_marks : List ℕ
 first_marks = set (replicate 64 0) 0 1
 
-module _ (n : ℕ) (few : n ≤ 64) (p : ℕ) (ps : List ℕ) where
-  -- a page that may be named is one of 1 to N-1
-  claimed : claims n first_marks (p ∷ ps) ≡ true → (is_page n p ≡ true) × (claims n (set first_marks p 1) ps ≡ true)
-  claimed h = go (dec_lt p n) (eqb (get_or first_marks p 0) 0) refl
-    where
-      not-zero : (q : ℕ) → get_or first_marks q 0 ≡ 0 → 1 ≤ q
-      not-zero zero e = absurd (omega arith)
-      not-zero (suc q) e = omega arith
-
-      go : Dec (p < n) → (t : Bool) → eqb (get_or first_marks p 0) 0 ≡ t → (is_page n p ≡ true) × (claims n (set first_marks p 1) ps ≡ true)
-      go (no q) t e = absurd (true≢false (sym h ∙ claims-past n first_marks p ps (omega arith)))
-      go (yes q) false e = absurd (true≢false (sym h ∙ claims-twice n first_marks p ps q (eqb-false (get_or first_marks p 0) 0 e)))
-      go (yes q) true e =
-          let z = eqb-true (get_or first_marks p 0) 0 e in
-          (true-is_page n p (not-zero p z) q, sym (claims-on n first_marks p ps q z) ∙ h)
-
-  unmarked : is_page n p ≡ true → get_or first_marks p 0 ≡ 0
-  unmarked h = go p (is_page-true n p h).0 (omega (arith, (is_page-true n p h).1))
-    where
-      zero-at : (m i : ℕ) → get_or {A = ℕ} (replicate m 0) i 0 ≡ 0
-      zero-at zero i = refl
-      zero-at (suc m) zero = refl
-      zero-at (suc m) (suc i) = zero-at m i
-
-      go : (q : ℕ) → 1 ≤ q → q < 64 → get_or first_marks q 0 ≡ 0
-      go zero l k = absurd (not-suc-le-zero l)
-      go (suc q) l k = zero-at 63 q
-
 pub claims-pages : (n : ℕ) → n ≤ 64 → (ps : List ℕ) → claims n first_marks ps ≡ (distinct ps && all_b (is_page n) ps)
-unfolding distinct all_b
-claims-pages n few [] = claims-none n first_marks
-claims-pages n few (p ∷ ps) = same_test (claims n first_marks (p ∷ ps)) (distinct (p ∷ ps) && all_b (is_page n) (p ∷ ps)) forth back
-  where
-    Page : ℕ → Type 0
-    Page q = is_page n q ≡ true
-
-    forth : claims n first_marks (p ∷ ps) ≡ true → (distinct (p ∷ ps) && all_b (is_page n) (p ∷ ps)) ≡ true
-    forth h =
-        let c = claimed n few p ps h in
-        let a = claims-apart n p few c.0 ps c.1 in
-        both a.1 (both c.0 (true-all_b (is_page n) Page (λ q k. k) ps a.0))
-
-    back : (distinct (p ∷ ps) && all_b (is_page n) (p ∷ ps)) ≡ true → claims n first_marks (p ∷ ps) ≡ true
-    back h =
-        let d = first (distinct (p ∷ ps)) (all_b (is_page n) (p ∷ ps)) h in
-        let b = second (distinct (p ∷ ps)) (all_b (is_page n) (p ∷ ps)) h in
-        let q = first (is_page n p) (all_b (is_page n) ps) b in
-        claims-on n first_marks p ps (is_page-true n p q).1 (unmarked n few p ps q)
-        ∙ apart-claims n p few q ps (all_b-true (is_page n) Page (λ r k. k) ps (second (is_page n p) (all_b (is_page n) ps) b)) d
+claims-pages n few ps =
+    named-claims n few [] first_marks zero-named ps
+    ∙ ap (λ (l : List ℕ). all_b (is_page n) ps && distinct l) (append-nil ps)
+    ∙ and_comm (all_b (is_page n) ps) (distinct ps)
 
 -- the page of the i-th logged header
 own_at : (src : List ℕ) (i : ℕ) → number (part src (64 * i + 70) 2) ≡ own_page (part src (64 * (i + 1)) 64)

@@ -15,7 +15,7 @@ use Rattle.device.specs.declared.Refusal.{Refusal}
 use Rattle.page.specs.Layout.{page_size}
 use Rattle.page.specs.Operations.{page_of}
 use Rattle.image.specs.PageZero.{page_count, root_of}
-use Rattle.image.specs.Image.{reached, sound}
+use Rattle.image.specs.Image.{reached, sound, count}
 use Rattle.image.proofs.Zero.{Size, size-true}
 use Rattle.image.proofs.Soundness.{sound-facts}
 use Rattle.edit.specs.EditList.{Edit}
@@ -23,7 +23,7 @@ use Rattle.edit.specs.Reads.{Proper}
 use Rattle.journal.specs.Edited.{Edited}
 use Rattle.tree.specs.State.{State, begin}
 use Rattle.tree.specs.Whole.{finished, stopped, edits_from, edits_on, edited_image}
-use Rattle.tree.specs.Good.{count, Good}
+use Rattle.tree.specs.Good.{Good}
 use Rattle.page.specs.PageFormat.{format1}
 use Rattle.tree.specs.Edits.{no_keep}
 use Rattle.tree.proofs.States.{Leads}

@@ -14,12 +14,12 @@ use Rattle.page.specs.Operations.{made, page_of, sizes}
 use Rattle.page.specs.Page.{RecOk}
 use Rattle.page.specs.PageFormat.{PageFormat, Rules}
 use Rattle.page.proofs.Made.{All-made, length-made}
-use Rattle.image.specs.Image.{Entries, IsEntry, index_rec}
+use Rattle.image.specs.Image.{Entries, IsEntry, index_rec, count, hit}
 use Rattle.image.proofs.General.{All-append, All-left}
 use Rattle.image.proofs.IndexRecords.{index-entry, index_ok, sizes-entries}
 use Rattle.edit.proofs.General.{all_right}
 use Rattle.tree.specs.Edits.{Change, PageStep, absorbed, copy_then, dropped, gone, kept, now, one, put, stops, then_into, two}
-use Rattle.tree.specs.Good.{count, hit, inside}
+use Rattle.tree.specs.Good.{inside}
 use Rattle.tree.specs.State.{State, with_page}
 use Rattle.tree.proofs.Change.{Held, Holds, NewIn, Out, SepsOk, Some, nothing, out-ends, out-map, some-any, stand, standing}
 use Rattle.tree.proofs.General.{inserted-seam, made-seam, remove_at-seam}
@@ -142,6 +142,13 @@ module _ (Pg : PageFormat) (rules : Rules Pg) (keep : ℕ → Pg.Keep) where
           let B = second-out t z (A.leads.long ∙ long) A.held (λ w. omega (arith, A.pages w, apart w)) (λ w. omega (arith, sub w, leads-free Pg keep F st t A.leads w)) in
           go (put Pg keep kind false b j y z t) B
         where
+          -- a copy that is then split counts as taken
+          same-free : (u : State) (d : Change) (f : List ℕ) → f ≡ u.free → Puts Pg keep F st q kind es d u → Puts Pg keep F st q kind es d (record { image = u.image; root = u.root; free = f })
+          same-free u d f e C = subst (λ (g : List ℕ). Puts Pg keep F st q kind es d (record { image = u.image; root = u.root; free = g })) (sym e) C
+
+          itself : (u : State) → u.free ≡ u.free
+          itself u = refl
+
           go : (s : PageStep) → Out (Puts Pg keep F t z kind es) s → Out (Puts Pg keep F st q kind es) (then_into (now (one z) t) q (λ w v. s))
           go (stops m) B = B
           go (now kept u) B =
@@ -156,7 +163,8 @@ module _ (Pg : PageFormat) (rules : Rules Pg) (keep : ℕ → Pg.Keep) where
               }
           go (now gone u) B = puts-trans F st t u q z kind fs es (one z) gone refl refl B.held (newer F st t A.leads gone B.fresh) A B
           go (now (one w) u) B = puts-trans F st t u q z kind fs es (one z) (one w) refl refl B.held (newer F st t A.leads (one w) B.fresh) A B
-          go (now (two w m v) u) B = puts-trans F st t u q z kind fs es (one z) (two w m v) refl refl B.held (newer F st t A.leads (two w m v) B.fresh) A B
+          go (now (two w m v) u) B =
+              same-free u (two w m v) _ (search (itself u)) (puts-trans F st t u q z kind fs es (one z) (two w m v) refl refl B.held (newer F st t A.leads (two w m v) B.fresh) A B)
       second-step (two v m w) t A = absurd (never-two v m w t A)
 
       both_out : Out (λ d t. Puts Pg keep F st q kind es d t × Some d es) (then_into (put Pg keep kind false a i x q st) q (λ z s. put Pg keep kind false b j y z s))
@@ -188,17 +196,18 @@ module _ (Pg : PageFormat) (rules : Rules Pg) (keep : ℕ → Pg.Keep) where
     listed = (rules.remove-lists (page_of st.image q) (length pre) L.lists.laid).recs ∙ ap (remove_at (length pre)) L.lists.recs ∙ remove_at-seam pre c post
 
     -- a page left empty goes, and no other
-    lost-out : Out (Takes (pre ++ post)) (dropped Pg false (length pre) q st)
-    lost-out = go (length (pre ++ post)) refl
+    lost-out : (only : Bool) → only ≡ false → Out (Takes (pre ++ post)) (dropped Pg only (length pre) q st)
+    lost-out only beside = go (length (pre ++ post)) refl
       where
-        go : (m : ℕ) → length (pre ++ post) ≡ m → Out (Takes (pre ++ post)) (dropped Pg false (length pre) q st)
+        go : (m : ℕ) → length (pre ++ post) ≡ m → Out (Takes (pre ++ post)) (dropped Pg only (length pre) q st)
         go zero e =
             let A = lost-puts in
-            subst (Out (Takes (pre ++ post))) (sym (dropped-gone Pg (length pre) q st (omega (arith, ap length listed)))) (
+            let goes = ap (λ (b : Bool). dropped Pg b (length pre) q st) beside ∙ dropped-gone Pg (length pre) q st (omega (arith, ap length listed)) in
+            subst (Out (Takes (pre ++ post))) (sym goes) (
               record { split-over = λ z. absurd (omega arith); leads = A.leads; root = A.root; other = A.other; pages = λ x. omega (arith, A.pages x); held = nothing (pre ++ post) e; fresh = tt },
               tt,
             )
-        go (suc m) e = subst (Out (Takes (pre ++ post))) (sym (dropped-some Pg false (length pre) q st (omega (arith, ap length listed)))) (lost-puts, omega arith)
+        go (suc m) e = subst (Out (Takes (pre ++ post))) (sym (dropped-some Pg only (length pre) q st (omega (arith, ap length listed)))) (lost-puts, omega arith)
 
     pub absorbed-out : (low : ℕ) (ch : Change) → SepsOk low ch →
         Out (λ d t. Puts Pg keep F st q kind (pre ++ (stand c low ch ++ post)) d t × Some d (pre ++ (stand c low ch ++ post))) (absorbed Pg keep kind (length pre) low q ch st)
@@ -215,7 +224,10 @@ module _ (Pg : PageFormat) (rules : Rules Pg) (keep : ℕ → Pg.Keep) where
       },
       longer (c ∷ []) (omega arith),
     )
-    absorbed-out low gone o = lost-out
+    absorbed-out low gone o = lost-out _ (search beside)
+      where
+        beside : false ≡ false
+        beside = refl
     absorbed-out low (one a) o = taking (index_rec low a ∷ []) (omega arith) (put Pg keep kind false false (length pre) (index_rec low a) q st) (first_out low a o)
     absorbed-out low (two a k b) o =
         both_out (pre ++ index_rec low a ∷ index_rec k b ∷ post) _ _ _ _ _ _ (search (two-puts pre c post low a o.0 k b o.1))

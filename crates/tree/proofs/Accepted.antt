@@ -24,12 +24,13 @@ use Rattle.page.specs.PageFormat.{OldPage, format1}
 use Rattle.page.proofs.Facts.{ok-is}
 use Rattle.page.proofs.Format1.{format1-rules}
 use Rattle.image.specs.PageZero.{page_count, root_of, no_mark, words_past}
-use Rattle.image.specs.Image.{height_of, reached, among, sound}
+use Rattle.image.specs.Image.{height_of, reached, among, sound, count}
 use Rattle.image.specs.Facts.{Sound}
 use Rattle.image.specs.Table.{table_in, table}
 use Rattle.image.specs.Live.{covered, live_in, live}
 use Rattle.image.proofs.Zero.{Line, size-true, ready-facts, facts-ready}
 use Rattle.image.proofs.Soundness.{sound-facts, tree_in-sound}
+use Rattle.image.proofs.Times.{count-among, among-count}
 use Rattle.edit.specs.EditList.{Edit}
 use Rattle.edit.specs.Ledger.{apply_edits}
 use Rattle.edit.specs.Reads.{Proper}
@@ -38,9 +39,9 @@ use Rattle.journal.specs.Changes.{word_size, page_words, line_words, free_word}
 use Rattle.journal.specs.Edited.{Edited}
 use Rattle.tree.specs.State.{State, begin}
 use Rattle.tree.specs.Whole.{finished, edits_on, edited_image}
-use Rattle.tree.specs.Good.{count, inside}
+use Rattle.tree.specs.Good.{inside}
 use Rattle.tree.proofs.General.{byte-part, byte_past}
-use Rattle.tree.proofs.Counts.{inside-most, inside-range, inside-page, count-among, among-count}
+use Rattle.tree.proofs.Counts.{inside-most, inside-range, inside-page}
 use Rattle.tree.proofs.SameTree.{SameTree, same-tree, own-page, pages-laid}
 use Rattle.tree.proofs.Runs.{Run, begin-good, begin-table, edits-run}
 use Rattle.tree.proofs.PutBack.{byte-page, Ended, edited-length, edited-root, edited-reached, edited-other, edited-mark, edited-word, edited-past}

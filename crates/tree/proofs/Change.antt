@@ -10,9 +10,8 @@ use Rattle.device.specs.Calls.{pages_out}
 use Rattle.page.specs.Layout.{Rec, top_key}
 use Rattle.page.specs.Operations.{page_of}
 use Rattle.page.specs.PageFormat.{Lists, PageFormat, Rules}
-use Rattle.image.specs.Image.{first_key, index_rec}
+use Rattle.image.specs.Image.{first_key, index_rec, count}
 use Rattle.tree.specs.Edits.{Change, PageStep, gone, kept, now, one, stops, two}
-use Rattle.tree.specs.Good.{count}
 use Rattle.tree.specs.State.{State, take_page, taken}
 
 -- ---- a step
@@ -144,3 +143,13 @@ module _ (Pg : PageFormat) where
 -- a sound page lists its records
 pub lists-sound : (Pg : PageFormat) → Rules Pg → (kind own : ℕ) (p : List ℕ) → Pg.ok kind own p ≡ true → Lists Pg p kind own (Pg.recs p)
 lists-sound Pg rules kind own p h = let k = rules.reads.ok-true kind own p h in record { laid = k.laid; kind = k.kind; own = k.own; recs = refl }
+
+-- a page is taken
+pub taken_is : {A : Type 0} (P : A → Type 0) (out : A) (st : State) (k : ℕ → State → A) → P out →
+    ((p : ℕ) (f : List ℕ) → st.free ≡ p ∷ f → P (k p (record { image = st.image; root = st.root; free = f }))) → P (taken out st k)
+unfolding taken take_page
+taken_is P out st k a h = go st.free refl
+  where
+    go : (f : List ℕ) → st.free ≡ f → P (take_page out f st k)
+    go [] z = a
+    go (p ∷ f) z = h p _ (search z)

@@ -20,16 +20,16 @@ use Rattle.page.specs.PageFormat.{PageFormat, Lower, format1}
 use Rattle.page.proofs.Listed.{count_at}
 use Rattle.page.proofs.Format1.{format1-sinks}
 use Rattle.image.specs.PageZero.{page_count, root_of}
-use Rattle.image.specs.Image.{child_of, records_at, joined, gathered, pages_in, height_of, reached, among, sound}
+use Rattle.image.specs.Image.{child_of, records_at, joined, gathered, pages_in, height_of, reached, among, sound, hit, count}
 use Rattle.image.proofs.General.{part-part}
+use Rattle.image.proofs.Times.{hit-self, hit_other, count-append, count-among}
 use Rattle.edit.specs.EditList.{Edit}
 use Rattle.edit.specs.Reads.{Proper}
 use Rattle.edit.proofs.General.{by-test}
 use Rattle.journal.specs.Changes.{header_line, changed_from, changed_pages, same_root}
 use Rattle.tree.specs.State.{State, begin}
 use Rattle.tree.specs.Whole.{finished, edits_on, edited_image}
-use Rattle.tree.specs.Good.{hit, count}
-use Rattle.tree.proofs.Counts.{hit-self, hit_other, count-append, inside-most, inside-range, count-among}
+use Rattle.tree.proofs.Counts.{inside-most, inside-range}
 use Rattle.tree.proofs.Runs.{Run, begin-good, edits-run}
 use Rattle.tree.proofs.SameTree.{same-height, own-page}
 use Rattle.tree.proofs.Touched.{Touch, edits-touch}

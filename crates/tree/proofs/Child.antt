@@ -3,40 +3,35 @@
 use Prim.Native.Nat.{ℕ, suc, ◌+◌, ◌*◌, ◌≤◌, ◌<◌}
 use mathlib.Core.Path.{◌≡◌, refl, ap, ◌∙◌, subst}
 use mathlib.Core.Logic.{◌⊎◌, inl, inr}
-use mathlib.Core.Bool.{Bool, true, false}
+use mathlib.Core.Bool.{Bool, true}
 use mathlib.Core.List.{List, [], ◌∷◌, ◌++◌}
 use native.Mathlib.Omega.{arith}
 use lib.ListN.{length, length-append}
-use lib.Dec.{eqb}
-use borrow.Author.Tests.{eqb-true, ne_eqb}
 use Rattle.codec.specs.Lists.{All}
 use Rattle.codec.proofs.Tests.{All-map}
 use Rattle.page.specs.Layout.{Rec, page_size, top_key}
 use Rattle.page.specs.Operations.{page_of}
 use Rattle.page.specs.Page.{form_ok}
+use Rattle.page.proofs.Facts.{form-index, index-form}
 use Rattle.page.specs.PageFormat.{PageFormat, Rules}
 use Rattle.image.specs.Facts.{Nonempty, Rising, Spans, Under}
-use Rattle.image.specs.Image.{Entries, IsEntry, child_of, first_key, gathered, joined, leaves_in, pages_in, records_at, start_of}
+use Rattle.image.specs.Image.{Entries, IsEntry, child_of, first_key, gathered, joined, leaves_in, pages_in, records_at, start_of, count, hit}
 use Rattle.image.proofs.Alike.{leaves-some}
 use Rattle.image.proofs.General.{All-left}
 use Rattle.image.proofs.Ranges.{first-least, first-most, joined-append, spans-cut}
 use Rattle.image.proofs.Rising.{rising_le, rising-split}
+use Rattle.image.proofs.Times.{count-append}
 use Rattle.edit.proofs.General.{all_right}
-use Rattle.tree.specs.Good.{count, hit, inside}
+use Rattle.tree.specs.Good.{inside}
 use Rattle.tree.specs.State.{State}
-use Rattle.tree.proofs.Counts.{count-append, count-joined}
+use Rattle.tree.proofs.Counts.{count-joined}
 use Rattle.tree.proofs.Settle.{Forms}
 
-index-kind : (h : ℕ) → eqb (suc (suc h)) 1 ≡ false
-index-kind h = ne_eqb (suc (suc h)) 1 (λ e. omega arith)
-
 pub entry-forms : (h : ℕ) (rs : List Rec) → Entries rs → Forms (suc h) rs
-unfolding form_ok
-entry-forms h rs e = All-map IsEntry (λ (r : Rec). form_ok (suc (suc h)) r ≡ true) (λ r k. rw (index-kind h, k)) rs e
+entry-forms h rs e = All-map IsEntry (λ (r : Rec). form_ok (suc (suc h)) r ≡ true) (form-index h) rs e
 
-form-entries : (h : ℕ) (rs : List Rec) → Forms (suc h) rs → Entries rs
-unfolding form_ok
-form-entries h rs e = All-map (λ (r : Rec). form_ok (suc (suc h)) r ≡ true) IsEntry (λ r k. eqb-true (length r.value) 2 (rw (index-kind h) at k)) rs e
+pub form-entries : (h : ℕ) (rs : List Rec) → Forms (suc h) rs → Entries rs
+form-entries h rs e = All-map (λ (r : Rec). form_ok (suc (suc h)) r ≡ true) IsEntry (index-form h) rs e
 
 module _ (Pg : PageFormat) where
   -- the page of the record c, of height h, and all under it stand for the range lo to hi in the state st

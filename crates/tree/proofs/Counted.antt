@@ -15,17 +15,17 @@ use Rattle.page.specs.Operations.{fits_in, made, page_of, sizes}
 use Rattle.page.specs.Page.{RecOk}
 use Rattle.page.specs.PageFormat.{CanPlace, PageFormat, Rules}
 use Rattle.page.proofs.Made.{All-made}
-use Rattle.image.specs.Image.{Entries, IsEntry, entry_size, index_rec}
+use Rattle.image.specs.Image.{Entries, IsEntry, entry_size, index_rec, count, hit}
 use Rattle.image.proofs.General.{All-append, All-left}
 use Rattle.image.proofs.IndexRecords.{index-entry, index_ok, size-entry, sizes-entries}
+use Rattle.image.proofs.Times.{hit-self}
 use Rattle.edit.proofs.General.{all_right, by-test}
 use Rattle.tree.specs.Edits.{Change, PageStep, absorbed, copied, copy_then, gone, is_full, kept, moved, now, one, put, stops, then_into, two}
-use Rattle.tree.specs.Good.{count, hit, inside}
+use Rattle.tree.specs.Good.{inside}
 use Rattle.tree.specs.Grounds.{first_takes, room_after, second_takes, takes, takes_above, raised_above}
 use Rattle.tree.specs.State.{State, filled, with_page}
 use Rattle.tree.proofs.Absorb.{first_out, new-entries, same_length, small-enough}
 use Rattle.tree.proofs.Change.{Holds, Out, SepsOk, out-ends, taken-ends, raised}
-use Rattle.tree.proofs.Counts.{hit-self}
 use Rattle.tree.proofs.General.{inserted-seam, made-seam}
 use Rattle.tree.proofs.Puts.{Puts, dropped-is, update-room}
 use Rattle.tree.proofs.States.{filled-facts, write-here}

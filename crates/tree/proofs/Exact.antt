@@ -1,10 +1,10 @@
--- One edit is refused exactly by its ground: 8 and 9 by the table, 10 where no page above its leaf has room, 11 by the pages that it takes.
+-- One edit is refused exactly by its ground: 8 and 9 by the table, 10 where no page above its leaf has room, which is never so, 11 by the pages that it takes.
 -- Assumes nothing.
 use Rattle.std.specs.Prelude.{Err, Ok, Option, Result}
 use Prim.Native.Nat.{ℕ, zero, suc, ◌+◌, ◌≤◌, ◌<◌}
 use mathlib.Core.Path.{◌≡◌, refl, sym, ap, ◌∙◌, subst}
 use mathlib.Core.Logic.{◌⊎◌, inl, inr}
-use mathlib.Core.Bool.{Bool, true, false, ◌&&◌, and-false}
+use mathlib.Core.Bool.{Bool, true, false}
 use mathlib.Core.List.{List, [], ◌∷◌, ◌++◌}
 use native.Mathlib.Omega.{arith}
 use lib.ListN.{length}
@@ -17,7 +17,7 @@ use Rattle.page.specs.Operations.{made, page_of}
 use Rattle.page.specs.PageFormat.{PageFormat, Rules}
 use Rattle.page.specs.Search.{searched}
 use Rattle.image.specs.Facts.{Rising, Under}
-use Rattle.image.specs.Image.{child_of, first_key, gathered, height_in, index_rec, records_at, start_of, tallest}
+use Rattle.image.specs.Image.{child_of, first_key, gathered, height_in, index_rec, records_at, start_of, count}
 use Rattle.image.specs.Route.{route}
 use Rattle.image.specs.Table.{find, table_in}
 use Rattle.edit.specs.EditList.{Edit, key_of}
@@ -30,20 +30,20 @@ use Rattle.edit.proofs.Keys.{found_some}
 use Rattle.edit.proofs.Ledger.{lacks-find}
 use Rattle.edit.proofs.Places.{search-missing, search-there}
 use Rattle.tree.specs.Edits.{Change, PageStep, absorbed, edit_in, edit_leaf, edited_in, gone, kept, now, one, only_leaf, onto, rooted, stops, two}
-use Rattle.tree.specs.Good.{GoodIn, count}
-use Rattle.tree.specs.Grounds.{ground_in, leaf_takes, next_slot, overflows, placing_in, takes_above, takes_edit, takes_in, raised_above, raised_in}
+use Rattle.tree.specs.Good.{GoodIn}
+use Rattle.tree.specs.Grounds.{ground_in, leaf_takes, next_slot, placing_in, takes_above, takes_edit, takes_in, raised_above, raised_in}
 use Rattle.tree.specs.State.{State, Step, done, filled, refused, take_page, taken, with_root}
 use Rattle.tree.proofs.Change.{Out, raised}
 use Rattle.tree.proofs.Child.{Here, Parts, parts}
 use Rattle.tree.proofs.Counted.{absorbed-counted}
-use Rattle.tree.proofs.Descent.{EndedUnder, Splits, edit-ended, splits_all}
-use Rattle.tree.proofs.Flag.{edit-flag}
+use Rattle.tree.proofs.Descent.{AllFull, EndedUnder, edit-ended}
 use Rattle.tree.proofs.Height.{height-range, tallest-kind}
 use Rattle.tree.proofs.Leaf.{EndedAt}
 use Rattle.tree.proofs.Node.{Altered, lists-own, no_more, own_same}
 use Rattle.tree.proofs.Puts.{dropped-is}
 use Rattle.tree.proofs.Root.{here, names-root}
 use Rattle.tree.proofs.Routes.{Down, down}
+use Rattle.tree.proofs.Spare.{edited-plain, never-overflows}
 use Rattle.tree.proofs.States.{leads-free}
 use Rattle.tree.proofs.Takes.{Counted, put-counted}
 
@@ -134,7 +134,7 @@ module _ (Pg : PageFormat) (rules : Rules Pg) (keep : ℕ → Pg.Keep) (n : ℕ)
         let K = parts Pg rules n F only st h lo hi c H D.pre D.here D.post D.shape in
         let k = table_in Pg st.image h (child_of D.here) in
         let low = start_of D.pre lo D.here.key in
-        let W : Type 0 = Splits Pg keep e st.image h (child_of D.here) in
+        let W : Type 0 = AllFull Pg (key_of e) st.image h (child_of D.here) in
         let s = edit_in Pg keep only false e h low (child_of D.here) st in
         let o = ended-zero (key_rule e k) (Altered Pg keep n F only st h low (first_key D.post hi) D.here (apply_edit e k) W) s z ends in
         rw (D.next, slot, D.is, D.start)
@@ -189,14 +189,12 @@ module _ (Pg : PageFormat) (h : ℕ) where
       go [] l = sym (short-yes (need + pick (eqb w 2) 1 0) f (omega (arith, l, raises-two)))
       go (r ∷ g) l = sym (short-no (need + pick (eqb w 2) 1 0) f (omega (arith, l, raises-two)))
 
-  -- the key rule, then 10, then 11
-  ground-code : (f : List ℕ) (need w : ℕ) (P : Change → State → Type 0) (r : ℕ) (x y : Bool) (s : PageStep) → (r ≡ 0 → Counted need w f s) → EndedAt r P s →
-      code (rooted Pg h (pick (x && (eqb r 0 && y)) (stops index_full) s)) ≡ pick (eqb r 0) (pick (x && y) index_full (short_by (need + pick (eqb w 2) 1 0) f)) r
+  -- the key rule, then 11
+  ground-code : (f : List ℕ) (need w : ℕ) (P : Change → State → Type 0) (r : ℕ) (s : PageStep) → (r ≡ 0 → Counted need w f s) → EndedAt r P s →
+      code (rooted Pg h s) ≡ pick (eqb r 0) (short_by (need + pick (eqb w 2) 1 0) f) r
   unfolding rooted
-  ground-code f need w P zero true true s c o = refl
-  ground-code f need w P zero true false s c o = rooted-code f need w P s (c refl) o
-  ground-code f need w P zero false y s c o = rooted-code f need w P s (c refl) o
-  ground-code f need w P (suc r) x y s c o = rw (ne_eqb (suc r) 0 (λ z. omega arith), and-false x, o)
+  ground-code f need w P zero s c o = rooted-code f need w P s (c refl) o
+  ground-code f need w P (suc r) s c o = rw (ne_eqb (suc r) 0 (λ z. omega arith), o)
 
 -- ---- the ground
 
@@ -231,10 +229,28 @@ module _ (Pg : PageFormat) (keep : ℕ → Pg.Keep) (st : State) (e : Edit) wher
       go (inr (inl z)) = rw z (present z)
       go (inr (inr z)) = rw z (missing z)
 
+-- "10 .. is shown never to occur": what is left where the key rule is kept is 11
+module _ (Pg : PageFormat) (rules : Rules Pg) (keep : ℕ → Pg.Keep) (n : ℕ) (st : State) (G : GoodIn Pg n st) (e : Edit) where
+  placing-short : placing_in Pg keep st e ≡ short_by (takes_edit Pg keep e st) st.free
+  unfolding placing_in
+  placing-short = ap (λ (b : Bool). pick b index_full (short_by (takes_edit Pg keep e st) st.free)) (never-overflows Pg rules keep n st G e)
+
+  pub ground-spare : ground_in Pg keep st e ≡ 10 → ⊥
+  ground-spare z = go (rule-cases e (table_in Pg st.image (height_in Pg st.image st.root) st.root))
+    where
+      short : (b : Bool) → pick b pages_out 0 ≡ 10 → ⊥
+      short true y = let q : ◌≡◌ {A = ℕ} 11 10 = y in omega arith
+      short false y = let q : ◌≡◌ {A = ℕ} 0 10 = y in omega arith
+
+      go : (rule Pg keep st e ≡ 0) ⊎ ((rule Pg keep st e ≡ 8) ⊎ (rule Pg keep st e ≡ 9)) → ⊥
+      go (inl y) = short (ltb (length st.free) (takes_edit Pg keep e st)) (sym (ground-placed Pg keep st e y ∙ placing-short) ∙ z)
+      go (inr (inl y)) = omega (arith, present Pg keep st e y, z)
+      go (inr (inr y)) = omega (arith, missing Pg keep st e y, z)
+
 -- "8 insert of a key present; 9 other edit of a missing key; 10 a 29th index record; 11 too few new pages", exactly
 pub edit-exact-in : (Pg : PageFormat) (rules : Rules Pg) (keep : ℕ → Pg.Keep) (n : ℕ) (st : State) → GoodIn Pg n st → ((x : ℕ) → 1 ≤ count x st.free → keep x ≡ Pg.none) → (e : Edit) → Proper e →
     code (edited_in Pg keep e st) ≡ ground_in Pg keep st e
-unfolding placing_in overflows takes_edit edited_in
+unfolding takes_edit
 edit-exact-in Pg rules keep n st G clear e P =
     let F = st.free in
     let h = height_in Pg st.image st.root in
@@ -244,15 +260,14 @@ edit-exact-in Pg rules keep n st G clear e P =
     let kind : suc h < 256 = omega (arith, range.1, tallest-kind) in
     let H = here Pg rules keep n F st G (λ x. omega arith) in
     let N = names-root Pg rules keep n F st G (λ x. omega arith) in
-    let flag = edit-flag Pg keep only st (eqb h tallest) h 0 (suc top_key) st.root G.under e (omega arith) (omega (arith, P.high)) in
     let A : key_rule e (table_in Pg st.image h (child_of c)) ≡ 0 → Counted (takes_in Pg keep e st.image h (child_of c)) (raised_in Pg keep e st.image h (child_of c)) F (edit_in Pg keep only false e h 0 (child_of c) st) =
     edit-counted Pg rules keep n F clear only st h kind 0 (suc top_key) c H e P (omega arith) (omega (arith, P.high)) in
     let B = edit-ended Pg rules keep n F only st h kind 0 (suc top_key) c H e P (omega arith) (omega (arith, P.high)) in
-    ap (λ (s : PageStep). code (rooted Pg h s)) flag
+    ap code (edited-plain Pg rules keep n st G e)
     ∙ subst (λ (x : ℕ).
-    code (rooted Pg h (pick (eqb h tallest && (eqb (key_rule e (table_in Pg st.image h x)) 0 && splits_all Pg keep e st.image h x)) (stops index_full) (edit_in Pg keep only false e h 0 x st)))
-    ≡ pick (eqb (key_rule e (table_in Pg st.image h x)) 0) (pick (eqb h tallest && splits_all Pg keep e st.image h x) index_full
-    (short_by (takes_in Pg keep e st.image h x + pick (eqb (raised_in Pg keep e st.image h x) 2) 1 0) F)) (key_rule e (table_in Pg st.image h x))) N
-    (ground-code Pg h F (takes_in Pg keep e st.image h (child_of c)) (raised_in Pg keep e st.image h (child_of c)) _ (key_rule e (table_in Pg st.image h (child_of c))) (eqb h tallest)
-    (splits_all Pg keep e st.image h (child_of c)) (edit_in Pg keep only false e h 0 (child_of c) st) A B)
-    ∙ sym (ground-is Pg keep st e)
+    code (rooted Pg h (edit_in Pg keep only false e h 0 x st))
+    ≡ pick (eqb (key_rule e (table_in Pg st.image h x)) 0)
+    (short_by (takes_in Pg keep e st.image h x + pick (eqb (raised_in Pg keep e st.image h x) 2) 1 0) F) (key_rule e (table_in Pg st.image h x))) N
+    (ground-code Pg h F (takes_in Pg keep e st.image h (child_of c)) (raised_in Pg keep e st.image h (child_of c)) _ (key_rule e (table_in Pg st.image h (child_of c)))
+    (edit_in Pg keep only false e h 0 (child_of c) st) A B)
+    ∙ sym (ground-is Pg keep st e ∙ ap (λ (x : ℕ). pick (eqb (rule Pg keep st e) 0) x (rule Pg keep st e)) (placing-short Pg rules keep n st G e))

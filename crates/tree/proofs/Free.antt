@@ -8,14 +8,15 @@ use native.Mathlib.Omega.{arith}
 use lib.Dec.{leb, eqb}
 use borrow.Author.Tests.{leb-true, leb-false, eqb-true, eqb-false, eq-eqb, ne_eqb}
 use Rattle.codec.specs.Lists.{pick}
-use Rattle.image.specs.Image.{among}
+use Rattle.image.specs.Image.{among, hit, count}
 use Rattle.image.proofs.Zero.{true-is_page}
 use Rattle.image.proofs.Apart.{among-append}
+use Rattle.image.proofs.Times.{hit-self, hit_other, among_none}
 use Rattle.tree.specs.State.{others}
-use Rattle.tree.specs.Good.{hit, count, inside}
+use Rattle.tree.specs.Good.{inside}
 use Rattle.tree.specs.NewPages.{Highest}
 use Rattle.edit.proofs.General.{by-test}
-use Rattle.tree.proofs.Counts.{hit-self, hit_other, inside_is, among_none}
+use Rattle.tree.proofs.Counts.{inside_is}
 
 -- ---- what they are
 

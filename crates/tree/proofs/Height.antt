@@ -15,16 +15,16 @@ use Rattle.page.specs.Layout.{Rec, page_size, top_key}
 use Rattle.page.specs.Operations.{page_of}
 use Rattle.page.specs.PageFormat.{PageFormat, ReadRules}
 use Rattle.image.specs.Facts.{Nonempty, Under}
-use Rattle.image.specs.Image.{height_in, leaves_in, pages_in, tallest}
+use Rattle.image.specs.Image.{height_in, leaves_in, pages_in, tallest, count}
 use Rattle.image.specs.Table.{table_in}
 use Rattle.edit.proofs.General.{by-test}
-use Rattle.tree.specs.Good.{GoodIn, count, inside}
+use Rattle.tree.specs.Good.{GoodIn, inside}
 use Rattle.tree.specs.State.{State}
 
 -- ---- all that the laws know of the greatest height
 
-pub tallest-least : 1 ≤ tallest
-tallest-least = omega arith
+pub tallest-top : 2 ≤ tallest
+tallest-top = omega arith
 
 -- the kind of a page is a byte
 pub tallest-kind : suc tallest < 256
@@ -46,7 +46,7 @@ module _ (Pg : PageFormat) where
       let h = Pg.kind_of (page_of img q) - 1 in
       by-test (λ (k : ℕ). (1 ≤ k) × (k ≤ tallest)) (leb 1 h && leb h tallest)
       (λ e. (leb-true 1 h (first (leb 1 h) (leb h tallest) e), leb-true h tallest (second (leb 1 h) (leb h tallest) e)))
-      (λ e. (omega arith, tallest-least))
+      (λ e. (omega arith, omega (arith, tallest-top)))
 
   -- a root of height h says so
   pub height-is : ReadRules Pg → (img : List ℕ) (h lo hi q : ℕ) → 1 ≤ h → h ≤ tallest → Under Pg img h lo hi q → height_in Pg img q ≡ h

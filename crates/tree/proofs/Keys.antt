@@ -11,7 +11,7 @@ use Rattle.page.specs.Layout.{Rec}
 use Rattle.page.specs.PageFormat.{format1}
 use Rattle.page.proofs.Format1.{format1-rules}
 use Rattle.image.specs.PageZero.{page_count}
-use Rattle.image.specs.Image.{sound}
+use Rattle.image.specs.Image.{sound, count}
 use Rattle.image.specs.Table.{table}
 use Rattle.image.proofs.General.{All-left}
 use Rattle.edit.specs.EditList.{Edit}
@@ -24,7 +24,7 @@ use Rattle.tree.specs.Edits.{no_keep, edited}
 use Rattle.tree.specs.Whole.{finished, onward, edits_from, edits_on, edits_from_in}
 use Rattle.tree.specs.Grounds.{table_of, edit_ground, Grounds}
 use Rattle.tree.specs.Reasons.{Room, in_place, copied, no_copy, no_index, split, no-split, Reason, broken, inserted, updated, deleted}
-use Rattle.tree.specs.Good.{count, Good}
+use Rattle.tree.specs.Good.{Good}
 use Rattle.tree.proofs.States.{leads-free}
 use Rattle.tree.proofs.Exact.{code}
 use Rattle.tree.proofs.Outcomes.{RunIn, OutcomesIn, outcomes-in}
@@ -34,13 +34,13 @@ use Rattle.tree.proofs.Reasons.{ground-reason}
 -- ---- one edit
 
 -- there is room, or 10 or more says that there is none
-room-number : {st : State} {ins : Bool} {s : ℕ} {p : List ℕ} {rs : List Rec} (g : ℕ) → Room st ins s p rs g → (g ≡ 0) ⊎ (10 ≤ g)
+room-number : {st : State} {k : ℕ} {ins : Bool} {s : ℕ} {p : List ℕ} {rs : List Rec} (g : ℕ) → Room st k ins s p rs g → (g ≡ 0) ⊎ (10 ≤ g)
 room-number _ (in_place _) = inl refl
-room-number _ (copied _ _ _) = inl refl
-room-number _ (no_copy _ _ _) = inr (omega arith)
+room-number _ (copied _ _ _ _ _) = inl refl
+room-number _ (no_copy _ _ _ _ _) = inr (omega arith)
 room-number _ (no_index _ _ _) = inr (omega arith)
-room-number _ (split _ _ _ _) = inl refl
-room-number _ (no-split _ _ _ _) = inr (omega arith)
+room-number _ (split _ _ _ _ _ _) = inl refl
+room-number _ (no-split _ _ _ _ _ _) = inr (omega arith)
 
 not-room : (g : ℕ) → 8 ≤ g → g ≤ 9 → (g ≡ 0) ⊎ (10 ≤ g) → ⊥
 not-room g low high (inl z) = omega arith

@@ -20,7 +20,7 @@ use Rattle.page.specs.Search.{searched}
 use Rattle.page.proofs.Facts.{form-leaf, leaf-form}
 use Rattle.page.proofs.Made.{All-made}
 use Rattle.image.specs.Facts.{Nonempty, Rising}
-use Rattle.image.specs.Image.{child_of, gathered, leaves_in, pages_in}
+use Rattle.image.specs.Image.{child_of, gathered, leaves_in, pages_in, count, hit}
 use Rattle.image.specs.Table.{find}
 use Rattle.image.proofs.Rising.{From}
 use Rattle.edit.specs.EditList.{Edit, key_of}
@@ -32,15 +32,13 @@ use Rattle.edit.proofs.Keys.{found_some}
 use Rattle.edit.proofs.Ledger.{lacks-find, rising-add, rising-replace, rising-without}
 use Rattle.edit.proofs.Places.{search-missing, search-there}
 use Rattle.tree.specs.Edits.{Change, PageStep, dropped, edit_leaf, gone, kept, now, one, put, stops, two}
-use Rattle.tree.specs.Good.{count, hit}
-use Rattle.tree.specs.Grounds.{leaf_takes, takes}
+use Rattle.tree.specs.Grounds.{takes}
 use Rattle.tree.specs.State.{State, with_page}
-use Rattle.tree.proofs.Change.{Held, Holds, Out, lists-sound, nothing, out-ends, out-map, standing, raised}
+use Rattle.tree.proofs.Change.{Held, Holds, Out, lists-sound, nothing, out-ends, out-map, standing}
 use Rattle.tree.proofs.Child.{Here}
 use Rattle.tree.proofs.Node.{Altered}
 use Rattle.tree.proofs.Puts.{Puts, dropped-gone, dropped-only, dropped-puts, dropped-some, put-ends}
 use Rattle.tree.proofs.Settle.{InnerFor, settled}
-use Rattle.tree.proofs.Takes.{out-counted, put-counted}
 
 -- stopped with g, or if g is 0 stopped with 11 or made with P
 abbrev pub EndedAt : ℕ → (Change → State → Type 0) → PageStep → Type 0
@@ -111,9 +109,9 @@ module _ (Pg : PageFormat) (rules : Rules Pg) (keep : ℕ → Pg.Keep) where
     unfolding leaves_in gathered
     one-leaf = refl
 
-    leaf-made : (rs : List Rec) (W : Type 0) → Rising lo rs hi → From 1 rs → (ch : Change) (t : State) → Fills ch rs → (raised ch ≡ 2 → W) →
-        Puts Pg keep F st q leaf_kind rs ch t → Altered Pg keep n F only st 0 lo hi c rs W ch t
-    leaf-made rs W up keys ch t fills raises-two P =
+    leaf-made : (rs : List Rec) → Rising lo rs hi → From 1 rs → (ch : Change) (t : State) → Fills ch rs →
+        Puts Pg keep F st q leaf_kind rs ch t → Altered Pg keep n F only st 0 lo hi c rs (Unit {0}) ch t
+    leaf-made rs up keys ch t fills P =
         let S = settled Pg rules n H.few t.image 0 lo hi H.high c H.entry H.low H.below rs
         (All-map (λ (r : Rec). 1 ≤ r.key) (λ (r : Rec). form_ok leaf_kind r ≡ true) form-leaf rs keys) up ch P.held
         (λ x. omega (arith, P.pages x, H.apart x, pages-one x)) (inner-none ch t.image rs) in
@@ -132,28 +130,26 @@ module _ (Pg : PageFormat) (rules : Rules Pg) (keep : ℕ → Pg.Keep) where
               subst (λ (l : List ℕ). All (Nonempty Pg t.image) l ⊎ ((only ≡ true) × (length l ≡ 1))) (sym S.leaves) (leaf-filled ch t rs P.held fills);
           lost = omega (arith, one-leaf);
           stays = leaf-stays ch rs fills;
-          raises-two = raises-two;
+          raises-two = λ z. tt;
         }
 
     put-leaf : (ins : Bool) (j : ℕ) (r : Rec) → RecOk r → 1 ≤ r.key → (rs : List Rec) → made ins j r (Pg.recs p) ≡ rs → 1 ≤ length rs → Rising lo rs hi →
-        Out (Altered Pg keep n F only st 0 lo hi c rs (takes Pg (keep q) ins (size r) p rs ≡ 2)) (put Pg keep leaf_kind false ins j r q st)
+        Out (Altered Pg keep n F only st 0 lo hi c rs (Unit {0})) (put Pg keep leaf_kind false ins j r q st)
     put-leaf ins j r ok key rs e some up =
         let new = made ins j r (Pg.recs p) in
-        let W : Type 0 = takes Pg (keep q) ins (size r) p new ≡ 2 in
         let P : Change → State → Type 0 = Puts Pg keep F st q leaf_kind new in
         let s = put Pg keep leaf_kind false ins j r q st in
-        subst (λ (l : List Rec). Out (Altered Pg keep n F only st 0 lo hi c l (takes Pg (keep q) ins (size r) p l ≡ 2)) s) e
-        (out-map (λ ch t. P ch t × (raised ch ≡ takes Pg (keep q) ins (size r) p new)) (Altered Pg keep n F only st 0 lo hi c new W) s
+        subst (λ (l : List Rec). Out (Altered Pg keep n F only st 0 lo hi c l (Unit {0})) s) e
+        (out-map P (Altered Pg keep n F only st 0 lo hi c new (Unit {0})) s
         (λ ch t A.
-        leaf-made new W (rw e up) (All-made (λ (x : Rec). 1 ≤ x.key) ins j r (Pg.recs p) key leaf-keys) ch t (fills-any ch t new A.0.held (rw e some)) (λ z. sym A.1 ∙ z) A.0)
-        (out-counted P (takes Pg (keep q) ins (size r) p new) (takes Pg (keep q) ins (size r) p new) st.free s (put-counted Pg keep leaf_kind ins j r q st new refl)
+        leaf-made new (rw e up) (All-made (λ (x : Rec). 1 ≤ x.key) ins j r (Pg.recs p) key leaf-keys) ch t (fills-any ch t new A.held (rw e some)) A)
         (out-ends P st.free (takes Pg (keep q) ins (size r) p new) s
-        (put-ends Pg rules keep n H.few F st H.long q leaf_kind (omega arith) (Pg.recs p) own (λ x. omega (arith, H.apart x, pages-one x)) H.sub ins j r ok (rw e some)))))
+        (put-ends Pg rules keep n H.few F st H.long q leaf_kind (omega arith) (Pg.recs p) own (λ x. omega (arith, H.apart x, pages-one x)) H.sub ins j r ok (rw e some))))
 
-    drop-leaf : (W : Type 0) (j : ℕ) → j < length (Pg.recs p) → (rs : List Rec) → remove_at j (Pg.recs p) ≡ rs → Rising lo rs hi →
-        Out (Altered Pg keep n F only st 0 lo hi c rs W) (dropped Pg only j q st)
-    drop-leaf W j inn rs e up =
-        subst (λ (l : List Rec). Out (Altered Pg keep n F only st 0 lo hi c l W) (dropped Pg only j q st)) e (go (length (Pg.recs (Pg.remove p j))) refl only refl)
+    drop-leaf : (j : ℕ) → j < length (Pg.recs p) → (rs : List Rec) → remove_at j (Pg.recs p) ≡ rs → Rising lo rs hi →
+        Out (Altered Pg keep n F only st 0 lo hi c rs (Unit {0})) (dropped Pg only j q st)
+    drop-leaf j inn rs e up =
+        subst (λ (l : List Rec). Out (Altered Pg keep n F only st 0 lo hi c l (Unit {0})) (dropped Pg only j q st)) e (go (length (Pg.recs (Pg.remove p j))) refl only refl)
       where
         put_back : Puts Pg keep F st q leaf_kind (remove_at j (Pg.recs p)) kept (with_page q (Pg.remove p j) st)
         put_back = dropped-puts Pg rules keep n H.few F st H.long q leaf_kind (omega arith) (Pg.recs p) own (λ x. omega (arith, H.apart x, pages-one x)) H.sub j inn
@@ -162,11 +158,11 @@ module _ (Pg : PageFormat) (rules : Rules Pg) (keep : ℕ → Pg.Keep) where
         listed = (rules.remove-lists p j (rules.reads.ok-true leaf_kind q p H.under.page).laid).recs
 
         Left : PageStep → Type 0
-        Left = Out (Altered Pg keep n F only st 0 lo hi c (remove_at j (Pg.recs p)) W)
+        Left = Out (Altered Pg keep n F only st 0 lo hi c (remove_at j (Pg.recs p)) (Unit {0}))
 
         here : (1 ≤ length (remove_at j (Pg.recs p))) ⊎ (only ≡ true) → Left (now kept (with_page q (Pg.remove p j) st))
         here h =
-            leaf-made (remove_at j (Pg.recs p)) W (rw e up) (All-remove (λ (r : Rec). 1 ≤ r.key) j (Pg.recs p) leaf-keys) kept (with_page q (Pg.remove p j) st) h (λ y. absurd (omega arith)) put_back
+            leaf-made (remove_at j (Pg.recs p)) (rw e up) (All-remove (λ (r : Rec). 1 ≤ r.key) j (Pg.recs p) leaf-keys) kept (with_page q (Pg.remove p j) st) h put_back
 
         go : (m : ℕ) → length (Pg.recs (Pg.remove p j)) ≡ m → (b : Bool) → only ≡ b → Left (dropped Pg b j q st)
         go (suc m) z b w = subst Left (sym (dropped-some Pg b j q st (omega arith))) (here (inl (omega (arith, ap length listed))))
@@ -174,7 +170,7 @@ module _ (Pg : PageFormat) (rules : Rules Pg) (keep : ℕ → Pg.Keep) where
         go zero z false w =
             let A = put_back in
             subst Left (sym (dropped-gone Pg j q st z))
-            (leaf-made (remove_at j (Pg.recs p)) W (rw e up) (All-remove (λ (r : Rec). 1 ≤ r.key) j (Pg.recs p) leaf-keys) gone (with_page q (Pg.remove p j) st) w (λ y. absurd (omega arith))
+            (leaf-made (remove_at j (Pg.recs p)) (rw e up) (All-remove (λ (r : Rec). 1 ≤ r.key) j (Pg.recs p) leaf-keys) gone (with_page q (Pg.remove p j) st) w
             (record {
               split-over = λ y. absurd (omega arith);
               leads = A.leads;
@@ -186,8 +182,8 @@ module _ (Pg : PageFormat) (rules : Rules Pg) (keep : ℕ → Pg.Keep) where
             }))
 
     pub leaf-ended : (e : Edit) → Proper e → lo ≤ key_of e → key_of e < hi → (s : Result ℕ ℕ) → searched (key_of e) 0 (Pg.recs p) ≡ s →
-        EndedAt (key_rule e (Pg.recs p)) (Altered Pg keep n F only st 0 lo hi c (apply_edit e (Pg.recs p)) (leaf_takes Pg (keep q) e p ≡ 2)) (edit_leaf Pg keep only false e q st s)
-    unfolding edit_leaf key_rule holds apply_edit made leaf_takes
+        EndedAt (key_rule e (Pg.recs p)) (Altered Pg keep n F only st 0 lo hi c (apply_edit e (Pg.recs p)) (Unit {0})) (edit_leaf Pg keep only false e q st s)
+    unfolding edit_leaf key_rule holds apply_edit made
     leaf-ended (edits.insert k v) P low high (Ok j) z =
         let T = search-there k lo (Pg.recs p) hi H.under.rising j z in rw (found_some (find k (Pg.recs p)) T.found) refl
     leaf-ended (edits.insert k v) P low high (Err j) z =
@@ -205,5 +201,5 @@ module _ (Pg : PageFormat) (rules : Rules Pg) (keep : ℕ → Pg.Keep) where
     leaf-ended (edits.update k v) P low high (Err j) z = let T = search-missing k lo (Pg.recs p) hi H.under.rising j z in rw (lacks-find k (Pg.recs p) T.lacks) refl
     leaf-ended (edits.delete k) P low high (Ok j) z =
         let T = search-there k lo (Pg.recs p) hi H.under.rising j z in
-        rw (found_some (find k (Pg.recs p)) T.found) (drop-leaf _ j T.inside (without k (Pg.recs p)) T.deleted (rising-without k lo (Pg.recs p) hi H.under.rising))
+        rw (found_some (find k (Pg.recs p)) T.found) (drop-leaf j T.inside (without k (Pg.recs p)) T.deleted (rising-without k lo (Pg.recs p) hi H.under.rising))
     leaf-ended (edits.delete k) P low high (Err j) z = let T = search-missing k lo (Pg.recs p) hi H.under.rising j z in rw (lacks-find k (Pg.recs p) T.lacks) refl

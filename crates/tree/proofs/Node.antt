@@ -15,21 +15,21 @@ use Rattle.page.specs.Layout.{Rec, line_size, page_size}
 use Rattle.page.specs.Operations.{fits_in, page_of, sizes}
 use Rattle.page.specs.PageFormat.{Lists, PageFormat, Rules}
 use Rattle.image.specs.Facts.{Nonempty, Rising, Spans, Under}
-use Rattle.image.specs.Image.{Entries, IsEntry, child_of, first_key, joined, leaves_in, pages_in, records_at, start_of}
+use Rattle.image.specs.Image.{Entries, IsEntry, child_of, first_key, joined, leaves_in, pages_in, records_at, start_of, count, hit}
 use Rattle.image.specs.Table.{table_in}
 use Rattle.image.proofs.Alike.{AllAlike, all_alike, like, under-wide}
 use Rattle.image.proofs.General.{All-append, All-left}
 use Rattle.image.proofs.IndexRecords.{sizes-entries}
 use Rattle.image.proofs.Ranges.{joined-append, rising-first}
 use Rattle.image.proofs.Rising.{rising_le}
+use Rattle.image.proofs.Times.{among-count, hit-self}
 use Rattle.edit.proofs.General.{all_right}
 use Rattle.tree.specs.Edits.{Change, absorbed, gone, kept, one, two}
-use Rattle.tree.specs.Good.{count, hit}
 use Rattle.tree.specs.State.{State}
 use Rattle.tree.proofs.Absorb.{absorbed-out, newer}
 use Rattle.tree.proofs.Change.{Held, Holds, NewIn, Out, SepsOk, Some, lists-sound, out-map, stand, raised}
 use Rattle.tree.proofs.Child.{Here, Parts, entry-forms}
-use Rattle.tree.proofs.Counts.{among-count, count-joined, hit-self, inside-most}
+use Rattle.tree.proofs.Counts.{count-joined, inside-most}
 use Rattle.tree.proofs.Puts.{Puts}
 use Rattle.tree.proofs.Settle.{InnerFor, replaced-rising, replaced-spans, settled}
 use Rattle.tree.proofs.States.{Leads, leads-free, leads-trans}

@@ -20,7 +20,7 @@ use Rattle.edit.proofs.General.{by-test}
 use Rattle.tree.specs.State.{State, Step, done, refused}
 use Rattle.tree.specs.Edits.{Change, PageStep, now, stops, kept, gone, one, two, is_full, copied, split, moved, put, dropped, copy_then, then_into, absorbed, edit_leaf, onto, low_of, edit_in, rooted, edited_in, no_keep, edited}
 use Rattle.tree.specs.Whole.{stopped, onward, edits_from, edits_on, edits_from_in}
-use Rattle.tree.proofs.IndexPut.{taken_is}
+use Rattle.tree.proofs.Change.{taken_is}
 
 -- ---- in a page
 

@@ -6,24 +6,23 @@ use mathlib.Core.Path.{◌≡◌, refl, sym, ap, ◌∙◌}
 use mathlib.Core.List.{List, [], ◌∷◌, ◌++◌}
 use native.Mathlib.Omega.{arith}
 use lib.ListN.{length}
-use lib.Dec.{eqb}
-use Rattle.codec.specs.Lists.{All, pick}
-use Rattle.device.specs.Calls.{index_full}
+use Rattle.codec.specs.Lists.{All}
 use Rattle.page.specs.Layout.{page_size}
 use Rattle.page.specs.PageFormat.{PageFormat, Rules}
 use Rattle.image.specs.Facts.{TreeIn}
-use Rattle.image.specs.Image.{height_in, pages_in}
+use Rattle.image.specs.Image.{height_in, pages_in, count}
 use Rattle.image.specs.PageZero.{page_count}
+use Rattle.image.proofs.Times.{count-distinct}
 use Rattle.edit.specs.EditList.{Edit}
 use Rattle.edit.specs.Keys.{key_rule}
 use Rattle.edit.specs.Ledger.{apply_edits}
 use Rattle.edit.specs.Reads.{Proper}
 use Rattle.tree.specs.Edits.{edited_in}
-use Rattle.tree.specs.Good.{GoodIn, count}
-use Rattle.tree.specs.Grounds.{ground_in, overflows}
+use Rattle.tree.specs.Good.{GoodIn}
+use Rattle.tree.specs.Grounds.{ground_in}
 use Rattle.tree.specs.State.{State, Step, done, others, refused}
 use Rattle.tree.specs.Whole.{Outcome, finished, onward, stopped, edits_from_in}
-use Rattle.tree.proofs.Counts.{count-distinct, count-inside, inside-most, inside-pages}
+use Rattle.tree.proofs.Counts.{count-inside, inside-most, inside-pages}
 use Rattle.tree.proofs.Exact.{code, edit-exact-in}
 use Rattle.tree.proofs.Free.{others_apart}
 use Rattle.tree.proofs.Height.{pages_at, table_at}
@@ -119,7 +118,7 @@ module _ (Pg : PageFormat) (rules : Rules Pg) (keep : ℕ → Pg.Keep) (n : ℕ)
           }
 
       g : ℕ
-      g = pick (eqb (key_rule e (table_at Pg s)) 0) (pick (overflows Pg keep e s) index_full 0) (key_rule e (table_at Pg s))
+      g = key_rule e (table_at Pg s)
 
       go : (x : Step) → edited_in Pg keep e s ≡ x → Ended g (Made Pg keep n F e s) x →
           ((t : State) → GoodIn Pg n t → ((x : ℕ) → count x t.free ≤ count x F) → OutcomesIn Pg keep n F (suc i) es t (edits_from_in Pg keep (suc i) es t)) →

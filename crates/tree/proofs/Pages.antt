@@ -1,4 +1,4 @@
--- Whether a record has room in one of document 01's pages, by the numbers of its header; and where the index records of a new page lie.
+-- Whether a record has room in one of document 01's pages, by the numbers of its header; and where the records of a new page lie.
 -- Assumes nothing.
 use Prim.Native.Nat.{ℕ, ◌-◌, ◌<◌}
 use mathlib.Core.Path.{◌≡◌, refl, sym, ap, ◌∙◌}
@@ -9,16 +9,14 @@ use lib.ListN.{length}
 use lib.Dec.{ltb, leb}
 use borrow.Author.Tests.{ltb-true, ltb-false, lt-ltb, le-ltb, leb-true, leb-false, le-leb, lt-leb}
 use Rattle.codec.proofs.Tests.{first, second}
-use Rattle.page.specs.Layout.{line_size, slot_count, Rec, read_head}
+use Rattle.page.specs.Layout.{line_size, slot_count, Rec, size, read_head}
 use Rattle.page.specs.Page.{records, Entry}
 use Rattle.page.specs.Operations.{placed}
 use Rattle.page.specs.PageFormat.{format1}
-use Rattle.image.specs.Image.{entry_size, Entries}
-use Rattle.image.proofs.IndexRecords.{size-entry}
 use Rattle.edit.proofs.General.{neither, not-both}
 use Rattle.tree.specs.Edits.{is_full}
 use Rattle.tree.specs.Reasons.{Full, NotFull}
-use Rattle.tree.specs.Moved.{down_from}
+use Rattle.tree.specs.Moved.{offsets}
 use Rattle.tree.proofs.Puts.{update-room}
 
 -- ---- whether a record of size s has room in a page
@@ -68,8 +66,8 @@ module _ (ins : Bool) (s : ℕ) (p : List ℕ) where
 
 -- ---- a new page
 
--- where the index records that fill puts into a page lie
-pub placed-down : (cs : List Rec) → Entries cs → (e : ℕ) → map (λ (x : Entry). x.at) (placed e cs) ≡ down_from (length cs) e
-unfolding placed down_from
-placed-down [] E e = refl
-placed-down (c ∷ cs) E e = rw (size-entry c E.0) (ap (λ (l : List ℕ). (e - entry_size) ∷ l) (placed-down cs E.1 (e - entry_size)))
+-- where the records that fill puts into a page lie
+pub placed-offsets : (rs : List Rec) (e : ℕ) → map (λ (x : Entry). x.at) (placed e rs) ≡ offsets e rs
+unfolding placed offsets
+placed-offsets [] e = refl
+placed-offsets (r ∷ rs) e = ap (λ (l : List ℕ). (e - size r) ∷ l) (placed-offsets rs (e - size r))

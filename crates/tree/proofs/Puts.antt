@@ -16,15 +16,16 @@ use Rattle.page.specs.Page.{RecOk}
 use Rattle.page.specs.PageFormat.{CanPlace, Lists, PageFormat, Rules}
 use Rattle.page.proofs.Made.{All-made}
 use Rattle.page.proofs.Totals.{made-most, size-most, size_most, sizes-made}
-use Rattle.image.specs.Image.{first_key}
+use Rattle.image.specs.Image.{first_key, count, hit}
 use Rattle.image.proofs.General.{All-left}
+use Rattle.image.proofs.Times.{hit-apart, hit-self}
 use Rattle.edit.proofs.General.{all_right, by-test, by_tests}
 use Rattle.tree.specs.Edits.{Change, PageStep, copied, dropped, gone, is_full, kept, moved, now, put, split, split_point, two}
-use Rattle.tree.specs.Good.{FitsIn, count, hit, inside}
+use Rattle.tree.specs.Good.{FitsIn, inside}
 use Rattle.tree.specs.Grounds.{takes}
 use Rattle.tree.specs.State.{State, filled, with_page}
 use Rattle.tree.proofs.Change.{Ends, Held, Holds, NewIn, standing, taken-ends, raised}
-use Rattle.tree.proofs.Counts.{hit-apart, hit-self, inside-most}
+use Rattle.tree.proofs.Counts.{inside-most}
 use Rattle.tree.proofs.Split.{halves_in}
 use Rattle.tree.proofs.States.{Filled, Leads, filled-facts, leads-take, leads-trans, leads-write, write-here, write-other}
 

@@ -1,42 +1,43 @@
--- The root: an edit on the whole tree is refused by its key, with 10 where it overflows or with 11, or it keeps the tree sound, and its table is the ledger's.
+-- The root: an edit on the whole tree is refused by its key or with 11, or it keeps the tree sound, and its table is the ledger's.
 -- Assumes nothing.
 use Prim.Native.Nat.{ℕ, zero, suc, ◌+◌, ◌≤◌, ◌<◌}
 use mathlib.Core.Path.{◌≡◌, refl, sym, ap, ◌∙◌, subst}
 use mathlib.Core.Logic.{◌⊎◌, inl, inr}
-use mathlib.Core.Bool.{Bool, true, false, ◌&&◌, and-false, true≢false}
+use mathlib.Core.Bool.{Bool, true, false, true≢false}
 use mathlib.Core.List.{List, [], ◌∷◌, append-nil}
+use native.Mathlib.Decide.{dec_lt}
 use native.Mathlib.Omega.{arith}
 use lib.ListN.{length, length-append}
-use lib.Dec.{eqb}
-use borrow.Author.Tests.{eq-eqb, eqb-false, eqb-true, ne_eqb}
-use Rattle.codec.specs.Lists.{All, pick}
-use Rattle.device.specs.Calls.{index_full, pages_out}
+use borrow.Author.Tests.{eq-eqb, eqb-true}
+use Rattle.codec.specs.Lists.{All}
+use Rattle.device.specs.Calls.{pages_out}
 use Rattle.page.specs.Layout.{Rec, top_key}
 use Rattle.page.specs.Operations.{page_of}
 use Rattle.page.specs.PageFormat.{PageFormat, Rules}
 use Rattle.image.specs.Facts.{Nonempty, Spans, Under}
-use Rattle.image.specs.Image.{child_of, height_in, index_rec, joined, leaves_in, pages_in, tallest}
+use Rattle.image.specs.Image.{child_of, height_in, index_rec, joined, leaves_in, pages_in, tallest, count, hit}
 use Rattle.image.specs.Table.{table_in}
 use Rattle.image.proofs.Alike.{AllAlike, all_alike, leaves-some, like, page-first}
 use Rattle.image.proofs.General.{All-left}
 use Rattle.image.proofs.IndexRecords.{index-child, index-entry, index_ok, sizes-entries}
-use Rattle.edit.specs.EditList.{Edit}
+use Rattle.image.proofs.Times.{among-count, count-append, hit-self}
+use Rattle.edit.specs.EditList.{Edit, key_of}
 use Rattle.edit.specs.Keys.{key_rule}
 use Rattle.edit.specs.Ledger.{apply_edit}
 use Rattle.edit.specs.Reads.{Proper}
 use Rattle.tree.specs.Edits.{Change, PageStep, edit_in, edited_in, gone, kept, now, one, only_leaf, rooted, stops, two}
-use Rattle.tree.specs.Good.{GoodIn, count, hit, inside}
-use Rattle.tree.specs.Grounds.{overflows}
+use Rattle.tree.specs.Good.{GoodIn, inside}
+use Rattle.tree.specs.Grounds.{full_in}
 use Rattle.tree.specs.State.{State, Step, done, filled, refused, take_page, taken, with_root}
 use Rattle.tree.proofs.Change.{Holds, Out, stand}
 use Rattle.tree.proofs.Child.{Here, entry-forms}
-use Rattle.tree.proofs.Counts.{among-count, count-append, hit-self, inside-most, inside-range}
-use Rattle.tree.proofs.Descent.{Splits, edit-ended, splits-all, splits_all}
-use Rattle.tree.proofs.Flag.{edit-flag}
-use Rattle.tree.proofs.Height.{good-from, height-is, height-range, pages_at, table_at, tallest-kind}
+use Rattle.tree.proofs.Counts.{inside-most, inside-range}
+use Rattle.tree.proofs.Descent.{AllFull, all-full, edit-ended}
+use Rattle.tree.proofs.Height.{good-from, height-is, height-range, pages_at, table_at, tallest-kind, tallest-top}
 use Rattle.tree.proofs.Leaf.{EndedAt}
 use Rattle.tree.proofs.Node.{Altered}
 use Rattle.tree.proofs.Settle.{PageUnder, lists-under}
+use Rattle.tree.proofs.Spare.{edited-plain, never}
 use Rattle.tree.proofs.States.{Filled, Leads, filled-facts, leads-free, leads-root, leads-take, leads-trans}
 
 -- refused with g, or if g is 0 refused with 11 or made
@@ -117,7 +118,7 @@ module _ (Pg : PageFormat) (rules : Rules Pg) (keep : ℕ → Pg.Keep) where
 
       -- what an edit under the root leaves
       abbrev P : Change → State → Type 0
-      P ch t = Altered Pg keep n F only st h 0 (suc top_key) c new (Splits Pg keep e st.image h (child_of c)) ch t
+      P ch t = Altered Pg keep n F only st h 0 (suc top_key) c new (AllFull Pg (key_of e) st.image h (child_of c)) ch t
 
       -- one page d of the same height is the root
       same-height : (ch : Change) (t u : State) (d : Rec) → P ch t →
@@ -144,8 +145,8 @@ module _ (Pg : PageFormat) (rules : Rules Pg) (keep : ℕ → Pg.Keep) where
             leads = leads;
           }
 
-      -- a root that is split where a root may be taller: a new page above the two. A root of the greatest height is never split (`made-root`, `ended`)
-      module _ (taller : suc h ≤ tallest) (a k b : ℕ) (t : State) (M : P (two a k b) t) where
+      -- a root that is split where a root may be taller: a new page above the two. A root of the greatest height is never split (`taller`)
+      module _ (higher : suc h ≤ tallest) (a k b : ℕ) (t : State) (M : P (two a k b) t) where
         abbrev ds : List Rec
         ds = index_rec 0 a ∷ index_rec k b ∷ []
 
@@ -172,7 +173,7 @@ module _ (Pg : PageFormat) (rules : Rules Pg) (keep : ℕ → Pg.Keep) where
             let L : Holds Pg v.image (suc (suc h)) r ds = record { lists = A.lists } in
             let U : PageUnder Pg v.image (suc h) 0 (suc top_key) r ds =
             lists-under Pg rules v.image (suc h) 0 (suc top_key) r ds L (entry-forms h ds M.entries) M.seps (omega arith, B.spans 0 (suc top_key) M.spans) in
-            let height : height_in Pg v.image r ≡ suc h = height-is Pg rules.reads v.image (suc h) 0 (suc top_key) r (omega arith) taller U.under in
+            let height : height_in Pg v.image r ≡ suc h = height-is Pg rules.reads v.image (suc h) 0 (suc top_key) r (omega arith) higher U.under in
             let pages : (x : ℕ) → count x (pages_in Pg v.image (suc h) r) + count x f ≤ count x (pages_in Pg st.image h st.root) + count x st.free =
             (λ x. omega (
               arith,
@@ -187,7 +188,7 @@ module _ (Pg : PageFormat) (rules : Rules Pg) (keep : ℕ → Pg.Keep) where
             (leads-trans Pg rules keep F t u w (leads-take Pg rules keep F t r f z) (leads-trans Pg rules keep F u v w (A.leads (omega (arith, inside-most n r))) (leads-root Pg rules keep F v r new_in))) in
             record {
               good =
-                  good-from Pg rules.reads n w (suc h) (omega arith) taller G.few (leads.long ∙ G.size) U.under
+                  good-from Pg rules.reads n w (suc h) (omega arith) higher G.few (leads.long ∙ G.size) U.under
                   (rw U.leaves (full-two v.image B M.full)) (λ x. omega (arith, pages x, G.apart x));
               makes = rw height (U.table ∙ B.table ∙ M.lists);
               pages = rw height pages;
@@ -202,45 +203,45 @@ module _ (Pg : PageFormat) (rules : Rules Pg) (keep : ℕ → Pg.Keep) where
             go [] z = refl
             go (r ∷ f) z = root_over r _ (search z)
 
-      abbrev rule : ℕ
-      rule = key_rule e (table_in Pg st.image h st.root)
+      -- a root that would be split may be taller: one that may not has room
+      pub taller : AllFull Pg (key_of e) st.image (height_in Pg st.image st.root) (child_of (index_rec 0 st.root)) → suc (height_in Pg st.image st.root) ≤ tallest
+      taller s = go (dec_lt h tallest)
+        where
+          full : full_in Pg (key_of e) st.image h st.root ≡ true
+          full = subst (λ (x : ℕ). full_in Pg (key_of e) st.image h x ≡ true) names-root (all-full Pg (key_of e) st.image h (child_of c) s)
 
-      -- the edit made without 10: if the root would be split, it is not yet as tall as may be
-      made-root : (s : PageStep) → Out P s → (splits_all Pg keep e st.image h st.root ≡ true → h < tallest) → Ended 0 (Made Pg keep n F e st) (rooted Pg h s)
+          go : Dec (h < tallest) → suc h ≤ tallest
+          go (yes l) = l
+          go (no l) = absurd (true≢false (sym full ∙ never Pg rules keep n st G e (omega (arith, tallest-top))))
+
+      -- what the root makes of the step under it
+      made-root : (s : PageStep) → Out P s → Ended 0 (Made Pg keep n F e st) (rooted Pg h s)
       unfolding rooted only_leaf
-      made-root (stops m) o spare = o
-      made-root (now kept t) M spare = same-height kept t t c M refl refl refl (M.root ∙ sym names-root) M.leads
-      made-root (now gone t) M spare =
+      made-root (stops m) o = o
+      made-root (now kept t) M = same-height kept t _ c M refl (search) (search) (search (M.root ∙ sym names-root)) (search M.leads)
+      made-root (now gone t) M =
           let some = leaves-some Pg st.image h 0 (suc top_key) st.root G.under in
           let lost : length (leaves_in Pg st.image h st.root) ≤ 1 = omega (arith, M.lost, ap (λ (x : ℕ). length (leaves_in Pg st.image h x)) names-root) in
           absurd (M.stays (eq-eqb (length (leaves_in Pg st.image h st.root)) 1 (omega arith)) refl)
-      made-root (now (one a) t) M spare =
+      made-root (now (one a) t) M =
           let new_in : 1 ≤ count a st.free = M.fresh in
           let page : 1 ≤ inside n a = omega (arith, G.apart a) in
           same-height (one a) t (with_root a t) (index_rec 0 a) M refl refl refl (sym (index-child 0 a (omega (arith, inside-range n a page, G.few))))
           (leads-trans Pg rules keep F st t (with_root a t) M.leads (leads-root Pg rules keep F t a (omega (arith, sub a))))
-      made-root (now (two a k b) t) M spare =
-          root-above (spare (subst (λ (x : ℕ). splits_all Pg keep e st.image h x ≡ true) names-root (splits-all Pg keep e st.image h (child_of c) (M.raises-two refl)))) a k b t M
+      made-root (now (two a k b) t) M = root-above (taller (M.raises-two refl)) a k b t M
 
-      -- the key rule, 10, 11, or made
-      ended : (r : ℕ) (x y : Bool) (s : PageStep) → eqb h tallest ≡ x → splits_all Pg keep e st.image h st.root ≡ y → EndedAt r P s →
-          Ended (pick (eqb r 0) (pick (x && y) index_full 0) r) (Made Pg keep n F e st) (rooted Pg h (pick (x && (eqb r 0 && y)) (stops index_full) s))
+      -- the key rule, 11, or made
+      ended : (r : ℕ) (s : PageStep) → EndedAt r P s → Ended r (Made Pg keep n F e st) (rooted Pg h s)
       unfolding rooted
-      ended zero true true s f g o = refl
-      ended zero true false s f g o = made-root s o (λ z. absurd (true≢false (sym z ∙ g)))
-      ended zero false y s f g o = made-root s o (λ z. omega (arith, range.1, eqb-false h tallest f))
-      ended (suc r) x y s f g o = rw (ne_eqb (suc r) 0 (λ z. omega arith), and-false x, o)
+      ended zero s o = made-root s o
+      ended (suc r) s o = rw o refl
 
-      pub edited-ended : Proper e →
-          Ended (pick (eqb (key_rule e (table_at Pg st)) 0) (pick (overflows Pg keep e st) index_full 0) (key_rule e (table_at Pg st))) (Made Pg keep n F e st) (edited_in Pg keep e st)
-      unfolding edited_in overflows
+      pub edited-ended : Proper e → Ended (key_rule e (table_at Pg st)) (Made Pg keep n F e st) (edited_in Pg keep e st)
       edited-ended proper =
           let a = edit-ended Pg rules keep n F only st h (omega (arith, range.1, tallest-kind)) 0 (suc top_key) c here e proper (omega arith) (omega (arith, proper.high)) in
-          let b : EndedAt rule P (edit_in Pg keep only false e h 0 st.root st) =
+          let b : EndedAt (key_rule e (table_at Pg st)) P (edit_in Pg keep only false e h 0 st.root st) =
           subst (λ (x : ℕ).
           EndedAt (key_rule e (table_in Pg st.image h x))
-          (Altered Pg keep n F only st h 0 (suc top_key) c (apply_edit e (table_in Pg st.image h x)) (Splits Pg keep e st.image h (child_of c)))
+          (Altered Pg keep n F only st h 0 (suc top_key) c (apply_edit e (table_in Pg st.image h x)) (AllFull Pg (key_of e) st.image h (child_of c)))
           (edit_in Pg keep only false e h 0 x st)) names-root a in
-          let flag = edit-flag Pg keep only st (eqb h tallest) h 0 (suc top_key) st.root G.under e (omega arith) (omega (arith, proper.high)) in
-          subst (λ (s : PageStep). Ended (pick (eqb rule 0) (pick (eqb h tallest && splits_all Pg keep e st.image h st.root) index_full 0) rule) (Made Pg keep n F e st) (rooted Pg h s)) (sym flag)
-          (ended rule (eqb h tallest) (splits_all Pg keep e st.image h st.root) (edit_in Pg keep only false e h 0 st.root st) refl refl b)
+          rw (edited-plain Pg rules keep n st G e) (ended (key_rule e (table_at Pg st)) (edit_in Pg keep only false e h 0 st.root st) b)

@@ -12,8 +12,10 @@ use Rattle.page.specs.PageFormat.{PageFormat}
 use Rattle.image.specs.Facts.{Rising, Spans, Under}
 use Rattle.image.specs.Image.{child_of, first_key, gathered, joined, records_at, start_of}
 use Rattle.image.specs.Route.{route}
+use Rattle.image.specs.Says.{Belongs}
 use Rattle.image.specs.Table.{find, table_in}
 use Rattle.image.proofs.Alike.{under-rising}
+use Rattle.image.proofs.Belonging.{belongs-to}
 use Rattle.image.proofs.Ranges.{joined-append, spans-cut}
 use Rattle.image.proofs.Rising.{Below, From}
 use Rattle.image.proofs.Routing.{Routed, find-seek, pages-after, pages-before, routed, seek-middle}
@@ -113,3 +115,14 @@ module _ (Pg : PageFormat) where
         rule = ap (key_rule e) table ∙ rule-middle e (joined f pre) (f (child_of c)) (joined f post) below above;
         makes = ap (apply_edit e) table ∙ apply-middle e (joined f pre) (f (child_of c)) (joined f post) below above;
       }
+
+  -- the same of any number k: the page that it belongs to lies within its range, between those before and after it
+  module _ (k : ℕ) (img : List ℕ) (h lo hi q : ℕ) (u : Under Pg img (suc h) lo hi q) where
+    abbrev pub belongs : Belongs k (records_at Pg img q)
+    belongs = belongs-to k lo (records_at Pg img q) hi u.0.rising u.1.0
+
+    pub belongs-spans : let b = belongs-to k lo (records_at Pg img q) hi u.0.rising u.1.0 in
+        Spans (λ x y z. Under Pg img h x y z) lo b.before b.own.key × Spans (λ x y z. Under Pg img h x y z) (start_of b.before lo b.own.key) (b.own ∷ b.later) hi
+    belongs-spans =
+        let P : ℕ → ℕ → ℕ → Type 0 = λ x y z. Under Pg img h x y z in
+        spans-cut P lo belongs.before (belongs.own ∷ belongs.later) hi (subst (λ (l : List Rec). Spans P lo l hi) belongs.shape u.1.1)

@@ -11,24 +11,24 @@ use lib.Pow.{high}
 use Rattle.codec.specs.Lists.{All}
 use Rattle.page.specs.PageFormat.{format1}
 use Rattle.page.proofs.Format1.{format1-rules}
-use Rattle.image.specs.Image.{among, reached, sound}
+use Rattle.image.specs.Image.{among, reached, sound, count}
 use Rattle.image.specs.PageZero.{page_count, root_of}
 use Rattle.image.specs.Table.{table}
 use Rattle.image.proofs.General.{All-left}
 use Rattle.image.proofs.Soundness.{sound-facts, sound-tree_in}
 use Rattle.image.proofs.Zero.{size-true}
+use Rattle.image.proofs.Times.{count-append}
 use Rattle.edit.specs.EditList.{Edit}
 use Rattle.edit.specs.Ledger.{apply_edits}
 use Rattle.edit.specs.Reads.{Proper}
 use Rattle.edit.proofs.General.{all_right}
 use Rattle.tree.specs.Edits.{edited, no_keep}
-use Rattle.tree.specs.Good.{Good, count}
+use Rattle.tree.specs.Good.{Good}
 use Rattle.tree.specs.Grounds.{Grounds, edit_ground, table_of}
 use Rattle.tree.specs.NewPages.{NewPages}
 use Rattle.tree.specs.State.{State, Step, begin, done, refused}
 use Rattle.tree.specs.Whole.{Outcome, edits_from, edits_on, finished, onward, stopped, edits_from_in}
-use Rattle.tree.proofs.Counts.{count-append}
-use Rattle.tree.proofs.Exact.{code, edit-exact-in}
+use Rattle.tree.proofs.Exact.{code, edit-exact-in, ground-spare}
 use Rattle.tree.proofs.Free.{others-next, others-once}
 use Rattle.tree.proofs.Outcomes.{OutcomesIn, RunIn, StopIn, outcomes-in, tree-good}
 
@@ -36,6 +36,10 @@ use Rattle.tree.proofs.Outcomes.{OutcomesIn, RunIn, StopIn, outcomes-in, tree-go
 
 pub edit-exact : (n : ℕ) (st : State) → Good n st → (e : Edit) → Proper e → code (edited e st) ≡ edit_ground st e
 edit-exact n st G e P = edit-exact-in format1 format1-rules no_keep n st G (λ x h. refl) e P
+
+-- "10 now means a 29th record in the top page, and is shown never to occur, with at most 63 pages past page 0."
+pub ten-never : (n : ℕ) (st : State) → Good n st → (e : Edit) → edit_ground st e ≡ 10 → ⊥
+ten-never n st G e = ground-spare format1 format1-rules no_keep n st G e
 
 -- ---- a list of edits
 
@@ -88,6 +92,12 @@ module _ (a : List ℕ) (h : sound a ≡ true) (es : List Edit) (P : All Proper 
         free = S.run.leads.order;
         because = S.because;
       }
+
+  -- "10 .. is shown never to occur"
+  pub edits-never-ten : (i : ℕ) → edits_on a es ≡ stopped 10 i → ⊥
+  edits-never-ten i q =
+      let S : StopIn format1 no_keep (page_count a) (begin a).free 0 es (begin a) 10 i = subst (Outcomes (page_count a) (begin a).free 0 es (begin a)) q all-edits in
+      ten-never (page_count a) S.state S.run.good S.culprit (sym S.because)
 
 -- and conversely: an edit with a ground, after edits that are made, stops the list
 edits-append : (i : ℕ) (es fs : List Edit) (s t : State) → edits_from i es s ≡ finished t → edits_from i (es ++ fs) s ≡ edits_from (i + length es) fs t

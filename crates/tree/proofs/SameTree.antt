@@ -9,13 +9,13 @@ use Rattle.page.specs.Layout.{top_key}
 use Rattle.page.specs.Operations.{page_of}
 use Rattle.page.specs.PageFormat.{PageFormat, Rules}
 use Rattle.image.specs.Facts.{TreeIn}
-use Rattle.image.specs.Image.{height_in, pages_in}
+use Rattle.image.specs.Image.{height_in, pages_in, count}
 use Rattle.image.specs.Table.{table_in}
 use Rattle.image.proofs.Alike.{Agree, alike, like, page-first, tree-alike, under-pages}
 use Rattle.image.proofs.Apart.{All-among}
-use Rattle.tree.specs.Good.{GoodIn, count}
+use Rattle.image.proofs.Times.{among-count, count-among}
+use Rattle.tree.specs.Good.{GoodIn}
 use Rattle.tree.specs.State.{State}
-use Rattle.tree.proofs.Counts.{among-count, count-among}
 use Rattle.tree.proofs.Height.{pages_at, table_at}
 use Rattle.tree.proofs.Outcomes.{good-tree}
 

@@ -15,17 +15,18 @@ use Rattle.page.specs.Operations.{page_of}
 use Rattle.page.specs.Page.{form_ok}
 use Rattle.page.specs.PageFormat.{PageFormat, Rules}
 use Rattle.image.specs.Facts.{Body, Fine, Rising, Spans, Under}
-use Rattle.image.specs.Image.{Entries, IsEntry, child_of, first_key, gathered, index_rec, joined, leaves_in, pages_in, start_of}
+use Rattle.image.specs.Image.{Entries, IsEntry, child_of, first_key, gathered, index_rec, joined, leaves_in, pages_in, start_of, count, hit}
 use Rattle.image.specs.Table.{table_in}
 use Rattle.image.proofs.General.{All-left}
 use Rattle.image.proofs.IndexRecords.{index-child, index-entry}
 use Rattle.image.proofs.Ranges.{joined-append, spans-append, spans-cut, spans-hi, spans-lo}
 use Rattle.image.proofs.Rising.{rising-append, rising_le, rising-rise, rising-split}
+use Rattle.image.proofs.Times.{count-append, hit-self}
 use Rattle.edit.proofs.General.{all_right}
 use Rattle.tree.specs.Edits.{Change, gone, kept, one, two}
-use Rattle.tree.specs.Good.{count, hit, inside}
+use Rattle.tree.specs.Good.{inside}
 use Rattle.tree.proofs.Change.{Held, Holds, SepsOk, stand, standing}
-use Rattle.tree.proofs.Counts.{count-append, count-joined, hit-self, inside-range}
+use Rattle.tree.proofs.Counts.{count-joined, inside-range}
 
 -- records as a page of height h lists them
 abbrev pub Forms : ℕ → List Rec → Type 0

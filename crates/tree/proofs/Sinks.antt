@@ -10,15 +10,15 @@ use Rattle.page.specs.Layout.{Rec, page_size, size}
 use Rattle.page.specs.Operations.{fits_in, made, page_of}
 use Rattle.page.specs.Page.{RecOk}
 use Rattle.page.specs.PageFormat.{PageFormat, Rules, Sinking}
-use Rattle.image.specs.Image.{Entries, index_rec}
+use Rattle.image.specs.Image.{Entries, index_rec, count, hit}
 use Rattle.image.proofs.IndexRecords.{index_ok}
+use Rattle.image.proofs.Times.{hit-self}
 use Rattle.edit.proofs.General.{by-test}
 use Rattle.tree.specs.Edits.{Change, PageStep, absorbed, copied, copy_then, dropped, gone, is_full, kept, moved, now, one, put, split, stops, then_into, two}
-use Rattle.tree.specs.Good.{count, hit, inside}
+use Rattle.tree.specs.Good.{inside}
 use Rattle.tree.specs.State.{State, filled}
 use Rattle.tree.proofs.Absorb.{TwoPuts, first-put, two-puts}
 use Rattle.tree.proofs.Change.{Ends, Holds, Out, SepsOk, taken-ends, IfMade}
-use Rattle.tree.proofs.Counts.{hit-self}
 use Rattle.tree.proofs.Puts.{Puts, dropped-is, place-room}
 use Rattle.tree.proofs.States.{write-here}
 

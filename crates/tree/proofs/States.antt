@@ -15,9 +15,11 @@ use Rattle.page.specs.Operations.{page_of, put_page, sizes}
 use Rattle.page.specs.Page.{RecOk}
 use Rattle.page.specs.PageFormat.{CanHold, Lists, PageFormat, Rules}
 use Rattle.page.proofs.Images.{length-page_of, put-length, put_other, put_same}
-use Rattle.tree.specs.Good.{count, inside}
+use Rattle.image.specs.Image.{count}
+use Rattle.image.proofs.Times.{count-append}
+use Rattle.tree.specs.Good.{inside}
 use Rattle.tree.specs.State.{State, filled, with_page, with_root}
-use Rattle.tree.proofs.Counts.{count-append, inside-range}
+use Rattle.tree.proofs.Counts.{inside-range}
 
 -- ---- one page written over
 

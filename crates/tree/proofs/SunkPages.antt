@@ -11,7 +11,7 @@ use Rattle.page.specs.Layout.{Rec, leaf_kind, rec_of}
 use Rattle.page.specs.Operations.{page_of}
 use Rattle.page.specs.PageFormat.{PageFormat, Rules, Sinking}
 use Rattle.page.specs.Search.{searched}
-use Rattle.image.specs.Image.{child_of, first_key, pages_in, records_at, start_of}
+use Rattle.image.specs.Image.{child_of, first_key, pages_in, records_at, start_of, count}
 use Rattle.image.specs.Route.{route}
 use Rattle.image.specs.Table.{table_in}
 use Rattle.edit.specs.EditList.{Edit, key_of}
@@ -21,12 +21,12 @@ use Rattle.edit.specs.Ledger.{apply_edit}
 use Rattle.edit.specs.Reads.{Proper}
 use Rattle.edit.proofs.Places.{search-there}
 use Rattle.tree.specs.Edits.{Change, PageStep, absorbed, edit_in, edit_leaf, gone, kept, now, one, onto, stops, two}
-use Rattle.tree.specs.Good.{count, inside}
+use Rattle.tree.specs.Good.{inside}
 use Rattle.tree.specs.Grounds.{next_slot}
 use Rattle.tree.specs.State.{State}
 use Rattle.tree.proofs.Change.{IfMade}
 use Rattle.tree.proofs.Child.{Here, Parts, parts}
-use Rattle.tree.proofs.Descent.{Splits, edit-ended}
+use Rattle.tree.proofs.Descent.{AllFull, edit-ended}
 use Rattle.tree.proofs.SameTree.{own-page}
 use Rattle.tree.proofs.Leaf.{EndedAt}
 use Rattle.tree.proofs.Node.{Altered, lists-own, no_more, own_same}
@@ -141,7 +141,7 @@ module _ (Pg : PageFormat) (rules : Rules Pg) (keep : ℕ → Pg.Keep) (sinking 
       let from = start_of D.pre lo D.here.key in
       let to = first_key D.post hi in
       let t = table_in Pg st.image h (child_of D.here) in
-      let W = Splits Pg keep e st.image h (child_of D.here) in
+      let W = AllFull Pg (key_of e) st.image h (child_of D.here) in
       let step = edit_in Pg keep only false e h from (child_of D.here) st in
       let slot : route (key_of e) (records_at Pg st.image (child_of c)) ≡ length D.pre = D.slot in
       rw (slot, D.is, D.start)

@@ -14,17 +14,12 @@ use Rattle.edit.proofs.General.{by-test, by_tests}
 use Rattle.tree.specs.Edits.{Change, PageStep, copied, gone, is_full, kept, moved, now, one, put, split, stops, two}
 use Rattle.tree.specs.Grounds.{takes}
 use Rattle.tree.specs.State.{State, filled}
-use Rattle.tree.proofs.Change.{Ends, Out, taken-ends, raised}
+use Rattle.tree.proofs.Change.{Ends, taken-ends, raised}
 
 -- `need` pages are taken and the page above takes w records; or fewer are free
 abbrev pub Counted : ℕ → ℕ → List ℕ → PageStep → Type 0
 Counted need w f (now c t) = (raised c ≡ w) × (length f ≡ need + length t.free)
 Counted need w f (stops k) = length f < need
-
--- a step that is made with P raises w
-pub out-counted : (P : Change → State → Type 0) (need w : ℕ) (f : List ℕ) (s : PageStep) → Counted need w f s → Out P s → Out (λ c t. P c t × (raised c ≡ w)) s
-out-counted P need w f (now c t) h o = (o, h.0)
-out-counted P need w f (stops k) h o = o
 
 -- a put never loses its page
 abbrev pub NotGone : PageStep → Type 0

@@ -3,41 +3,40 @@
 use Prim.Native.Nat.{ℕ, suc, ◌≤◌, ◌<◌}
 use mathlib.Core.Path.{◌≡◌, refl, sym, ap, ◌∙◌, subst}
 use mathlib.Core.Logic.{◌⊎◌, inl, inr}
-use mathlib.Core.Bool.{Bool, true, false, ◌&&◌}
+use mathlib.Core.Bool.{Bool, true, false}
 use mathlib.Core.List.{List, [], ◌∷◌}
 use native.Mathlib.Omega.{arith}
 use lib.ListN.{length}
-use lib.Dec.{eqb}
 use borrow.Author.Tests.{eq-eqb}
-use Rattle.codec.specs.Lists.{All, pick}
-use Rattle.device.specs.Calls.{index_full, pages_out}
+use Rattle.codec.specs.Lists.{All}
+use Rattle.device.specs.Calls.{pages_out}
 use Rattle.page.specs.Layout.{Rec, top_key}
 use Rattle.page.specs.Operations.{page_of}
 use Rattle.page.specs.PageFormat.{PageFormat, Rules, Sinking, format1}
 use Rattle.page.proofs.Format1.{format1-rules, format1-sinks}
 use Rattle.image.specs.PageZero.{page_count}
-use Rattle.image.specs.Image.{child_of, height_in, index_rec, leaves_in, pages_in, sound, tallest}
+use Rattle.image.specs.Image.{child_of, height_in, index_rec, leaves_in, pages_in, sound, count}
 use Rattle.image.specs.Table.{table_in}
 use Rattle.image.proofs.Alike.{leaves-some}
-use Rattle.edit.specs.EditList.{Edit}
+use Rattle.image.proofs.Times.{hit-self}
+use Rattle.edit.specs.EditList.{Edit, key_of}
 use Rattle.edit.specs.Keys.{key_rule}
 use Rattle.edit.specs.Ledger.{apply_edit}
 use Rattle.edit.specs.Reads.{Proper}
 use Rattle.tree.specs.Edits.{PageStep, edit_in, edited_in, gone, kept, no_keep, now, one, only_leaf, rooted, stops, two}
-use Rattle.tree.specs.Good.{GoodIn, count}
-use Rattle.tree.specs.Grounds.{overflows}
+use Rattle.tree.specs.Good.{GoodIn}
 use Rattle.tree.specs.State.{State, Step, begin, done, filled, refused, take_page, taken, with_root}
 use Rattle.tree.specs.Whole.{edits_on, finished, onward, edits_from_in}
 use Rattle.tree.proofs.Change.{IfMade}
-use Rattle.tree.proofs.Counts.{hit-self, inside-most}
-use Rattle.tree.proofs.Descent.{Splits, edit-ended, splits_all}
-use Rattle.tree.proofs.Flag.{edit-flag}
+use Rattle.tree.proofs.Counts.{inside-most}
+use Rattle.tree.proofs.Descent.{AllFull, edit-ended}
 use Rattle.tree.proofs.Height.{height-range, pages_at, table_at, tallest-kind}
 use Rattle.tree.proofs.SunkPages.{SinksUnder, Sunk, edit-sinks, ended-after}
 use Rattle.tree.proofs.Node.{Altered}
 use Rattle.tree.proofs.Outcomes.{OutcomesIn, RunIn, outcomes-in}
 use Rattle.tree.proofs.Root.{Ended, Made, edited-ended, here, names-root, ended-made}
 use Rattle.tree.proofs.Runs.{begin-good}
+use Rattle.tree.proofs.Spare.{edited-plain}
 use Rattle.tree.proofs.States.{Leads, leads-free}
 
 module _ (Pg : PageFormat) (sinking : Sinking Pg) where
@@ -85,27 +84,17 @@ module _ (Pg : PageFormat) (rules : Rules Pg) (keep : ℕ → Pg.Keep) (sinking 
         top (r ∷ f) z = inl (omega (arith, sub r, leads-free Pg keep F st t M.leads r, ap (count r) z, hit-self r))
 
     pub edited-touches : Proper e → Touched Pg sinking F st (edited_in Pg keep e st)
-    unfolding edited_in rooted
     edited-touches P =
         let H = here Pg rules keep n F st G sub in
         let small : suc h < 256 = omega (arith, (height-range Pg st.image st.root).1, tallest-kind) in
         let t = table_in Pg st.image h (child_of c) in
-        let W = Splits Pg keep e st.image h (child_of c) in
+        let W = AllFull Pg (key_of e) st.image h (child_of c) in
         let step = edit_in Pg keep only false e h 0 (child_of c) st in
         let made : Touched Pg sinking F st (rooted Pg h step) =
         rooted-touches (apply_edit e t) W step (edit-sinks Pg rules keep sinking h small n F only st 0 (suc top_key) c H e P (omega arith) (omega (arith, P.high)))
         (ended-after (key_rule e t) (Altered Pg keep n F only st h 0 (suc top_key) c (apply_edit e t) W) step
         (edit-ended Pg rules keep n F only st h small 0 (suc top_key) c H e P (omega arith) (omega (arith, P.high)))) in
-        flagged (eqb h tallest) (subst (λ (x : ℕ). Touched Pg sinking F st (rooted Pg h (edit_in Pg keep only false e h 0 x st))) is-root made) P
-      where
-        stopped : (b : Bool) (s : PageStep) → Touched Pg sinking F st (rooted Pg h s) → Touched Pg sinking F st (rooted Pg h (pick b (stops index_full) s))
-        stopped true s o = tt
-        stopped false s o = o
-
-        flagged : (full : Bool) → Touched Pg sinking F st (rooted Pg h (edit_in Pg keep only false e h 0 st.root st)) → Proper e → Touched Pg sinking F st (rooted Pg h (edit_in Pg keep only full e h 0 st.root st))
-        flagged full o P =
-            subst (λ (s : PageStep). Touched Pg sinking F st (rooted Pg h s)) (sym (edit-flag Pg keep only st full h 0 (suc top_key) st.root G.under e (omega arith) (omega (arith, P.high))))
-            (stopped (full && (eqb (key_rule e (table_in Pg st.image h st.root)) 0 && splits_all Pg keep e st.image h st.root)) (edit_in Pg keep only false e h 0 st.root st) o)
+        rw (edited-plain Pg rules keep n st G e) (subst (λ (x : ℕ). Touched Pg sinking F st (rooted Pg h (edit_in Pg keep only false e h 0 x st))) is-root made)
 
   -- ---- and what follows it
 
@@ -136,7 +125,7 @@ module _ (Pg : PageFormat) (rules : Rules Pg) (keep : ℕ → Pg.Keep) (sinking 
   list-touches i e es s t G sub apart P q = go (edited_in Pg keep e s) (edited-ended Pg rules keep n F s G sub e P.0) (edited-touches Pg rules keep sinking n F s G sub e P.0) q
     where
       g : ℕ
-      g = pick (eqb (key_rule e (table_at Pg s)) 0) (pick (overflows Pg keep e s) index_full 0) (key_rule e (table_at Pg s))
+      g = key_rule e (table_at Pg s)
 
       go : (x : Step) → Ended g (Made Pg keep n F e s) x → Touched Pg sinking F s x → onward x i (λ u. edits_from_in Pg keep (suc i) es u) ≡ finished t → Touch Pg sinking F s t
       go (refused k) m T q = let z : ◌≡◌ {A = ℕ} 0 1 = cc in absurd (omega arith)

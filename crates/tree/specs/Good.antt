@@ -1,28 +1,16 @@
 -- A state whose tree is sound, with its pages counted: reached and free pages are distinct and in range.
 -- Assumes nothing.
-use Rattle.std.specs.Prelude.{ℕ, suc, ◌+◌, ◌≤◌, ◌*◌, List, [], ◌∷◌, map, ◌≡◌, ◌⊎◌, eqb, length}
+use Rattle.std.specs.Prelude.{ℕ, suc, ◌+◌, ◌≤◌, ◌*◌, List, ◌≡◌, ◌⊎◌, length}
 use Rattle.codec.specs.Lists.{pick, All}
 use Rattle.page.specs.Layout.{Rec, page_size, line_size, slot_count, top_key}
 use Rattle.page.specs.Operations.{sizes}
 use Rattle.page.specs.PageFormat.{PageFormat, format1}
 use Rattle.image.specs.PageZero.{is_page}
-use Rattle.image.specs.Image.{child_of, pages_in, leaves_in, height_in}
+use Rattle.image.specs.Image.{count, pages_in, leaves_in, height_in}
 use Rattle.image.specs.Facts.{Under, Nonempty}
 use Rattle.tree.specs.State.{State}
 
 -- ---- pages counted: that pages are distinct, in range and not taken is one inequality for each page
-
--- 1 if p is the page x, else 0
-unfoldable pub hit : ℕ → ℕ → ℕ
-hit x p = pick (eqb x p) 1 0
-
--- how often x stands in a list, and how often index records name it
-abbrev pub count : ℕ → List ℕ → ℕ
-count x [] = 0
-count x (p ∷ ps) = hit x p + count x ps
-
-abbrev pub named : ℕ → List Rec → ℕ
-named x cs = count x (map child_of cs)
 
 -- 1 if x is a page past page 0 of an image with n pages, else 0
 unfoldable pub inside : ℕ → ℕ → ℕ

@@ -1,10 +1,10 @@
 -- The new pages of a transaction (document 01, 'Edits').
 -- Assumes nothing.
 use Rattle.std.specs.Prelude.{ℕ, ◌≤◌, ◌<◌, ◌+◌, ◌-◌, ◌≡◌, true, false, List, ◌∷◌, ◌++◌}
-use Rattle.image.specs.Image.{among, reached}
+use Rattle.image.specs.Image.{among, reached, count}
 use Rattle.image.specs.PageZero.{page_count, root_of}
 use Rattle.tree.specs.State.{State, begin}
-use Rattle.tree.specs.Good.{count, inside}
+use Rattle.tree.specs.Good.{inside}
 
 -- "A new page is the highest-numbered one neither reached before the transaction nor already taken in it"
 pub record Highest (n : ℕ) (rs : List ℕ) (p : ℕ) : Type 0 where

@@ -9,7 +9,7 @@ use native.Mathlib.Numerals.{add-one}
 use lib.ListN.{length}
 use Rattle.codec.specs.Lists.{splice}
 use Rattle.codec.specs.Numbers.{bytes_of}
-use Rattle.codec.proofs.Lists.{splice-sets, sets_over}
+use Rattle.codec.proofs.Lists.{splice-over}
 use Rattle.codec.proofs.Numbers.{length-bytes_of}
 use Rattle.page.specs.Layout.{page_size, top_key, Rec, rec_of}
 use Rattle.page.specs.Page.{records}
@@ -18,12 +18,12 @@ use Rattle.page.specs.PageFormat.{format1}
 use Rattle.page.proofs.Made.{length-made}
 use Rattle.page.proofs.Format1.{format1-rules}
 use Rattle.image.specs.PageZero.{page_count}
-use Rattle.image.specs.Image.{index_rec}
+use Rattle.image.specs.Image.{index_rec, hit, count}
 use Rattle.image.proofs.IndexRecords.{index_ok}
+use Rattle.image.proofs.Times.{hit-self}
 use Rattle.tree.specs.State.{State}
 use Rattle.tree.specs.Edits.{PageStep, now, stops, kept, one, no_keep, put, dropped, copy_then, then_into, absorbed, onto}
-use Rattle.tree.specs.Good.{hit, count}
-use Rattle.tree.proofs.Counts.{hit-self, inside-range}
+use Rattle.tree.proofs.Counts.{inside-range}
 use Rattle.tree.proofs.Change.{Out, Holds, out-ends}
 use Rattle.tree.proofs.Puts.{Puts, put-ends}
 use Rattle.tree_edit.specs.Steps.{state_of, turn_of}
@@ -33,20 +33,18 @@ use Rattle.tree_edit.specs.declared.Put.{Put}
 use Rattle.tree_edit.specs.declared.Turned.{Turned}
 use Rattle.tree_edit.specs.declared.Turned.TheVariants.{Kept, Gone, One, Two}
 
--- ---- an index record: its value v is "a 2-byte page number", written to an array of two
+-- ---- an index record: its value v is "a 2-byte page number"
 
-module _ (q : ℕ) (v : List ℕ) (written : v ≡ splice (0 ∷ 0 ∷ []) 0 (bytes_of 2 q)) where
-  value-is : v ≡ bytes_of 2 q
-  value-is =
-      let zeros : List ℕ = 0 ∷ 0 ∷ [] in
-      written ∙ splice-sets zeros 0 (bytes_of 2 q) (omega (arith, length-bytes_of 2 q)) ∙ sets_over zeros (bytes_of 2 q) (length-bytes_of 2 q)
+pub value-is : (q : ℕ) (v : List ℕ) → v ≡ splice (0 ∷ 0 ∷ []) 0 (bytes_of 2 q) → v ≡ bytes_of 2 q
+value-is q v written = written ∙ splice-over (0 ∷ 0 ∷ []) (bytes_of 2 q) (length-bytes_of 2 q)
 
+module _ (q : ℕ) (v : List ℕ) (value : v ≡ bytes_of 2 q) where
   pub entry-takes : {n : ℕ} {st : State} {page : ℕ} {new : Put} → CanTake n st page new (bytes_of 2 q) → CanTake n st page new v
-  entry-takes {n} {st} {page} {new} can = subst (CanTake n st page new) (sym value-is) can
+  entry-takes {n} {st} {page} {new} can = subst (CanTake n st page new) (sym value) can
 
   pub entry-is : (key : ℕ) → rec_of key v ≡ index_rec key q
   unfolding index_rec
-  entry-is key = ap (rec_of key) value-is
+  entry-is key = ap (rec_of key) value
 
 -- ---- a second record, by what stands for the page after the first
 

@@ -14,10 +14,12 @@ use Rattle.page.proofs.Made.{All-made, length-made, between-all}
 use Rattle.page.proofs.Facts.{records-ok}
 use Rattle.page.proofs.Format1.{format1-rules}
 use Rattle.page_edit.specs.Filling.{CanFill}
+use Rattle.image.specs.Image.{count}
+use Rattle.image.proofs.Times.{hit-self}
 use Rattle.tree.specs.State.{State, filled}
 use Rattle.tree.specs.Edits.{now, stops, one, no_keep, copied}
-use Rattle.tree.specs.Good.{count, inside, Fits}
-use Rattle.tree.proofs.Counts.{hit-self, inside-most, inside-range}
+use Rattle.tree.specs.Good.{inside, Fits}
+use Rattle.tree.proofs.Counts.{inside-most, inside-range}
 use Rattle.tree.proofs.States.{Filled, filled-facts}
 use Rattle.tree_edit.specs.Steps.{rec_by, made_by}
 use Rattle.tree_edit.specs.Asked.{CanTake}

@@ -6,10 +6,8 @@ use mathlib.Core.List.{List}
 use native.Mathlib.Omega.{arith}
 use native.Mathlib.Numerals.{add-one}
 use lib.ListN.{length, get_or, take, drop}
-use lib.Dec.{eqb}
-use Rattle.codec.specs.Lists.{part, pick}
+use Rattle.codec.specs.Lists.{part}
 use Rattle.codec.specs.Numbers.{number}
-use Rattle.device.specs.Calls.{index_full}
 use Rattle.edit.specs.EditList.{Edit, edits_most, edit_of, listed, edit_list}
 use Rattle.edit.specs.Reads.{Proper}
 use Rattle.edit.specs.Keys.{key_rule}
@@ -19,7 +17,6 @@ use Rattle.page.specs.PageFormat.{format1}
 use Rattle.page.proofs.Format1.{format1-rules}
 use Rattle.tree.specs.State.{State, Step, done, refused}
 use Rattle.tree.specs.Edits.{no_keep, edited}
-use Rattle.tree.specs.Grounds.{overflows}
 use Rattle.tree.specs.Whole.{Outcome, finished, stopped, onward, edits_from, edits_from_in}
 use Rattle.tree.specs.Good.{Good}
 use Rattle.tree.proofs.Height.{table_at}
@@ -80,8 +77,7 @@ module _ {n : ℕ} {before list : List ℕ} {all : Outcome} {work : List ℕ} {t
 
       left-made : (u : State) → done u ≡ edited e st → Made format1 no_keep n st.free e st u
       left-made u q =
-          let r = key_rule e (table_at format1 st) in
-          let g = pick (eqb r 0) (pick (overflows format1 no_keep e st) index_full 0) r in
+          let g = key_rule e (table_at format1 st) in
           ended-made (Made format1 no_keep n st.free e st) g u
           (subst (Ended g (Made format1 no_keep n st.free e st)) (sym q) (edited-ended format1 format1-rules no_keep n st.free st L.good (λ x. omega arith) e left-proper))
 

@@ -11,10 +11,9 @@ use lib.Dec.{eqb}
 use borrow.Author.Tests.{eq-eqb, ne_eqb, eqb-true, eqb-false}
 use Rattle.codec.specs.Lists.{pick}
 use Rattle.image.specs.PageZero.{page_count, root_of}
-use Rattle.image.specs.Image.{reached}
+use Rattle.image.specs.Image.{reached, hit, count}
+use Rattle.image.proofs.Times.{hit-self}
 use Rattle.tree.specs.State.{State, others, begin, take_page, taken}
-use Rattle.tree.specs.Good.{hit, count}
-use Rattle.tree.proofs.Counts.{hit-self}
 use Rattle.tree_edit.specs.Steps.{is_marked, Marks, unmarked, state_of}
 
 -- ---- one page looked at

@@ -14,13 +14,12 @@ use Rattle.page.specs.Page.{records, laid_out, RecOk}
 use Rattle.page.specs.Operations.{between, fill, page_of, put_page}
 use Rattle.page.specs.PageFormat.{Lists, format1}
 use Rattle.page_edit.specs.Filling.{CanFill}
-use Rattle.image.specs.Image.{first_key}
+use Rattle.image.specs.Image.{first_key, count}
 use Rattle.image.proofs.General.{All-left}
+use Rattle.image.proofs.Times.{hit-self}
 use Rattle.edit.proofs.General.{all_right}
 use Rattle.tree.specs.State.{State, filled}
 use Rattle.tree.specs.Edits.{now, stops, two, no_keep, split_point, split}
-use Rattle.tree.specs.Good.{count}
-use Rattle.tree.proofs.Counts.{hit-self}
 use Rattle.tree.proofs.States.{Filled}
 use Rattle.tree_edit.specs.Steps.{rec_by, made_by}
 use Rattle.tree_edit.specs.Asked.{CanTake, CanSplit}

@@ -7,6 +7,7 @@ pub mod Halved
 pub mod Moved
 pub mod Dropped
 pub mod Absorbed
+pub mod TwoPages
 pub mod Places
 pub mod Above
 pub mod Routed

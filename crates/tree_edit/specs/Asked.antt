@@ -1,20 +1,21 @@
 -- What the functions ask for.
 -- Assumes nothing.
-use Rattle.std.specs.Prelude.{ℕ, ◌+◌, ◌*◌, ◌≤◌, ◌<◌, ◌≡◌, true, false, List, length, take, drop}
+use Rattle.std.specs.Prelude.{ℕ, ◌+◌, ◌-◌, ◌*◌, ◌≤◌, ◌<◌, ◌≡◌, true, false, List, length, take, drop}
 use Rattle.codec.specs.Lists.{All}
 use Rattle.codec.specs.Numbers.{bytes_of}
-use Rattle.page.specs.Layout.{page_size, index_kind, top_key, Rec}
-use Rattle.page.specs.Page.{records, laid_out, RecOk}
+use Rattle.page.specs.Layout.{page_size, index_kind, top_kind, top_key, Rec}
+use Rattle.page.specs.Page.{records, laid_out, keys_rise, RecOk}
 use Rattle.page.specs.Operations.{page_of}
 use Rattle.page.specs.PageFormat.{Lists, format1}
 use Rattle.image.specs.PageZero.{page_count}
-use Rattle.image.specs.Image.{children, reached, Entries}
+use Rattle.image.specs.Image.{names_of, reached, height_of, Entries, hit, count}
 use Rattle.tree.specs.State.{State}
-use Rattle.tree.specs.Edits.{no_keep, split_point, absorbed, onto}
-use Rattle.tree.specs.Good.{hit, count, inside, Fits, Good}
-use Rattle.tree_edit.specs.Steps.{is_marked, state_of, turn_of, top_after, NotTwo, child_at, rec_by, made_by}
+use Rattle.tree.specs.Edits.{split_point}
+use Rattle.tree.specs.Good.{inside, Fits, Good}
+use Rattle.tree_edit.specs.Steps.{is_marked, unmarked, state_of, turn_of, top_after, way_of, to_index, to_top, rec_by, made_by}
 use Rattle.tree_edit.specs.declared.Child.{Child}
 use Rattle.tree_edit.specs.declared.Put.{Put}
+use Rattle.tree_edit.specs.declared.Way.{Way}
 use Rattle.tree_edit.specs.declared.Turned.{Turned}
 use Rattle.tree_edit.specs.declared.Turned.TheVariants.{Kept, Gone, One, Two}
 
@@ -57,23 +58,38 @@ pub record CanAbsorb (n : ℕ) (before work : List ℕ) (root kind page : ℕ) (
   pub one : (p top : ℕ) → below ≡ One p top → IndexAt n (state_of before work (record { root = root; top = top })) kind page c
   pub two : (p k q top : ℕ) → below ≡ Two p k q top → IndexAt n (state_of before work (record { root = root; top = top })) kind page c × (k ≤ top_key)
 
--- the root can take what stands for the page under it, and is not split by it
-pub record CanRaise (before work : List ℕ) (root : ℕ) (c : Child) (below : Turned) : Type 0 where
-  pub absorb : CanAbsorb (page_count work) before work root index_kind root c below
+-- the root, split into two pages, can get a page above it
+pub record CanRoot (n : ℕ) (before work : List ℕ) (above : Turned) : Type 0 where
+  pub long : length work ≡ page_size * n
+  pub two : (p k q top : ℕ) → above ≡ Two p k q top → ((x : ℕ) → count x (unmarked before (top - 1)) ≤ inside n x) × (k ≤ top_key)
+
+-- the index page can take what stands for the leaf, the top page above it what then stands for the index page, and the root can be what it has become
+pub record CanRaise (before work : List ℕ) (root : ℕ) (w : Way) (below : Turned) : Type 0 where
+  pub absorb : CanAbsorb (page_count work) before work root index_kind w.index.page w.leaf below
   pub low : top_after below ≤ 64
-  pub whole : (w : List ℕ) (above : Turned) → turn_of before w root above ≡ onto (turn_of before work root below) (λ x s. absorbed format1 no_keep index_kind c.slot c.low root x s) → NotTwo above
+  pub one_high : w.height ≡ 1 → (v : List ℕ) (above : Turned) → turn_of before v root above ≡ to_index w (turn_of before work root below) → CanRoot (page_count v) before v above
+  pub two_high : (w.height ≡ 1 → ⊥) → (v : List ℕ) (above : Turned) → turn_of before v root above ≡ to_index w (turn_of before work root below) →
+      CanAbsorb (page_count v) before v root top_kind root w.index above
+      × ((u : List ℕ) (top : Turned) → turn_of before u root top ≡ to_top root w (turn_of before v root above) → CanRoot (page_count u) before u top)
 
--- the page c is one of those that the root of a sound tree names
-pub record AtChild (n : ℕ) (st : State) (c : Child) : Type 0 where
+-- page q above the leaves: records that name pages, by rising separators
+pub record Names (img : List ℕ) (q : ℕ) : Type 0 where
+  pub fits : page_size * q + page_size ≤ length img
+  pub laid : laid_out (page_of img q) ≡ true
+  pub rise : keys_rise (records (page_of img q)) ≡ true
+  pub entries : Entries (records (page_of img q))
+  pub some : 1 ≤ length (records (page_of img q))
+
+-- w is the way of a key in a sound tree
+pub record OnWay (n : ℕ) (st : State) (w : Way) : Type 0 where
   pub good : Good n st
-  pub slot : c.slot < length (records (page_of st.image st.root))
-  pub is : c ≡ child_at st.image st.root c.slot
+  pub key : ℕ
+  pub is : w ≡ way_of st.image st.root key
 
--- the pages that an index names are below 64
+-- the pages above the leaves can be read, and all pages are below 64
 pub record CanMark (img : List ℕ) (root : ℕ) : Type 0 where
-  pub fits : page_size * root + page_size ≤ length img
-  pub laid : laid_out (page_of img root) ≡ true
-  pub entries : Entries (children img root)
+  pub top : Names img root
+  pub index : height_of img root ≡ 2 → All (λ (q : ℕ). Names img q) (names_of img root)
   pub small : All (λ (p : ℕ). p < 64) (reached img root)
 
 -- two images of the same 1 to 64 pages

@@ -1,20 +1,22 @@
--- The code's tree, page under the root, record to be put and answers, and what of the definitions they stand for.
+-- The code's tree, way to a leaf, record to be put and answers, and what of the definitions they stand for.
 -- Assumes nothing.
-use Rattle.std.specs.Prelude.{ℕ, zero, suc, ◌-◌, ◌≤◌, ◌≡◌, Bool, not, List, [], ◌∷◌, get_or, eqb, Result, Ok, Err}
+use Rattle.std.specs.Prelude.{ℕ, zero, suc, ◌-◌, ◌≤◌, ◌≡◌, Bool, ◌&&◌, not, List, [], ◌∷◌, length, get_or, slice_set, eqb, leb, Result, Ok, Err}
 use Rattle.codec.specs.Lists.{pick}
 use Rattle.device.specs.Calls.{cause_number, number_in}
 use Rattle.device.specs.declared.Cause.{Cause}
 use Rattle.device.specs.declared.Refusal.{Refusal}
-use Rattle.page.specs.Layout.{index_kind, Rec, rec_of}
+use Rattle.page.specs.Layout.{slot_count, index_kind, top_kind, Rec, rec_of}
 use Rattle.page.specs.Page.{records}
 use Rattle.page.specs.Operations.{made, page_of}
 use Rattle.page.specs.PageFormat.{format1}
-use Rattle.image.specs.Image.{child_of, among, tallest}
+use Rattle.image.specs.Image.{child_of, among, height_of, tallest}
+use Rattle.image.specs.Route.{route}
 use Rattle.tree.specs.State.{State, Step, done, refused}
 use Rattle.tree.specs.Edits.{PageStep, now, stops, kept, gone, one, two, no_keep, absorbed, onto, low_of, rooted}
 use Rattle.tree.specs.Whole as whole
 use Rattle.tree_edit.specs.declared.Tree.{Tree}
 use Rattle.tree_edit.specs.declared.Child.{Child}
+use Rattle.tree_edit.specs.declared.Way.{Way}
 use Rattle.tree_edit.specs.declared.Put.{Put}
 use Rattle.tree_edit.specs.declared.Turned.{Turned}
 use Rattle.tree_edit.specs.declared.Turned.TheVariants as turned
@@ -27,6 +29,11 @@ is_marked marks p = not (eqb (get_or marks p 0) 0)
 -- the marks are those of the pages rs
 abbrev pub Marks : List ℕ → List ℕ → Type 0
 Marks marks rs = (p : ℕ) → is_marked marks p ≡ among p rs
+
+-- the marks with those of the pages rs
+unfoldable pub marked : List ℕ → List ℕ → List ℕ
+marked [] marks = marks
+marked (p ∷ rs) marks = marked rs (slice_set marks p 1)
 
 -- the pages n, n - 1, .. 1 that are not marked
 unfoldable pub unmarked : List ℕ → ℕ → List ℕ
@@ -85,19 +92,48 @@ pub record Turns (before work : List ℕ) (root : ℕ) (r : Result Turned Cause)
   pub same : turned_of before work root r ≡ s
   pub low : top_in r ≤ 64
 
--- not two pages
-abbrev pub NotTwo : Turned → Type 0
-NotTwo r = (p k q top : ℕ) → r ≡ turned.Two p k q top → ⊥
+-- ---- the way to a leaf, and records
 
--- ---- pages under the root, and records
+-- the root, as a page on the way: every key belongs to it
+abbrev pub root_place : ℕ → Child
+root_place root = record { slot = 0; low = 0; page = root }
 
--- the page of the i-th record of the root
-abbrev pub child_at : List ℕ → ℕ → ℕ → Child
-child_at img root i = let c = get_or (records (page_of img root)) i (rec_of 0 []) in record { slot = i; low = low_of i 0 c.key; page = child_of c }
+-- of the pages that the page c names, the one that the key k belongs to
+abbrev pub child_for : List ℕ → Child → ℕ → Child
+child_for img c k =
+    let rs = records (page_of img c.page) in
+    let i = route k rs in
+    let r = get_or rs i (rec_of 0 []) in
+    record { slot = i; low = low_of i c.low r.key; page = child_of r }
 
--- what the tree comes to once s is made under its page c
-abbrev pub upward : ℕ → Child → PageStep → Step
-upward root c s = rooted format1 tallest (onto s (λ x u. absorbed format1 no_keep index_kind c.slot c.low root x u))
+-- "A key belongs by the old rule to one index page, then within it to a leaf." (document 02 (j)): under a root of height h, which is the index page itself or a top page
+abbrev pub way_at : ℕ → List ℕ → ℕ → ℕ → Way
+way_at h img root k =
+    let index = pick (eqb h 1) (root_place root) (child_for img (root_place root) k) in
+    record { height = h; index = index; leaf = child_for img index k }
+
+abbrev pub way_of : List ℕ → ℕ → ℕ → Way
+way_of img root k = way_at (height_of img root) img root k
+
+-- no page above the leaf has room for one record more, and the root is of the greatest height
+abbrev pub filled_above : List ℕ → ℕ → Way → Bool
+filled_above img root w =
+    eqb w.height tallest && (leb slot_count (length (records (page_of img root))) && leb slot_count (length (records (page_of img w.index.page))))
+
+-- the leaf is "the only one": each page above it names one page
+abbrev pub only_below : List ℕ → ℕ → Way → Bool
+only_below img root w = eqb (length (records (page_of img root))) 1 && eqb (length (records (page_of img w.index.page))) 1
+
+-- what becomes of the index page, and of the top page, once s is made under it
+abbrev pub to_index : Way → PageStep → PageStep
+to_index w s = onto s (λ x u. absorbed format1 no_keep index_kind w.leaf.slot w.leaf.low w.index.page x u)
+
+abbrev pub to_top : ℕ → Way → PageStep → PageStep
+to_top root w s = onto s (λ x u. absorbed format1 no_keep top_kind w.index.slot w.index.low root x u)
+
+-- what the tree comes to once s is made of the leaf
+abbrev pub upward : ℕ → Way → PageStep → Step
+upward root w s = pick (eqb w.height 1) (rooted format1 1 (to_index w s)) (rooted format1 2 (to_top root w (to_index w s)))
 
 -- the new record
 abbrev pub rec_by : Put → List ℕ → Rec

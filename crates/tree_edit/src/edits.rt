@@ -1,84 +1,141 @@
 // The edits of a list, one by one.
-ghost use Rattle.std.specs.Prelude.{◌≡◌, [], ◌≤◌, ◌<◌, length, eqb, leb};
-ghost use Rattle.page.specs.Layout.{slot_count, leaf_kind};
+ghost use Rattle.std.specs.Prelude.{◌≡◌, [], ◌≤◌, ◌<◌, length};
+ghost use Rattle.page.specs.Layout.{leaf_kind};
 ghost use Rattle.page.specs.Page.{records};
 ghost use Rattle.page.specs.Operations.{page_of};
 ghost use Rattle.page.specs.PageFormat.{format1};
 ghost use Rattle.image.specs.PageZero.{page_count};
-ghost use Rattle.image.specs.Route.{route};
 ghost use Rattle.edit.specs.EditList.{insert, update, delete, edit_of, listed, edits_of, edit_list};
 ghost use Rattle.edit.specs.Reads.{Proper};
 ghost use Rattle.tree.specs.Edits.{no_keep, put, dropped, edited};
 ghost use Rattle.tree.specs.Whole.{edits_from};
 ghost use Rattle.tree.specs.Good.{Good};
-ghost use Rattle.tree_edit.specs.Steps.{state_of, outcome_of, Says, turn_of, child_at, rec_by, upward};
-ghost use Rattle.tree_edit.specs.Asked.{AtChild, CanPut, CanRaise};
+ghost use Rattle.tree_edit.specs.Steps.{state_of, outcome_of, Says, turn_of, child_for, way_of, filled_above, only_below, rec_by, upward};
+ghost use Rattle.tree_edit.specs.Asked.{Names, OnWay, CanPut, CanRaise};
 
 use crate::turns::{absorb, drop_record, put_record, root_step};
-use crate::{Child, Put, Tree, Turned};
+use crate::{Child, Put, Tree, Turned, Way};
 use device::{Cause, Refusal};
 use image::descent::route;
+use image::node::height_of;
 use image::pages::{child_at, laid_page};
 
-// The page under the root that a key belongs to: "keeps its separator, or takes 0 if first".
-pub(crate) fn child_of(work: &[u8], root: usize, key: u64) -> Child
-    requires { Good (page_count work.now) (record { image = work.now; root = root; free = [] }) }
-    ensures { result ≡ child_at work.now root (route key (records (page_of work.now root))) }
+// Of the pages that a page names, the one that a key belongs to: it "keeps its separator, or takes 0 if first", where the first page's range starts
+// with that of the page above.
+#[inline(always)]
+pub(crate) fn child_of(work: &[u8], above: Child, key: u64) -> Child
+    requires { Names work.now above.page }
+    ensures { result ≡ child_for work.now above key }
 {
-    let index = laid_page(work, root);
-    let slot = route(index, key);
-    let page = child_at(index, slot);
-    let low = if slot == 0 { 0 } else { index.key_at(slot) };
-    Child { slot, low, page }
+    let page = laid_page(work, above.page);
+    let slot = route(page, key);
+    let named = child_at(page, slot);
+    let low = if slot == 0 {
+        above.low
+    } else {
+        page.key_at(slot)
+    };
+    Child {
+        slot,
+        low,
+        page: named,
+    }
 }
 
-// Gives the root what stands for a page under it once an edit there is made: the tree is then what the root has become.
+// The way to the leaf that a key belongs to.
+#[inline(always)]
+pub(crate) fn way_to(work: &[u8], root: usize, key: u64) -> Way
+    requires { Good (page_count work.now) (record { image = work.now; root = root; free = [] }) }
+    ensures { result ≡ way_of work.now root key }
+{
+    let height = height_of(work, root);
+    let top = Child {
+        slot: 0,
+        low: 0,
+        page: root,
+    };
+    let index = if height == 1 {
+        top
+    } else {
+        child_of(work, top, key)
+    };
+    let leaf = child_of(work, index, key);
+    Way {
+        height,
+        index,
+        leaf,
+    }
+}
+
+// Whether no page above the leaf has room for one record more, where no page can be put above the root.
+pub(crate) fn is_filled(work: &[u8], root: usize, way: Way) -> bool
+    requires { OnWay (page_count work.now) (record { image = work.now; root = root; free = [] }) way }
+    ensures { result ≡ filled_above work.now root way }
+{
+    way.height == 2
+        && 28 <= laid_page(work, root).count()
+        && 28 <= laid_page(work, way.index.page).count()
+}
+
+// Whether the leaf is "the only one": each page above it names one page.
+pub(crate) fn is_only(work: &[u8], root: usize, way: Way) -> bool
+    requires { OnWay (page_count work.now) (record { image = work.now; root = root; free = [] }) way }
+    ensures { result ≡ only_below work.now root way }
+{
+    laid_page(work, root).count() == 1 && laid_page(work, way.index.page).count() == 1
+}
+
+// Gives the pages above a leaf what stands for it once an edit there is made: the tree is then what the root has become.
 #[inline(always)]
 fn raise(
     work: &mut [u8],
     before: &[u8; 64],
     root: usize,
-    under: Child,
+    way: Way,
     below: Turned,
 ) -> Result<Tree, Cause>
-    requires { CanRaise before.now work.old root under below }
-    ensures { Says before.now work.new result (upward root under (turn_of before.now work.old root below)) }
+    requires { CanRaise before.now work.old root way below }
+    ensures { Says before.now work.new result (upward root way (turn_of before.now work.old root below)) }
 {
-    let above = absorb(work, before, root, 2, root, under, below)?;
-    root_step(root, above)
+    let above = absorb(work, before, root, 2, way.index.page, way.leaf, below)?;
+    if way.height == 1 {
+        return root_step(work, before, root, 2, above);
+    }
+    let top = absorb(work, before, root, 3, root, way.index, above)?;
+    root_step(work, before, root, 3, top)
 }
 
-// Puts a record into a page under the root, and gives the root what it takes of it.
+// Puts a record into a leaf, and gives the pages above what they take of it.
 pub(crate) fn put_under(
     work: &mut [u8],
     before: &[u8; 64],
     t: Tree,
-    under: Child,
+    way: Way,
     new: Put,
     value: &[u8],
 ) -> Result<Tree, Cause>
-    requires { AtChild (page_count work.old) (state_of before.now work.old t) under × CanPut (page_of work.old under.page) new value.now × (t.top ≤ 64) }
-    ensures { Says before.now work.new result (upward t.root under (put format1 no_keep leaf_kind (leb slot_count (length (records (page_of work.old t.root)))) new.ins new.at (rec_by new value.now) under.page (state_of before.now work.old t))) }
+    requires { OnWay (page_count work.old) (state_of before.now work.old t) way × CanPut (page_of work.old way.leaf.page) new value.now × (t.top ≤ 64) }
+    ensures { Says before.now work.new result (upward t.root way (put format1 no_keep leaf_kind (filled_above work.old t.root way) new.ins new.at (rec_by new value.now) way.leaf.page (state_of before.now work.old t))) }
 {
-    let full = 28 <= laid_page(work, t.root).count();
-    let below = put_record(work, before, t, 1, full, under.page, new, value)?;
-    raise(work, before, t.root, under, below)
+    let full = is_filled(work, t.root, way);
+    let below = put_record(work, before, t, 1, full, way.leaf.page, new, value)?;
+    raise(work, before, t.root, way, below)
 }
 
-// Drops the j-th record of a page under the root, and gives the root what it takes of it.
+// Drops the j-th record of a leaf, and gives the pages above what they take of it.
 pub(crate) fn drop_under(
     work: &mut [u8],
     before: &[u8; 64],
     t: Tree,
-    under: Child,
+    way: Way,
     j: usize,
 ) -> Result<Tree, Cause>
-    requires { AtChild (page_count work.old) (state_of before.now work.old t) under × (j < length (records (page_of work.old under.page))) × (t.top ≤ 64) }
-    ensures { Says before.now work.new result (upward t.root under (dropped format1 (eqb (length (records (page_of work.old t.root))) 1) j under.page (state_of before.now work.old t))) }
+    requires { OnWay (page_count work.old) (state_of before.now work.old t) way × (j < length (records (page_of work.old way.leaf.page))) × (t.top ≤ 64) }
+    ensures { Says before.now work.new result (upward t.root way (dropped format1 (only_below work.old t.root way) j way.leaf.page (state_of before.now work.old t))) }
 {
-    let only = laid_page(work, t.root).count() == 1;
-    let below = drop_record(work, t, under.page, only, j);
-    raise(work, before, t.root, under, below)
+    let only = is_only(work, t.root, way);
+    let below = drop_record(work, t, way.leaf.page, only, j);
+    raise(work, before, t.root, way, below)
 }
 
 // Inserts a key that is missing.
@@ -92,10 +149,10 @@ pub(crate) fn insert_edit(
     requires { Good (page_count work.old) (state_of before.now work.old t) × (t.top ≤ 64) × Proper (insert key value.now) }
     ensures { Says before.now work.new result (edited (insert key value.now) (state_of before.now work.old t)) }
 {
-    let under = child_of(work, t.root, key);
-    match laid_page(work, under.page).find(key) {
+    let way = way_to(work, t.root, key);
+    match laid_page(work, way.leaf.page).find(key) {
         Ok(_) => Err(Cause::KeyPresent),
-        Err(at) => put_under(work, before, t, under, Put { ins: true, at, key }, value),
+        Err(at) => put_under(work, before, t, way, Put { ins: true, at, key }, value),
     }
 }
 
@@ -110,15 +167,15 @@ pub(crate) fn update_edit(
     requires { Good (page_count work.old) (state_of before.now work.old t) × (t.top ≤ 64) × Proper (update key value.now) }
     ensures { Says before.now work.new result (edited (update key value.now) (state_of before.now work.old t)) }
 {
-    let under = child_of(work, t.root, key);
-    let Ok(at) = laid_page(work, under.page).find(key) else {
+    let way = way_to(work, t.root, key);
+    let Ok(at) = laid_page(work, way.leaf.page).find(key) else {
         return Err(Cause::KeyMissing);
     };
     put_under(
         work,
         before,
         t,
-        under,
+        way,
         Put {
             ins: false,
             at,
@@ -138,11 +195,11 @@ pub(crate) fn delete_edit(
     requires { Good (page_count work.old) (state_of before.now work.old t) × (t.top ≤ 64) }
     ensures { Says before.now work.new result (edited (delete key) (state_of before.now work.old t)) }
 {
-    let under = child_of(work, t.root, key);
-    let Ok(at) = laid_page(work, under.page).find(key) else {
+    let way = way_to(work, t.root, key);
+    let Ok(at) = laid_page(work, way.leaf.page).find(key) else {
         return Err(Cause::KeyMissing);
     };
-    drop_under(work, before, t, under, at)
+    drop_under(work, before, t, way, at)
 }
 
 // Makes one edit: kind 1 inserts, 2 updates, 3 deletes. The kind is the list's byte and no enum: it is promised for every u8 (`edit_of`).

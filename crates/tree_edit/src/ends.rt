@@ -1,27 +1,46 @@
 // Before the first edit and after the last: marks of the reached pages, and the pages that are put back.
-ghost use Rattle.std.specs.Prelude.{◌≡◌, ◌||◌, [], ℕ, ◌*◌, ◌≤◌, length, get_or, eqb};
+ghost use Rattle.std.specs.Prelude.{◌≡◌, ◌||◌, [], ℕ, ◌*◌, ◌≤◌, ◌<◌, length, get_or, eqb};
+ghost use Rattle.codec.specs.Lists.{All};
+ghost use Rattle.page.specs.PageFormat.{format1};
 ghost use Rattle.image.specs.PageZero.{page_count};
-ghost use Rattle.image.specs.Image.{reached};
+ghost use Rattle.image.specs.Image.{pages_in, reached};
 ghost use Rattle.tree.specs.Whole.{pages_from, edited_image};
 ghost use Rattle.tree.specs.Good.{Good};
-ghost use Rattle.tree_edit.specs.Steps.{is_marked, Marks, state_of};
-ghost use Rattle.tree_edit.specs.Asked.{CanMark, CanPutBack, Spared};
+ghost use Rattle.tree_edit.specs.Steps.{is_marked, Marks, marked, state_of};
+ghost use Rattle.tree_edit.specs.Asked.{Names, CanMark, CanPutBack, Spared};
 
 use crate::Tree;
+use image::node::height_of;
 use image::pages::{child_at, laid_page, page_of};
 
-// Marks the root and the pages that it names.
+// Marks a page above the leaves and the pages that it names.
+pub(crate) fn mark_page(image: &[u8], q: usize, marks: &mut [u8; 64])
+    requires { Names image.now q × All (λ (p : ℕ). p < 64) (pages_in format1 image.now 1 q) }
+    ensures { marks.new ≡ marked (pages_in format1 image.now 1 q) marks.old }
+{
+    let page = laid_page(image, q);
+    marks[q] = 1;
+    for i in 0..page.count() {
+        let named = child_at(page, i);
+        marks[named] = 1;
+    }
+}
+
+// Marks all pages under a root: itself and those that it names, and under a top page what those name.
 pub fn marks_of(image: &[u8], root: usize) -> [u8; 64]
     requires { CanMark image.now root }
     ensures marks { Marks result (reached image.now root) }
     ensures by_index { ((p : ℕ) → get_or result p 0 ≤ 1) × (length result ≡ 64) }
 {
-    let page = laid_page(image, root);
     let mut marks = [0u8; 64];
+    if height_of(image, root) == 1 {
+        mark_page(image, root, &mut marks);
+        return marks;
+    }
+    let page = laid_page(image, root);
     marks[root] = 1;
     for i in 0..page.count() {
-        let leaf = child_at(page, i);
-        marks[leaf] = 1;
+        mark_page(image, child_at(page, i), &mut marks);
     }
     marks
 }

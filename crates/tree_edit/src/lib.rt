@@ -23,6 +23,14 @@ pub struct Child {
     pub page: usize,
 }
 
+// The way from a root of this height to a leaf: the index page above the leaf, which is the root itself or one that a top page names, and the leaf.
+#[derive(Clone, Copy)]
+pub struct Way {
+    pub height: usize,
+    pub index: Child,
+    pub leaf: Child,
+}
+
 // A record put into a page: as the at-th, or in place of the at-th. Its value is lent beside it.
 #[derive(Clone, Copy)]
 pub struct Put {

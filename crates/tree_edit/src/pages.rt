@@ -2,19 +2,22 @@
 ghost use Rattle.std.specs.Prelude.{◌≡◌, true, false, [], ◌∷◌, suc, ◌+◌, ◌-◌, ◌*◌, ◌≤◌, ◌<◌, length, eqb};
 ghost use Rattle.std.specs.Option.{MatchOption};
 ghost use Rattle.codec.specs.Lists.{pick};
-ghost use Rattle.page.specs.Layout.{page_size, size};
+ghost use Rattle.codec.specs.Numbers.{bytes_of};
+ghost use Rattle.page.specs.Layout.{page_size, top_key, size};
 ghost use Rattle.page.specs.Page.{laid_out, records};
 ghost use Rattle.page.specs.Operations.{fill, delete, in_place, between, page_of, put_page};
 ghost use Rattle.page.specs.PageFormat.{format1};
 ghost use Rattle.page_edit.specs.Filling.{CanFill};
+ghost use Rattle.image.specs.Image.{index_rec};
 ghost use Rattle.tree.specs.Edits.{is_full};
 ghost use Rattle.tree_edit.specs.Steps.{unmarked, rec_by, made_by};
 ghost use Rattle.tree_edit.specs.Asked.{CanPut};
 
 use crate::Put;
 use image::pages::page_of;
+use page::header::Header;
 use page::laid::Page;
-use page_edit::{delete_record, fill_made, insert_record, update_record};
+use page_edit::{append_new, delete_record, fill_made, insert_record, update_record};
 
 // The highest page below top that is not marked, if there is one: "the highest-numbered one neither reached before the transaction nor
 // already taken in it".
@@ -102,4 +105,23 @@ pub(crate) fn copy_made(
         first,
         last,
     );
+}
+
+// The value of an index record: "a 2-byte page number".
+pub(crate) fn entry_value(named: usize) -> [u8; 2]
+    ensures { result ≡ bytes_of 2 named }
+{
+    let mut value = [0u8; 2];
+    codec::put_number(&mut value, 0, named);
+    value
+}
+
+// Fills a new page, whatever it held, with the index records of two pages, the left one from 0 on.
+pub(crate) fn fill_two(page: &mut [u8], kind: u8, own: usize, left: usize, sep: u64, right: usize)
+    requires { (length page.old ≡ page_size) × (sep ≤ top_key) }
+    ensures { page.new ≡ fill page.old kind own (index_rec 0 left ∷ index_rec sep right ∷ []) }
+{
+    let first = append_new(page, Header::unused(kind, own), 0, &entry_value(left));
+    let both = append_new(page, first, sep, &entry_value(right));
+    both.write(page);
 }

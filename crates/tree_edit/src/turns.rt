@@ -10,10 +10,12 @@ ghost use Rattle.image.specs.PageZero.{page_count};
 ghost use Rattle.image.specs.Image.{index_rec};
 ghost use Rattle.tree.specs.Edits.{no_keep, copied, split, moved, put, dropped, then_into, absorbed, onto, rooted};
 ghost use Rattle.tree.specs.Good.{Fits};
-ghost use Rattle.tree_edit.specs.Steps.{state_of, turn_of, top_after, Says, Turns, NotTwo, rec_by, made_by};
-ghost use Rattle.tree_edit.specs.Asked.{CanTake, CanSplit, CanThen, CanAbsorb};
+ghost use Rattle.tree_edit.specs.Steps.{state_of, turn_of, top_after, Says, Turns, rec_by, made_by};
+ghost use Rattle.tree_edit.specs.Asked.{CanTake, CanSplit, CanThen, CanAbsorb, CanRoot};
 
-use crate::pages::{copy_made, delete_at, free_below, is_full, made_count, put_in_place};
+use crate::pages::{
+    copy_made, delete_at, entry_value, fill_two, free_below, is_full, made_count, put_in_place,
+};
 use crate::split::{fits_one, split_point};
 use crate::{Child, Put, Tree, Turned};
 use device::Cause;
@@ -134,8 +136,7 @@ pub(crate) fn put_entry(
     requires { CanTake (page_count work.old) (state_of before.now work.old t) page new (bytes_of 2 named) × (t.top ≤ 64) }
     ensures { Turns before.now work.new t.root result (put format1 no_keep kind false new.ins new.at (index_rec new.key named) page (state_of before.now work.old t)) }
 {
-    let mut value = [0u8; 2];
-    codec::put_number(&mut value, 0, named);
+    let value = entry_value(named);
     put_record(work, before, t, kind, false, page, new, &value)
 }
 
@@ -224,16 +225,36 @@ pub(crate) fn absorb(
     }
 }
 
-// The tree after what the root has become: "which changes the root number". A root is not split.
+// The tree after what a root of this kind has become: "which changes the root number". Two pages get a new root above them, of the next kind. A root
+// of the greatest height is never split.
 #[inline(always)]
-pub(crate) fn root_step(root: usize, above: Turned) -> Result<Tree, Cause>
-    requires { NotTwo above × (top_after above ≤ 64) }
-    ensures { (before work : List ℕ) → Says before work result (rooted format1 1 (turn_of before work root above)) }
+pub(crate) fn root_step(
+    work: &mut [u8],
+    before: &[u8; 64],
+    root: usize,
+    kind: u8,
+    above: Turned,
+) -> Result<Tree, Cause>
+    requires { CanRoot (page_count work.old) before.now work.old above × (1 ≤ kind) × (kind ≤ 3) × (top_after above ≤ 64) }
+    ensures { Says before.now work.new result (rooted format1 (kind - 1) (turn_of before.now work.old root above)) }
 {
     match above {
         Turned::Kept { top } => Ok(Tree { root, top }),
         Turned::Gone { top } => Ok(Tree { root, top }),
         Turned::One { page, top } => Ok(Tree { root: page, top }),
-        Turned::Two { .. } => Err(Cause::IndexFull),
+        Turned::Two {
+            left,
+            sep,
+            right,
+            top,
+        } => {
+            let Some(p) = free_below(before, top) else {
+                return Err(Cause::PagesOut);
+            };
+            let a = 1024 * p;
+            let e = a + 1024;
+            fill_two(&mut work[a..e], kind + 1, p, left, sep, right);
+            Ok(Tree { root: p, top: p })
+        }
     }
 }

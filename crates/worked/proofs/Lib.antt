@@ -4,3 +4,4 @@ pub mod Updates
 pub mod Claim
 pub mod Costs
 pub mod Empty
+pub mod Heights

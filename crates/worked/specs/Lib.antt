@@ -2,3 +2,4 @@ pub mod Row
 pub mod Rows
 pub mod CostRows
 pub mod EmptyRows
+pub mod HeightRows

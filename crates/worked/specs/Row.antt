@@ -6,10 +6,10 @@ use Rattle.device.specs.declared.Refusal.{Refusal}
 use Rattle.journal.specs.declared.Commit.{Commit}
 use Rattle.codec.specs.Lists.{pick}
 use Rattle.device.specs.Tape.{Op, store, flush, barrier, malformed, decode, barrier_count}
-use Rattle.page.specs.Layout.{read_head}
+use Rattle.page.specs.Layout.{rec_of, read_head}
 use Rattle.page.specs.Operations.{page_of}
 use Rattle.image.specs.PageZero.{root_of}
-use Rattle.image.specs.Image.{reached, among}
+use Rattle.image.specs.Image.{child_of, children, reached, among}
 use Rattle.image.specs.Table.{table}
 use Rattle.image.specs.Fresh.{fresh}
 use Rattle.edit.specs.EditList.{Edit}
@@ -45,6 +45,8 @@ pub data Probe : Type 0 where
   count : ℕ → Probe
   slot : ℕ → ℕ → Probe
   is_reached : ℕ → Probe
+  -- of a page above the leaves: the separator in a slot, and the page that it names
+  entry : ℕ → ℕ → Probe
   -- the number of records in the table
   records : Probe
 
@@ -90,6 +92,7 @@ read_off r (start p) = (read_head (page_of r.work p)).start ∷ []
 read_off r (count p) = length (read_head (page_of r.work p)).slots ∷ []
 read_off r (slot p j) = get_or (read_head (page_of r.work p)).slots j 0 ∷ []
 read_off r (is_reached p) = pick (among p (reached r.work (root_of r.work))) 1 0 ∷ []
+read_off r (entry p j) = let c = get_or (children r.work p) j (rec_of 0 []) in c.key ∷ child_of c ∷ []
 read_off r records = length (table r.work) ∷ []
 
 unfoldable pub read_all : Called → List Probe → List ℕ

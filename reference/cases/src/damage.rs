@@ -47,10 +47,11 @@ fn page_zero(random: &mut Random, image: &mut [u8], built: &Built, field: usize)
             image[..8].copy_from_slice(&[1, k, root, 0, 0, 0, 0, 0]);
         }
         1 => malformed_mark(random, image, pages),
-        2 => match random.below(5) {
+        2 => match random.below(6) {
             0 => image[8..16].copy_from_slice(&random.number().to_le_bytes()),
             1 => change_byte(random, &mut image[9..16]),
             2 => image[8] = built.leaves[0].page as u8,
+            3 => image[8] = built.indexes[0].page as u8,
             _ => image[8] = random.pick(&[0, pages, pages - 1, pages + 1]) as u8,
         },
         3 => change_two(random, &mut image[16..18], &[0, 7, 8, 64, 65]),
@@ -73,12 +74,20 @@ fn malformed_mark(random: &mut Random, image: &mut [u8], pages: usize) {
     image[..8].copy_from_slice(&mark);
 }
 
-/// One of the reached pages; the index as often as all leaves together.
+/// One of the reached pages; those above the leaves as often as all leaves together.
 fn any_page<'a>(random: &mut Random, built: &'a Built) -> &'a Reached {
     if random.one_in(2) {
-        return &built.index;
+        return any_above(random, built);
     }
     &built.leaves[random.below(built.leaves.len())]
+}
+
+/// The top as often as all index pages together.
+fn any_above<'a>(random: &mut Random, built: &'a Built) -> &'a Reached {
+    match &built.top {
+        Some(top) if random.one_in(2) => top,
+        _ => &built.indexes[random.below(built.indexes.len())],
+    }
 }
 
 fn header(random: &mut Random, image: &mut [u8], built: &Built, field: usize) -> Option<()> {
@@ -94,7 +103,7 @@ fn header(random: &mut Random, image: &mut [u8], built: &Built, field: usize) ->
             let limits = [0, 56, 63, 64, lowest, lowest + 8, 1024, 1032];
             change_two(random, &mut line[2..4], &limits);
         }
-        8 => line[4] = random.pick(&[0, 1, 2, 3, 255]),
+        8 => line[4] = random.pick(&[0, 1, 2, 3, 4, 255]),
         9 => change_byte(random, &mut line[5..6]),
         10 => {
             let other = any_page(random, built).page;
@@ -122,7 +131,7 @@ fn places(random: &mut Random, reached: &Reached) -> Option<Place> {
 
 fn record(random: &mut Random, image: &mut [u8], built: &Built, field: usize) -> Option<()> {
     let reached = match field {
-        14 | 18 => &built.index,
+        14 | 18 => any_above(random, built),
         13 => &built.leaves[random.below(built.leaves.len())],
         _ => any_page(random, built),
     };
@@ -142,7 +151,8 @@ fn record(random: &mut Random, image: &mut [u8], built: &Built, field: usize) ->
         17 => change_byte(random, &mut image[at + 16 + length..at + size(length)]),
         _ => {
             let other = any_page(random, built).page;
-            let limits = [0, 1, built.pages - 1, built.pages, built.index.page, other];
+            let root = built.root().page;
+            let limits = [0, 1, built.pages - 1, built.pages, root, other];
             change_two(random, &mut image[at + 16..at + 18], &limits);
         }
     }

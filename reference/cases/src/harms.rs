@@ -34,12 +34,16 @@ pub enum Harm {
     // In the index, which then leaves one leaf outside its bounds.
     SeparatorLowered,
     SeparatorRaised,
-    // In the index, which then is bad itself.
+    // In an index page or the top, which then is bad itself.
     NamesPageZero,
     NamesPagePastLast,
     NamesRoot,
     NamesPageTwice,
     SeparatorsAlike,
+    // In an index page under a top, which then is bad beside the top.
+    NamesIndexPage,
+    SeparatorBelowPages,
+    SeparatorAtNextPages,
 }
 
 const OF_ALL: [Harm; 18] = [
@@ -79,14 +83,25 @@ const OF_INDEX: [Harm; 5] = [
     Harm::SeparatorsAlike,
 ];
 
+const OF_LOWER: [Harm; 3] = [
+    Harm::NamesIndexPage,
+    Harm::SeparatorBelowPages,
+    Harm::SeparatorAtNextPages,
+];
+
 /// Every harm that makes a leaf bad.
 pub fn of_leaves() -> Vec<Harm> {
     [&OF_ALL[..], &OF_LEAVES].concat()
 }
 
-/// Every harm that makes the index bad.
-pub fn of_index() -> Vec<Harm> {
+/// Every harm that makes the root bad.
+pub fn of_root() -> Vec<Harm> {
     [&OF_ALL[..], &OF_INDEX].concat()
+}
+
+/// Every harm that makes an index page under a top bad.
+pub fn of_lower() -> Vec<Harm> {
+    [&OF_ALL[..], &OF_INDEX, &OF_LOWER].concat()
 }
 
 /// What may be wrong in line 0 of page 0, and the refusal that it gets.
@@ -105,11 +120,13 @@ pub const OF_PAGE_ZERO: [(&str, u8); 9] = [
 /// An image with harm in it, or none yet.
 #[derive(Clone, Debug)]
 pub struct Harmed {
-    /// As built, but for the image and the separators, which are as harmed.
+    /// As built, but for the image, and for the bounds that a moved separator gives.
     pub built: Built,
     /// The refusal that line 0 of page 0 gets.
     pub page_zero: Option<u8>,
-    pub index: Option<Harm>,
+    pub root: Option<Harm>,
+    /// Of the index pages under a top; without a top none.
+    pub lower: Vec<Option<Harm>>,
     pub leaves: Vec<Option<Harm>>,
 }
 
@@ -118,9 +135,27 @@ impl Harmed {
         Harmed {
             built: built.clone(),
             page_zero: None,
-            index: None,
+            root: None,
+            lower: vec![None; built.top.as_ref().map_or(0, |_| built.indexes.len())],
             leaves: vec![None; built.leaves.len()],
         }
+    }
+
+    /// The harm of the leaf, or of the index page above it under a top: either way
+    /// the leaf cannot be read.
+    pub fn on_way_to(&self, leaf: usize) -> Option<Harm> {
+        self.index_of(leaf).or(self.leaves[leaf])
+    }
+
+    /// The harm of the index page above a leaf, under a top.
+    pub fn index_of(&self, leaf: usize) -> Option<Harm> {
+        let (index, _) = self.built.place_of(leaf);
+        self.lower.get(index).copied().flatten()
+    }
+
+    /// Nothing but the root and page 0 is bad.
+    pub fn is_good_below(&self) -> bool {
+        !self.lower.iter().chain(&self.leaves).any(Option::is_some)
     }
 
     /// Makes this leaf bad; false if that can't be done so, or it is bad
@@ -142,28 +177,68 @@ impl Harmed {
         done
     }
 
-    /// Makes the index bad; false if that can't be done so, or it is bad
-    /// already.
-    pub fn harm_index(&mut self, random: &mut Random, harm: Harm) -> bool {
-        if self.index.is_some() {
+    /// Makes the root bad; false if that can't be done so, or it is bad already.
+    pub fn harm_root(&mut self, random: &mut Random, harm: Harm) -> bool {
+        if self.root.is_some() {
             return false;
         }
-        let image = &mut self.built.image;
-        let index = &self.built.index;
-        let done = header(image, index, harm)
-            || record(random, image, index, harm)
-            || self.harm_names(random, harm);
+        let root = self.built.root().clone();
+        let done = self.harm_above(random, &root, harm);
         if done {
-            self.index = Some(harm);
+            self.root = Some(harm);
         }
         done
     }
 
+    /// Makes this index page under a top bad; false if that can't be done so, or it is
+    /// bad already.
+    pub fn harm_lower(&mut self, random: &mut Random, at: usize, harm: Harm) -> bool {
+        if self.lower[at].is_some() {
+            return false;
+        }
+        let index = self.built.indexes[at].clone();
+        let done = self.harm_above(random, &index, harm) || self.harm_beside_top(random, at, harm);
+        if done {
+            self.lower[at] = Some(harm);
+        }
+        done
+    }
+
+    /// Harm that any page above the leaves may have.
+    fn harm_above(&mut self, random: &mut Random, page: &Reached, harm: Harm) -> bool {
+        let image = &mut self.built.image;
+        header(image, page, harm)
+            || record(random, image, page, harm)
+            || self.harm_names(random, page, harm)
+    }
+
+    /// Harm beside the top: a page named that the top names, or a separator out of the
+    /// page's bounds, where those of the page still rise.
+    fn harm_beside_top(&mut self, random: &mut Random, at: usize, harm: Harm) -> bool {
+        let top = &self.built.top.as_ref().expect("it is under a top").places;
+        let places = &self.built.indexes[at].places;
+        let (first, last) = (places[0].at, places[places.len() - 1].at);
+        let (place, key) = match harm {
+            Harm::NamesIndexPage => {
+                let place = places[random.below(places.len())].at;
+                let page = self.built.indexes[random.below(top.len())].page;
+                put(&mut self.built.image, place + 16, page);
+                return true;
+            }
+            Harm::SeparatorBelowPages if at > 0 => (first, top[at].key - 1),
+            Harm::SeparatorAtNextPages if at + 1 < top.len() => (last, top[at + 1].key),
+            _ => return false,
+        };
+        put_key(&mut self.built.image, place, key);
+        true
+    }
+
     /// Makes line 0 of page 0 wrong, by the number in `OF_PAGE_ZERO`.
     pub fn harm_page_zero(&mut self, random: &mut Random, which: usize) {
+        let root = self.built.root().page as u8;
         let line = &mut self.built.image[..64];
         let headers = random.between(1, 15) as u8;
-        let mark = [1, headers, self.built.index.page as u8, 0, 0, 0, 0, 0];
+        let mark = [1, headers, root, 0, 0, 0, 0, 0];
         match which {
             0 | 8 => line[..8].copy_from_slice(&mark),
             1 => line[0] = 2,
@@ -192,72 +267,68 @@ impl Harmed {
 
     /// A key of this leaf moved across one of its bounds, or out of the range.
     fn move_key(&mut self, at: usize, harm: Harm) -> bool {
-        let separators = &self.built.index.places;
+        let bounds = &self.built.bounds;
         let places = &self.built.leaves[at].places;
         let (Some(first), Some(last)) = (places.first(), places.last()) else {
             return false;
         };
         let (place, key) = match harm {
             Harm::FirstKeyZero => (first, 0),
-            Harm::FirstKeyBelowSeparator if at > 0 => (first, separators[at].key - 1),
-            Harm::LastKeyAtNextSeparator if at + 1 < separators.len() => {
-                (last, separators[at + 1].key)
-            }
+            Harm::FirstKeyBelowSeparator if at > 0 => (first, bounds[at] - 1),
+            Harm::LastKeyAtNextSeparator if at + 1 < bounds.len() => (last, bounds[at + 1]),
             _ => return false,
         };
         put_key(&mut self.built.image, place.at, key);
         true
     }
 
-    /// A bound of this leaf moved across one of its keys, where the separators
-    /// still rise. Only while no leaf is bad: it could do another leaf good.
+    /// A bound of this leaf in its index page moved across one of its keys, where the
+    /// separators still rise. Only while no leaf is bad: it could do another leaf good.
     fn move_separator(&mut self, at: usize, harm: Harm) -> bool {
-        let separators = &self.built.index.places;
-        let places = &self.built.leaves[at].places;
+        let built = &self.built;
+        let (index, slot) = built.place_of(at);
+        let separators = &built.indexes[index].places;
+        let places = &built.leaves[at].places;
         let (Some(first), Some(last)) = (places.first(), places.last()) else {
             return false;
         };
-        let (moved, key) = match harm {
-            Harm::SeparatorRaised if at > 0 => (at, first.key + 1),
-            Harm::SeparatorLowered if at + 1 < separators.len() => (at + 1, last.key),
+        let (moved, leaf, key) = match harm {
+            Harm::SeparatorRaised if slot > 0 => (slot, at, first.key + 1),
+            Harm::SeparatorLowered if slot + 1 < separators.len() => (slot + 1, at + 1, last.key),
             _ => return false,
         };
-        let next = separators
-            .get(moved + 1)
-            .map_or(LAST_KEY + 1, |next| next.key);
+        let next = built.bounds.get(leaf + 1).copied().unwrap_or(LAST_KEY + 1);
         let rising = separators[moved - 1].key < key && key < next;
-        if !rising || self.leaves.iter().any(Option::is_some) {
+        if !rising || !self.is_good_below() {
             return false;
         }
-        put_key(&mut self.built.image, separators[moved].at, key);
-        self.built.index.places[moved].key = key;
+        let place = &mut self.built.indexes[index].places[moved];
+        place.key = key;
+        put_key(&mut self.built.image, place.at, key);
+        self.built.bounds[leaf] = key;
         true
     }
 
-    /// A wrong page number in a record of the index, or a separator that does
-    /// not rise.
-    fn harm_names(&mut self, random: &mut Random, harm: Harm) -> bool {
-        let Built {
-            image,
-            pages,
-            index,
-            leaves,
-            ..
-        } = &mut self.built;
-        let at = random.below(leaves.len());
-        let other = (at + 1) % leaves.len();
-        let page = match harm {
+    /// A wrong page number in a record of a page above the leaves, or a separator that
+    /// does not rise.
+    fn harm_names(&mut self, random: &mut Random, page: &Reached, harm: Harm) -> bool {
+        let places = &page.places;
+        let (root, pages) = (self.built.root().page, self.built.pages);
+        let image = &mut self.built.image;
+        let at = random.below(places.len());
+        let other = (at + 1) % places.len();
+        let named = match harm {
             Harm::NamesPageZero => 0,
-            Harm::NamesPagePastLast => *pages,
-            Harm::NamesRoot => index.page,
-            Harm::NamesPageTwice if other != at => leaves[other].page,
+            Harm::NamesPagePastLast => pages,
+            Harm::NamesRoot => root,
+            Harm::NamesPageTwice if other != at => image[places[other].at + 16] as usize,
             Harm::SeparatorsAlike if other > at => {
-                put_key(image, index.places[other].at, index.places[at].key);
+                put_key(image, places[other].at, places[at].key);
                 return true;
             }
             _ => return false,
         };
-        put(image, index.places[at].at + 16, page);
+        put(image, places[at].at + 16, named);
         true
     }
 }
@@ -276,7 +347,8 @@ fn header(image: &mut [u8], page: &Reached, harm: Harm) -> bool {
         (Harm::StartNoMultipleOf8, _) => put(line, 2, start + 4),
         (Harm::StartAbove1024, _) => put(line, 2, 1032),
         (Harm::StartAboveRecord, [_, ..]) => put(line, 2, slots.iter().min().unwrap() + 8),
-        (Harm::OtherKind, _) => line[4] = 3 - line[4],
+        // Of a root that is an index page or a top, none that the root may have.
+        (Harm::OtherKind, _) => line[4] = [0, 2, 1, 4][line[4] as usize],
         (Harm::OtherNumber, _) => line[6] ^= 1,
         (Harm::ZeroOfHeader, _) => line[5] = 1,
         (Harm::SlotNoMultipleOf8, [.., slot]) => put(line, last, slot + 4),
@@ -321,8 +393,8 @@ fn put_key(image: &mut [u8], at: usize, key: u64) {
     image[at..at + 8].copy_from_slice(&key.to_le_bytes());
 }
 
-/// Harm of every mix in this image: mostly in one leaf or in several, at times
-/// in the index, in page 0, or in none of them.
+/// Harm of every mix in this image: mostly in one leaf or in several, at times in an
+/// index page under a top, in the root, in page 0, or in none of them.
 pub fn any_harmed(random: &mut Random, built: &Built) -> Harmed {
     let mut harmed = Harmed::not_yet(built);
     if random.one_in(4) {
@@ -333,9 +405,16 @@ pub fn any_harmed(random: &mut Random, built: &Built) -> Harmed {
         let (at, harm) = (random.below(leaves), random.pick(&of_leaves()));
         harmed.harm_leaf(random, at, harm);
     }
+    let lower = harmed.lower.len();
+    if lower > 0 && !random.one_in(3) {
+        for _ in 0..random.pick(&[1, 1, 1, 2, lower]) {
+            let (at, harm) = (random.below(lower), random.pick(&of_lower()));
+            harmed.harm_lower(random, at, harm);
+        }
+    }
     if random.one_in(5) {
-        let harm = random.pick(&of_index());
-        harmed.harm_index(random, harm);
+        let harm = random.pick(&of_root());
+        harmed.harm_root(random, harm);
     }
     if random.one_in(8) {
         let which = random.below(OF_PAGE_ZERO.len());

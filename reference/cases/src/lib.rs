@@ -15,3 +15,4 @@ pub mod previews;
 pub mod random;
 pub mod stores;
 pub mod tapes;
+pub mod threads;

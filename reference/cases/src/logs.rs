@@ -18,7 +18,7 @@ pub fn waiting(random: &mut Random, built: &Built, headers: usize) -> Vec<u8> {
         header[6..8].copy_from_slice(&[page as u8, 0]);
         image[64 * (i + 1)..][..64].copy_from_slice(&header);
     }
-    let root = built.index.page as u8;
+    let root = built.root().page as u8;
     image[..8].copy_from_slice(&[1, pages.len() as u8, root, 0, 0, 0, 0, 0]);
     // The old root may be any page.
     if random.one_in(2) {
@@ -28,7 +28,7 @@ pub fn waiting(random: &mut Random, built: &Built, headers: usize) -> Vec<u8> {
 }
 
 fn is_reached(built: &Built, page: usize) -> bool {
-    built.index.page == page || built.leaves.iter().any(|leaf| leaf.page == page)
+    built.reached().any(|reached| reached.page == page)
 }
 
 /// So many distinct pages, in any order; mostly those reached come first.

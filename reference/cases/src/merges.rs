@@ -1,7 +1,7 @@
 //! Document 02 (i), "Two books into one": pairs of books, made from the quotes that
 //! they have together, and buffers for the result.
 
-use crate::images::{from_leaves, keys, size, Built};
+use crate::images::{any_counts, any_shape, from_leaves, keys, size, Built, Shape};
 use crate::random::Random;
 use crate::stores::fresh;
 
@@ -10,6 +10,10 @@ pub type Quotes = Vec<(u64, Vec<u8>)>;
 /// "28 records and 960 bytes."
 const MOST: usize = 28;
 const ROOM: usize = 960;
+
+/// The most leaves of a book here: 64 pages hold them under a top of three index
+/// pages, or four.
+const MOST_LEAVES: usize = 58;
 
 /// How the quotes are dealt to the two books.
 #[derive(Clone, Copy, Debug, PartialEq, Eq, PartialOrd, Ord)]
@@ -55,20 +59,23 @@ pub fn any_pair(random: &mut Random) -> Pair {
         1 => random.between(1, 28),
         2 => random.pick(&[5, 6, 7]),
         3 => random.pick(&[27, 28, 28, 29]),
-        4 => random.between(29, 40),
+        4 => {
+            let (some, many) = (random.between(29, 60), random.between(60, 110));
+            random.pick(&[some, many, 56, 57, 58, 59, 60])
+        }
         _ => random.between(1, 8),
     };
     pair(random, most)
 }
 
-/// A pair whose quotes fill so many leaves, at most 40.
+/// A pair whose quotes fill so many leaves, at most 110.
 pub fn pair(random: &mut Random, leaves: usize) -> Pair {
     let quotes = any_quotes(random, leaves);
     loop {
         let (deal, dealt) = any_deal(random, &quotes);
         let (in_both, dealt) = any_in_both(random, dealt, &quotes);
-        // A book has 28 leaves too.
-        if dealt.iter().any(|list| packed(list).len() > MOST) {
+        // A book has to fit into an image too.
+        if dealt.iter().any(|list| packed(list).len() > MOST_LEAVES) {
             continue;
         }
         let mut quotes = dealt.concat();
@@ -179,7 +186,22 @@ pub fn packed(quotes: &Quotes) -> Vec<usize> {
     leaves
 }
 
-/// A store with these quotes, in as few leaves as hold them or in more.
+/// Index pages under a top that so many leaves of a merged store need; none up to 28.
+pub fn index_pages(leaves: usize) -> usize {
+    match leaves <= MOST {
+        true => 0,
+        false => leaves.div_ceil(MOST),
+    }
+}
+
+/// Pages that a merged store of so many leaves needs: page 0, the root, the index pages
+/// under a top, the leaves, of which a fresh store has one.
+pub fn pages_for(leaves: usize) -> usize {
+    2 + index_pages(leaves) + leaves.max(1)
+}
+
+/// A store with these quotes, in as few leaves as hold them or in more; under a top
+/// where it needs one, and at times where it does not.
 fn book(random: &mut Random, quotes: &Quotes) -> Built {
     let mut rest = &quotes[..];
     let mut leaves: Vec<Quotes> = Vec::new();
@@ -191,8 +213,13 @@ fn book(random: &mut Random, quotes: &Quotes) -> Built {
     if leaves.is_empty() {
         leaves.push(Vec::new());
     }
-    let more = random.pick(&[0, 0, 1, 3, 28]);
-    for _ in 0..more.min(MOST - leaves.len()) {
+    let most = if leaves.len() <= MOST {
+        MOST
+    } else {
+        MOST_LEAVES
+    };
+    let more: usize = random.pick(&[0, 0, 1, 3, 28]);
+    for _ in 0..more.min(most - leaves.len()) {
         let at = random.below(leaves.len());
         if leaves[at].len() > 1 {
             let cut = random.between(1, leaves[at].len() - 1);
@@ -200,14 +227,30 @@ fn book(random: &mut Random, quotes: &Quotes) -> Built {
             leaves.insert(at + 1, right);
         }
     }
-    let least = (leaves.len() + 2).max(8);
+    let counts = any_index_counts(random, leaves.len());
+    let least = (leaves.len() + counts.len() + 2).max(8);
     let pages = match random.below(4) {
         0 => least,
         1 => random.between(least, 64),
         _ => random.between(least, (least + 4).min(64)),
     };
     let tidy = random.one_in(2);
-    from_leaves(random, pages, tidy, leaves)
+    from_leaves(random, pages, tidy, &counts, leaves)
+}
+
+/// How many leaves each index page under a top has; none without a top.
+fn any_index_counts(random: &mut Random, leaves: usize) -> Vec<usize> {
+    if leaves <= MOST && !random.one_in(4) {
+        return Vec::new();
+    }
+    let least = leaves.div_ceil(MOST);
+    let indexes = random.between(least, leaves.min(62 - leaves).clamp(least, MOST));
+    let shape = Shape {
+        indexes,
+        leaves,
+        ..any_shape(random)
+    };
+    any_counts(random, shape)
 }
 
 impl Pair {
@@ -220,7 +263,7 @@ impl Pair {
 /// A buffer for so many leaves: of a length that suffices, that is one page short, or
 /// that no image has; of any content, a store's at times.
 pub fn any_third(random: &mut Random, leaves: usize) -> Vec<u8> {
-    let needed = leaves.max(1) + 2;
+    let needed = pages_for(leaves);
     let pages = match random.below(8) {
         0 => return wrong_length(random, needed),
         1 | 2 => needed - 1,

@@ -10,11 +10,11 @@ use crate::random::Random;
 /// How a preview ends on a list that has no fault of its own.
 #[derive(Clone, Copy, Debug, PartialEq, Eq)]
 pub enum End {
-    /// The refusal of page 0 or the index.
+    /// The refusal of page 0 or the root.
     BeforeLeaves(u8),
     /// 6.
     KeyAsked,
-    /// 4, of the leaf that this edit needs.
+    /// 4, of the leaf that this edit needs, or of its index page under a top.
     LeafOfEdit(usize),
     /// 8 or 9, of this edit.
     KeyRule {
@@ -63,21 +63,19 @@ fn head(edit: &[u8]) -> (u8, usize, u64) {
 }
 
 impl Harmed {
-    /// The leaf that a key belongs to, by its place in the index.
+    /// The leaf that a key belongs to.
     pub fn leaf_of(&self, key: u64) -> usize {
-        let separators = &self.built.index.places;
-        let not_above = separators.iter().filter(|place| place.key <= key);
-        not_above.count().saturating_sub(1)
+        self.built.leaf_of(key)
     }
 
-    /// The refusal that comes before any leaf is read.
+    /// The refusal that comes before any leaf is read, or any index page under a top.
     pub fn before_leaves(&self) -> Option<u8> {
-        self.page_zero.or(self.index.map(|_| 4))
+        self.page_zero.or(self.root.map(|_| 4))
     }
 
-    /// The records of this leaf, if it is good.
+    /// The records of this leaf, if it is good, and its index page under a top too.
     fn leaf(&self, at: usize) -> Result<&[Place], u8> {
-        match self.leaves[at] {
+        match self.on_way_to(at) {
             Some(_) => Err(4),
             None => Ok(&self.built.leaves[at].places),
         }
@@ -156,10 +154,13 @@ impl Harmed {
         (present == (kind == 1)).then_some(End::KeyRule { number, edit: at })
     }
 
-    /// A key or other number to ask: mostly in or beside a leaf that is bad, at
-    /// or beside a key or a separator.
+    /// A key or other number to ask: mostly in or beside a leaf that is bad or has a
+    /// bad index page, at or beside a key or a separator.
     pub fn any_key(&self, random: &mut Random) -> u64 {
-        let bad = self.leaves.iter().position(Option::is_some);
+        if let Some(last) = self.before_bad_index().filter(|_| random.one_in(3)) {
+            return last;
+        }
+        let bad = (0..self.leaves.len()).find(|&at| self.on_way_to(at).is_some());
         let at = match bad {
             Some(bad) if !random.one_in(3) => (bad + random.below(3)).saturating_sub(1),
             _ => random.below(self.leaves.len()),
@@ -167,7 +168,8 @@ impl Harmed {
         let at = at.min(self.leaves.len() - 1);
         let places = &self.built.leaves[at].places;
         let near = match random.below(4) {
-            0 => self.built.index.places[at].key,
+            0 if random.one_in(2) => self.own_separator(at),
+            0 => self.built.bounds[at],
             1 => places.last().map_or(1, |place| place.key),
             _ if places.is_empty() => 1,
             _ => places[random.below(places.len())].key,
@@ -179,6 +181,23 @@ impl Harmed {
             3 | 4 => near + 1,
             _ => near,
         }
+    }
+
+    /// The last key before an index page that is bad: the next key reads that.
+    fn before_bad_index(&self) -> Option<u64> {
+        let mut leaves = 1..self.leaves.len();
+        let first = leaves.find(|&at| {
+            let starts = self.built.place_of(at).1 == 0;
+            starts && self.index_of(at).is_some() && self.on_way_to(at - 1).is_none()
+        });
+        let last = self.built.leaves[first? - 1].places.last();
+        last.map(|place| place.key)
+    }
+
+    /// The separator of the record that names this leaf.
+    fn own_separator(&self, leaf: usize) -> u64 {
+        let (index, slot) = self.built.place_of(leaf);
+        self.built.indexes[index].places[slot].key
     }
 
     /// An edit list and a key to ask: one list in three has an edit that breaks

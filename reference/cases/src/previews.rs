@@ -122,6 +122,7 @@ fn spoil_image(random: &mut Random, built: &Built, image: &mut Vec<u8>) -> &'sta
                 Flaw::LongValue,
                 Flaw::EmptyLeaf,
                 Flaw::EmptyRoot,
+                Flaw::EmptyIndex,
                 Flaw::OddSlots,
             ];
             let flaw = random.pick(&flaws);

@@ -4,14 +4,18 @@
 //! The tapes, the recoveries and the cuts are the proved library's; the
 //! shortcuts are the reference's.
 
+// Each test uses some of these.
+#![allow(dead_code)]
+
 use cases::empties;
 use cases::lists::any_list;
 use cases::random::Random;
 use reference::device::{decode, run, Command, Device};
 use reference::edits::{parse, Edit};
-use reference::image::{table, Table};
+use reference::image::{table, Reader, Table};
 use reference::ledger::Ledger;
 use reference::numbers::work_holds_image;
+use reference::page::TOP;
 use reference::tape::count_flushes;
 use reference::transaction::Fault;
 use std::collections::BTreeMap;
@@ -37,6 +41,18 @@ pub const OUTCOMES: [&str; 11] = [
 /// Document 02 (g), "Stored ones work as before": a store to start from that was
 /// built with an empty value.
 pub const BUILT_EMPTY: &str = "empty value, built";
+
+/// Document 02 (j): what a transaction under a top, or of a root index that splits, may
+/// be like. It commits "by one header, by the root word or by the log".
+pub const TALL: [&str; 7] = [
+    "under a top: by a header",
+    "under a top: by the root word",
+    "under a top: by the log",
+    "a new top",
+    "a top copied",
+    "an index page more",
+    "an index page fewer",
+];
 
 /// The calls under test, with the numbers of their answers.
 pub mod calls {
@@ -97,6 +113,17 @@ pub struct Tally {
 impl Tally {
     pub fn count(&mut self, what: &'static str) {
         *self.times.entry(what).or_default() += 1;
+    }
+
+    /// What happened in another test too.
+    pub fn add(&mut self, other: Tally) {
+        for (what, times) in other.times {
+            *self.times.entry(what).or_default() += times;
+        }
+        for (number, times) in other.refused {
+            *self.refused.entry(number).or_default() += times;
+        }
+        self.cuts += other.cuts;
     }
 
     pub fn print(&self) {
@@ -196,12 +223,16 @@ pub const UNBROKEN: Faults = (Fault::None, Fault::None);
 pub type Stores = (fn(&mut Random) -> Vec<u8>, usize, &'static str);
 
 /// A transaction on this image, which becomes the next one's.
-type One = fn(&mut Test, &mut Vec<u8>, &mut Ledger) -> Result<(), String>;
+pub type One = fn(&mut Test, &mut Vec<u8>, &mut Ledger) -> Result<(), String>;
 
 impl Test {
     pub fn new(device: Device, faults: Faults) -> Test {
+        Test::of_seed(SEED, device, faults)
+    }
+
+    pub fn of_seed(seed: u64, device: Device, faults: Faults) -> Test {
         Test {
-            random: Random::new(SEED),
+            random: Random::new(seed),
             tally: Tally::default(),
             device,
             faults,
@@ -269,6 +300,7 @@ impl Test {
         let tape = Cuttable::new(image, &tape[..bytes]);
         whole_tape(&tape, &work, flushes, ledger)?;
         self.count_edited(list, ledger);
+        self.count_tall(image, &work, kind);
         Ok(Some(Sent {
             place: self.place(kind, &tape)?,
             commit_line: if kind == 1 { 16 * page } else { 0 },
@@ -283,6 +315,27 @@ impl Test {
         let was_empty = |edit: &Edit| ledger.value(edit.key, before) == Some(&[]);
         if parse(list).is_ok_and(|edits| edits.iter().any(was_empty)) {
             self.tally.count("empty value, edited");
+        }
+    }
+
+    /// A transaction that begins or ends under a top.
+    fn count_tall(&mut self, before: &[u8], after: &[u8], kind: usize) {
+        let root = |image| Reader::new(image).expect("it is sound").root;
+        let (old, new) = (root(before), root(after));
+        if new.kind != TOP {
+            return;
+        }
+        if old.kind != TOP {
+            return self.tally.count("a new top");
+        }
+        self.tally.count(TALL[kind - 1]);
+        if old.page != new.page {
+            self.tally.count("a top copied");
+        }
+        match (old.records.len(), new.records.len()) {
+            (old, new) if old < new => self.tally.count("an index page more"),
+            (old, new) if old > new => self.tally.count("an index page fewer"),
+            _ => {}
         }
     }
 

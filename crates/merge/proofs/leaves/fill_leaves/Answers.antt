@@ -11,16 +11,16 @@ use Rattle.merge.proofs.leaves.fill_leaves.Goals as goal
 use Rattle.merge.proofs.leaves.fill_leaves.Goals.{In-loop-i}
 
 pub loop-i-init : goal.loop-i-init
-loop-i-init c = put-starts c.requires.second_value c.begin-at.ensures
+loop-i-init c = put-starts c.args.first c.requires.second_value c.begin-at.ensures
 
 -- the next page lies in the image
-inside : (c : In-loop-i) → page_size * (c.loop-i.i + 2) + page_size ≤ length c.loop-i.out
-inside c = omega (arith, c.loop-i-test.true, c.loop-i.invariant.long, c.requires.first_value.1)
+inside : (c : In-loop-i) → page_size * (c.loop-i.i + c.args.first) + page_size ≤ length c.loop-i.out
+inside c = omega (arith, c.loop-i-test.true, c.loop-i.invariant.long, c.requires.first_value)
 
 pub loop-i-preserved : goal.loop-i-preserved
 loop-i-preserved c =
     let l = c.loop-i in
-    let n = l.i + 2 in
+    let n = l.i + c.args.first in
     let page = c.fill_leaf-at.new.page in
     let fits = inside (goal.at.loop-i-preserved c).In-loop-i in
     let long = c.fill_leaf-at.auto.page in

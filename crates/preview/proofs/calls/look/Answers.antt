@@ -6,7 +6,7 @@ use mathlib.Core.Path.{◌≡◌, sym, ap, ◌∙◌}
 use mathlib.Core.Bool.{true}
 use borrow.Author.Tests.{le-leb, lt-leb}
 use Rattle.image.specs.Calls.{key_ok}
-use Rattle.preview.specs.Calls.{rules_of, keys_of}
+use Rattle.preview.specs.Calls.{rules_of, keys_of, stored_after}
 use Rattle.preview.proofs.calls.look.Goals as goal
 use Rattle.preview.proofs.calls.look.Goals.{Else-key-gt-TOP_KEY}
 
@@ -26,8 +26,12 @@ pub returns-in_err-judge_keys : goal.returns-in_err-judge_keys
 unfolding keys_of rules_of
 returns-in_err-judge_keys c =
     let p = err_from_is_err_and c.from_residual.result c.from_residual.ensures.1 in
-    rw (p.1, p.2, ranged (goal.at.returns-in_err-judge_keys c).Else-key-gt-TOP_KEY, sym c.judge_keys.ensures ∙ c.in_err-judge_keys.was)
+    rw (p.1, p.2, ranged (goal.at.returns-in_err-judge_keys c).Else-key-gt-TOP_KEY, sym c.judge_keys.ensures.value ∙ c.in_err-judge_keys.was)
+
+pub see-requires : goal.see-requires
+see-requires c = (c.requires.0, (_, c.judge_keys.ensures.marks_after c.in_ok-judge_keys.was))
 
 pub returns : goal.returns
-unfolding keys_of rules_of
-returns c = c.see.ensures ∙ rw (ranged (goal.at.returns c).Else-key-gt-TOP_KEY, sym c.judge_keys.ensures ∙ c.in_ok-judge_keys.was)
+unfolding keys_of rules_of stored_after
+returns c =
+    c.see.ensures _ (c.judge_keys.ensures.marks_after c.in_ok-judge_keys.was) ∙ rw (ranged (goal.at.returns c).Else-key-gt-TOP_KEY, sym c.judge_keys.ensures.value ∙ c.in_ok-judge_keys.was)

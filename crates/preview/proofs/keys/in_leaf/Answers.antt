@@ -1,90 +1,59 @@
 -- `in_leaf`: a leaf that is marked is sound, and one that is found so is marked.
 -- Assumes nothing.
-use Rattle.std.specs.Prelude.{Ok, Err}
-use Prim.Native.Nat.{ℕ, ◌+◌, ◌*◌, ◌≤◌, ◌<◌}
-use mathlib.Core.Path.{◌≡◌, sym, ap, ◌∙◌, subst}
-use mathlib.Core.Bool.{true}
-use mathlib.Core.List.{List}
+use mathlib.Core.Path.{sym, ◌∙◌}
 use native.Mathlib.Omega.{arith}
-use lib.ListN.{length, get_or, set}
 use borrow.Author.Tests.{not-true, not-false}
-use Rattle.page.specs.Layout.{page_size, leaf_kind}
-use Rattle.page.specs.Operations.{page_of}
-use Rattle.page.specs.PageFormat.{PageOk}
-use Rattle.page.proofs.Facts.{page_ok-true}
-use Rattle.image.specs.Descent.{leaf_for, leaf_sound}
-use Rattle.image.specs.declared.Place.{Place}
-use Rattle.image.proofs.Read.{call-opened}
-use Rattle.image.proofs.CodeDescent.{leaf-fits, leaf-few, sound-page}
-use Rattle.preview.specs.Noted.{Marks}
-use Rattle.preview.proofs.Judging.{sound-presence, unsound-presence, marks-set}
+use Rattle.preview.proofs.Judging.{leaf-page, leaf-test, marked-sound, came-fits, came-few, looked-marked, looked-judged, looked-bad, looked-none}
 use Rattle.preview.proofs.keys.in_leaf.Goals as goal
-use Rattle.preview.proofs.keys.in_leaf.Goals.{After-leaf_for-leaf, Else-not-leaf_sound, Then-judged-own-ne0}
 
--- the leaf's page lies in the image, and has a mark
-fits : (c : After-leaf_for-leaf) → page_size * c.leaf_for-leaf.result.page + page_size ≤ length c.args.index.now.image.now
-fits c =
-    leaf-fits c.args.index.now.image.now c.args.index.now.root c.args.index.now.is_opened c.args.key _ c.leaf_for-leaf.ensures
+pub returns-in_default : goal.returns-in_default
+returns-in_default c = looked-none c.args.key c.in_default.ensures _ c.of.ensures
 
-few : (c : After-leaf_for-leaf) → c.leaf_for-leaf.result.page < length c.args.judged.now
-few c =
-    omega (arith, c.requires.enough, leaf-few c.args.index.now.image.now c.args.index.now.root c.args.index.now.is_opened c.args.key c.leaf_for-leaf.result c.leaf_for-leaf.ensures)
-
--- a page that is the sound leaf's
-page-good : (img : List ℕ) (root k : ℕ) (leaf : Place) → leaf ≡ leaf_for img root k → leaf_sound img root (leaf_for img root k) ≡ true → PageOk leaf_kind leaf.page (page_of img leaf.page)
-page-good img root k leaf e h = page_ok-true leaf_kind leaf.page (page_of img leaf.page) (sound-page img root leaf (ap (leaf_sound img root) e ∙ h))
-
+-- the leaf's page has a mark, and lies in the image
 pub bounds-judged-own : goal.bounds-judged-own
-bounds-judged-own c = few (goal.at.bounds-judged-own c).After-leaf_for-leaf
-
-marked : (c : Then-judged-own-ne0) →
-    let a = c.args in
-    leaf_sound a.index.now.image.now a.index.now.root (leaf_for a.index.now.image.now a.index.now.root a.key) ≡ true
-marked c =
-    c.requires.only-sound c.args.key (λ z. c.if-judged-own-ne0.true (ap (λ (p : Place). get_or c.args.judged.now p.page 0) c.leaf_for-leaf.ensures ∙ z))
+bounds-judged-own c = omega (arith, came-few c.args.index.now.is_opened (c.in-Some.ensures c.requires.0 c.requires.1.named), c.requires.1.enough)
 
 pub laid_page-requires : goal.laid_page-requires
 laid_page-requires c =
-    (fits (goal.at.laid_page-requires c).After-leaf_for-leaf, (page-good _ _ _ _ c.leaf_for-leaf.ensures (marked (goal.at.laid_page-requires c).Then-judged-own-ne0)).laid)
+    let came = c.in-Some.ensures c.requires.0 c.requires.1.named in
+    (came-fits c.args.index.now.is_opened came, (leaf-page _ _ _ (marked-sound c.args.key c.requires.1 came c.if-judged-own-ne0.true)).laid)
 
 pub in_page-requires : goal.in_page-requires
-in_page-requires c = rw c.laid_page.ensures (page-good _ _ _ _ c.leaf_for-leaf.ensures (marked (goal.at.in_page-requires c).Then-judged-own-ne0)).rise
+in_page-requires c =
+    let came = c.in-Some.ensures c.requires.0 c.requires.1.named in
+    rw c.laid_page.ensures (leaf-page _ _ _ (marked-sound c.args.key c.requires.1 came c.if-judged-own-ne0.true)).rise
 
-pub returns-then-judged-own-ne0-clause-value : goal.returns-then-judged-own-ne0-clause-value
-returns-then-judged-own-ne0-clause-value c =
-    let a = c.args in
-    ap Ok c.in_page.ensures ∙ sound-presence a.index.now.image.now a.index.now.root a.key (marked (goal.at.returns-then-judged-own-ne0-clause-value c).Then-judged-own-ne0) _ (c.laid_page.ensures ∙ ap (λ (p : Place). page_of a.index.now.image.now p.page) c.leaf_for-leaf.ensures)
+pub returns-then-judged-own-ne0 : goal.returns-then-judged-own-ne0
+returns-then-judged-own-ne0 c =
+    let came = c.in-Some.ensures c.requires.0 c.requires.1.named in
+    looked-marked c.args.key c.in-Some.ensures (marked-sound c.args.key c.requires.1 came c.if-judged-own-ne0.true) _ c.laid_page.ensures _ c.in_page.ensures
 
-pub leaf_sound-requires : goal.leaf_sound-requires
-leaf_sound-requires c = fits (goal.at.leaf_sound-requires c).After-leaf_for-leaf
+pub leaf_ok-requires : goal.leaf_ok-requires
+leaf_ok-requires c = came-fits c.args.index.now.is_opened (c.in-Some.ensures c.requires.0 c.requires.1.named)
 
-pub returns-then-not-leaf_sound-clause-value : goal.returns-then-not-leaf_sound-clause-value
-returns-then-not-leaf_sound-clause-value c =
-    let a = c.args in
-    ap Err c.of.ensures ∙ unsound-presence a.index.now.image.now a.index.now.root a.key (ap (leaf_sound a.index.now.image.now a.index.now.root) (sym c.leaf_for-leaf.ensures) ∙ sym c.leaf_sound.ensures ∙ not-true _ c.if-not-leaf_sound.true-raw)
+-- what the test of the leaf says
+pub returns-then-not-leaf_ok : goal.returns-then-not-leaf_ok
+returns-then-not-leaf_ok c =
+    let leaf = c.in-Some.leaf in
+    looked-bad c.args.key c.in-Some.ensures (sym (leaf-test c.args.index.now.image.now leaf.only leaf.place) ∙ sym c.leaf_ok.ensures ∙ not-true _ c.if-not-leaf_ok.true-raw) _ c.of-then-not-leaf_ok.ensures
 
 pub bounds-judged-own-2 : goal.bounds-judged-own-2
-bounds-judged-own-2 c = few (goal.at.bounds-judged-own-2 c).After-leaf_for-leaf
-
-judged : (c : Else-not-leaf_sound) →
-    let a = c.args in
-    leaf_sound a.index.now.image.now a.index.now.root (leaf_for a.index.now.image.now a.index.now.root a.key) ≡ true
-judged c =
-    let a = c.args in
-    ap (leaf_sound a.index.now.image.now a.index.now.root) (sym c.leaf_for-leaf.ensures) ∙ sym c.leaf_sound.ensures ∙ not-false _ c.if-not-leaf_sound.false-raw
+bounds-judged-own-2 c = omega (arith, came-few c.args.index.now.is_opened (c.in-Some.ensures c.requires.0 c.requires.1.named), c.requires.1.enough)
 
 pub laid_page-requires-2 : goal.laid_page-requires-2
 laid_page-requires-2 c =
-    (fits (goal.at.laid_page-requires-2 c).After-leaf_for-leaf, (page-good _ _ _ _ c.leaf_for-leaf.ensures (judged (goal.at.laid_page-requires-2 c).Else-not-leaf_sound)).laid)
+    let leaf = c.in-Some.leaf in
+    let good = sym (leaf-test c.args.index.now.image.now leaf.only leaf.place) ∙ sym c.leaf_ok.ensures ∙ not-false _ c.if-not-leaf_ok.false-raw in
+    (came-fits c.args.index.now.is_opened (c.in-Some.ensures c.requires.0 c.requires.1.named), (leaf-page _ _ _ good).laid)
 
 pub in_page-requires-2 : goal.in_page-requires-2
-in_page-requires-2 c = rw c.laid_page-2.ensures (page-good _ _ _ _ c.leaf_for-leaf.ensures (judged (goal.at.in_page-requires-2 c).Else-not-leaf_sound)).rise
+in_page-requires-2 c =
+    let leaf = c.in-Some.leaf in
+    let good = sym (leaf-test c.args.index.now.image.now leaf.only leaf.place) ∙ sym c.leaf_ok.ensures ∙ not-false _ c.if-not-leaf_ok.false-raw in
+    rw c.laid_page-2.ensures (leaf-page _ _ _ good).rise
 
 pub returns : goal.returns
 returns c =
-    let a = c.args in
-    record {
-      value = ap Ok c.in_page-2.ensures ∙ sound-presence a.index.now.image.now a.index.now.root a.key (judged (goal.at.returns c).Else-not-leaf_sound) _ (c.laid_page-2.ensures ∙ ap (λ (p : Place). page_of a.index.now.image.now p.page) c.leaf_for-leaf.ensures);
-      marks = subst (λ (p : Place). Marks a.index.now.image.now a.index.now.root (set a.judged.now p.page 1)) (sym c.leaf_for-leaf.ensures)
-          (marks-set a.index.now.image.now a.index.now.root (call-opened _ _ c.args.index.now.is_opened).index a.judged.now c.requires a.key (judged (goal.at.returns c).Else-not-leaf_sound));
-    }
+    let leaf = c.in-Some.leaf in
+    let good = sym (leaf-test c.args.index.now.image.now leaf.only leaf.place) ∙ sym c.leaf_ok.ensures ∙ not-false _ c.if-not-leaf_ok.false-raw in
+    looked-judged c.args.key c.in-Some.ensures good _ c.laid_page-2.ensures _ c.in_page-2.ensures

@@ -1,18 +1,11 @@
 -- `is_there`: as the last edit that is noted for the key leaves it, else as the image has it.
 -- Assumes nothing.
-use mathlib.Core.Path.{sym, ◌∙◌}
-use borrow.Author.Tests.{ne_eqb}
-use Rattle.preview.specs.Noted.{there_by}
+use borrow.Author.Tests.{eq-eqb, ne_eqb}
+use Rattle.preview.proofs.Judging.{looked-noted}
 use Rattle.preview.proofs.keys.is_there.Goals as goal
 
-pub returns-in-None-clause-value : goal.returns-in-None-clause-value
-unfolding there_by
-returns-in-None-clause-value c = c.in_leaf.ensures.value ∙ rw (sym c.in-None.ensures)
+pub returns-in-Some-eq3 : goal.returns-in-Some-eq3
+returns-in-Some-eq3 c = looked-noted c.args.key _ _ c.in-Some-eq3.ensures _ (rw (eq-eqb _ 3 c.in-Some-eq3.field-0-test))
 
-pub returns-in-Some-eq3-clause-value : goal.returns-in-Some-eq3-clause-value
-unfolding there_by
-returns-in-Some-eq3-clause-value c = rw (sym c.in-Some-eq3.ensures, c.in-Some-eq3.field-0-test)
-
-pub returns-in-Some-clause-value : goal.returns-in-Some-clause-value
-unfolding there_by
-returns-in-Some-clause-value c = rw (sym c.in-Some.ensures, ne_eqb _ 3 c.in-Some.field-0-test.1)
+pub returns-in-Some : goal.returns-in-Some
+returns-in-Some c = looked-noted c.args.key _ _ c.in-Some.ensures _ (rw (ne_eqb _ 3 c.in-Some.field-0-test.1))

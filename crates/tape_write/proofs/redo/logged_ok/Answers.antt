@@ -6,7 +6,8 @@ use mathlib.Core.List.{map}
 use native.Mathlib.Omega.{arith}
 use lib.ListN.{length}
 use Rattle.page.specs.Layout.{page_size}
-use Rattle.image.proofs.CodeMarks.{claims, claims-on, claims-past, claims-twice, claims-none}
+use Rattle.image.specs.Marks.{claims}
+use Rattle.image.proofs.CodeMarks.{claims-on, claims-past, claims-twice, claims-none}
 use Rattle.journal.specs.Log.{own_page}
 use Rattle.journal.specs.Recovery.{lines_from, logged, logged_ok}
 use Rattle.tape_write.proofs.Encoding.{start-at}

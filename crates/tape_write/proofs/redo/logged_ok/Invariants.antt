@@ -3,7 +3,7 @@
 use Prim.Native.Nat.{◌+◌, ◌-◌}
 use mathlib.Core.Path.{◌≡◌}
 use mathlib.Core.List.{map}
-use Rattle.image.proofs.CodeMarks.{claims}
+use Rattle.image.specs.Marks.{claims}
 use Rattle.journal.specs.Log.{own_page}
 use Rattle.journal.specs.Recovery.{lines_from, logged, logged_ok}
 use Rattle.tape_write.proofs.redo.logged_ok.Given as goal

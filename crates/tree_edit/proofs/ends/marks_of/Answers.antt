@@ -1,46 +1,55 @@
--- `marks_of`: the marks made, with those that are left, are those of the reached pages.
+-- `marks_of`: the marks, with those under the index pages that are left, are those of all reached pages.
 -- Assumes nothing.
-use Prim.Native.Nat.{ℕ, ◌<◌}
+use Prim.Native.Nat.{◌<◌}
+use mathlib.Core.Path.{◌∙◌}
 use native.Mathlib.Omega.{arith}
-use lib.ListN.{length, replicate, length-set, length-replicate}
+use lib.ListN.{length}
 use Rattle.page.specs.Page.{records}
-use Rattle.tree_edit.proofs.Marked.{root-low, mark-root, child-two, child-low, mark-child, mark-all, zeros-most, ones-set}
+use Rattle.tree_edit.proofs.Places.{names-read}
+use Rattle.tree_edit.proofs.Marked.{marks-all, marks-most, one-small, one-marked, root-low, top-first, index-two, index-names, index-small, top-next, top-last}
 use Rattle.tree_edit.proofs.ends.marks_of.Goals as goal
 use Rattle.tree_edit.proofs.ends.marks_of.Goals.{In-loop-i}
 
+pub height_of-requires : goal.height_of-requires
+height_of-requires c = c.requires.top.fits
+
 pub laid_page-page-requires : goal.laid_page-page-requires
-laid_page-page-requires c = (c.requires.fits, c.requires.laid)
+laid_page-page-requires c = names-read c.requires.top
+
+pub mark_page-requires : goal.mark_page-requires
+mark_page-requires c = (c.requires.top, one-small _ _ c.requires _ c.height_of.ensures c.if-height_of-eq1.true)
+
+pub returns-then-height_of-eq1 : goal.returns-then-height_of-eq1
+returns-then-height_of-eq1 c =
+    let all = one-marked _ _ c.requires _ c.height_of.ensures c.if-height_of-eq1.true _ c.mark_page.ensures in
+    record { marks = marks-all _ c.requires.small _ all; by_index = marks-most _ c.requires.small _ all }
 
 pub bounds-marks-root : goal.bounds-marks-root
-bounds-marks-root c = root-low _ _ c.requires _ c.laid_page-page.ensures
+bounds-marks-root c = root-low _ _ c.requires _ c.height_of.ensures c.if-height_of-eq1.false _ c.laid_page-page.ensures
 
 pub loop-i-init : goal.loop-i-init
-loop-i-init c =
-    record { long = simp length-set (length-replicate {A = ℕ} 64 0); left = mark-root _ _ c.requires _ c.laid_page-page.ensures; most = ones-set (replicate 64 0) c.args.root (λ p. omega (arith, zeros-most 64 p)) }
+loop-i-init c = top-first _ _ c.requires _ c.height_of.ensures c.if-height_of-eq1.false _ c.laid_page-page.ensures
 
 -- a record more is left
 left : (c : In-loop-i) → c.loop-i.i < length (records c.laid_page-page.result.bytes.now)
 left c = omega (arith, c.count-i-end.ensures, c.loop-i-test.true)
 
-pub child_at-leaf-requires : goal.child_at-leaf-requires
-child_at-leaf-requires c =
-    let h = left (goal.at.child_at-leaf-requires c).In-loop-i in
-    (h, child-two _ _ c.requires _ c.laid_page-page.ensures _ h)
+pub child_at-requires : goal.child_at-requires
+child_at-requires c =
+    let h = left (goal.at.child_at-requires c).In-loop-i in
+    (h, index-two _ _ c.requires _ c.height_of.ensures c.if-height_of-eq1.false _ c.laid_page-page.ensures _ h)
 
-pub bounds-marks-leaf : goal.bounds-marks-leaf
-bounds-marks-leaf c =
-    child-low _ _ c.requires _ c.laid_page-page.ensures _ (left (goal.at.bounds-marks-leaf c).In-loop-i) _ c.child_at-leaf.ensures
+pub mark_page-requires-in-loop-i : goal.mark_page-requires-in-loop-i
+mark_page-requires-in-loop-i c =
+    let h = left (goal.at.mark_page-requires-in-loop-i c).In-loop-i in
+    (index-names _ _ c.requires _ c.height_of.ensures c.if-height_of-eq1.false _ c.laid_page-page.ensures _ h _ c.child_at.ensures, index-small _ _ c.requires _ c.height_of.ensures c.if-height_of-eq1.false _ c.laid_page-page.ensures _ h _ c.child_at.ensures)
 
 pub loop-i-preserved : goal.loop-i-preserved
 loop-i-preserved c =
-    let l = c.loop-i in
-    record {
-      long = simp length-set l.invariant.long;
-      left = mark-child _ _ c.requires _ c.laid_page-page.ensures l.i (left (goal.at.loop-i-preserved c).In-loop-i) l.marks l.invariant.long _ c.child_at-leaf.ensures l.invariant.left;
-      most = ones-set l.marks c.child_at-leaf.result l.invariant.most;
-    }
+    top-next _ _ c.requires _ c.height_of.ensures c.if-height_of-eq1.false _ c.laid_page-page.ensures _ (left (goal.at.loop-i-preserved c).In-loop-i) _ c.child_at.ensures _ _ c.mark_page-in-loop-i.ensures ∙ c.loop-i.invariant
 
 pub returns : goal.returns
 returns c =
     let l = c.loop-i in
-    record { marks = mark-all _ _ c.requires _ c.laid_page-page.ensures l.marks l.i (omega (arith, c.count-i-end.ensures, c.loop-i-test.false)) l.invariant.left; by_index = (l.invariant.most, l.invariant.long) }
+    let all = top-last _ _ c.requires _ c.height_of.ensures c.if-height_of-eq1.false _ c.laid_page-page.ensures l.marks l.i (omega (arith, c.count-i-end.ensures, c.loop-i-test.false)) l.invariant in
+    record { marks = marks-all _ c.requires.small _ all; by_index = marks-most _ c.requires.small _ all }

@@ -12,7 +12,7 @@ use Rattle.tree_edit.proofs.turns.put_entry.Goals as goal
 
 pub put_record-requires : goal.put_record-requires
 put_record-requires c =
-    (entry-takes _ _ c.put_number.ensures c.requires.0, c.requires.1)
+    (entry-takes _ _ c.entry_value-value.ensures c.requires.0, c.requires.1)
 
 pub returns : goal.returns
-returns c = let a = c.args in turns_same c.put_record.ensures _ (ap (λ (r : Rec). put format1 no_keep a.kind false a.new.ins a.new.at r a.page (state_of a.before.now a.work.now a.t)) (entry-is _ _ c.put_number.ensures a.new.key))
+returns c = let a = c.args in turns_same c.put_record.ensures _ (ap (λ (r : Rec). put format1 no_keep a.kind false a.new.ins a.new.at r a.page (state_of a.before.now a.work.now a.t)) (entry-is _ _ c.entry_value-value.ensures a.new.key))

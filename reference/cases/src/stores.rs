@@ -35,13 +35,18 @@ pub fn any_built(random: &mut Random) -> Built {
         3 => return tall(random),
         _ => few_leaves(random),
     };
-    if random.one_in(2) {
-        fill_up_above(random, &mut built);
-    }
-    if random.one_in(2) {
-        fill_up_leaves(random, &mut built);
-    }
+    fill_up_some(random, &mut built);
     built
+}
+
+/// Half of the stores have full pages above the leaves, half full leaves.
+fn fill_up_some(random: &mut Random, built: &mut Built) {
+    if random.one_in(2) {
+        fill_up_above(random, built);
+    }
+    if random.one_in(2) {
+        fill_up_leaves(random, built);
+    }
 }
 
 /// Under a top in one of three.
@@ -129,12 +134,7 @@ pub fn tall(random: &mut Random) -> Built {
         }
         _ => few_under_a_top(random),
     };
-    if random.one_in(2) {
-        fill_up_above(random, &mut built);
-    }
-    if random.one_in(2) {
-        fill_up_leaves(random, &mut built);
-    }
+    fill_up_some(random, &mut built);
     built
 }
 
